@@ -9,7 +9,7 @@ use Rattle.ts_model.specs.declared.outcomes.Refusal.{Refusal}
 use Rattle.ts_model.specs.declared.refreshes.Pending.{Pending}
 use Rattle.ts_model.specs.declared.refreshes.Pending.TheVariants.{Waiting, Finished, Unknown}
 use Rattle.ts_model.specs.Allowed.{allowed}
-use Rattle.ts_model.specs.Calls.{Act, committed, finish_of, makes, making, new_relation, numbered, refusal, refuses, returns}
+use Rattle.ts_model.specs.Calls.{Act, commit_result, finish_of, makes, act_of_event, new_relation, act_with_number, refusal, refuses, returns}
 use Rattle.ts_model.specs.Numbers.{no_number, name_taken, too_many, history_full}
 use Rattle.ts_model.specs.History.{History, position}
 use Rattle.ts_model.specs.Limits.{most_relations}
@@ -20,9 +20,9 @@ use Rattle.event_check.specs.Checks.{call_refusal, event_refusal, refusal_in}
 use Rattle.engine_core.specs.Acts.{making_event, unless, with_answer}
 use Rattle.engine_core.specs.Effects.{effect_of}
 use Rattle.engine_core.proofs.ActLaws.{free_where_allowed, room_where_free}
-use Rattle.past_sessions.specs.Pasts.{CameTo}
-use Rattle.past_sessions.specs.declared.pasts.Came.{Came}
-use Rattle.past_sessions.specs.declared.pasts.Came.TheVariants.{Made, Returned, Refused, Otherwise}
+use Rattle.audit_past.specs.Pasts.{CameTo}
+use Rattle.audit_past.specs.declared.history_view.PastOutcome.{PastOutcome}
+use Rattle.audit_past.specs.declared.history_view.PastOutcome.TheVariants.{Made, Returned, Refused, Otherwise}
 use Rattle.audit.specs.Calls.{came_as, numbered_only}
 
 -- ---- refusals have numbers
@@ -32,18 +32,18 @@ abbrev HasNumber : Option Refusal → Type 0
 HasNumber None = Unit {0}
 HasNumber (Some r) = r.code ≡ 0 → ⊥
 
-room_numbered : {A : Type 0} (h : History) (e : Event) (x : A) → HasNumber (refusal_in (making h e x))
+room_numbered : {A : Type 0} (h : History) (e : Event) (x : A) → HasNumber (refusal_in (act_of_event h e x))
 room_numbered h e x = elim (has_room h) as (λ t. HasNumber (refusal_in (cond t (makes e x) (refuses (refusal history_full h 0))))) [ true ↦ tt | false ↦ λ z. absurd (omega arith) ]
 
 relation_numbered : (h : History) (taken : Bool) (many : ℕ) (e : Event) → HasNumber (refusal_in (new_relation h taken many e))
 relation_numbered h true many e = λ z. absurd (omega arith)
 relation_numbered h false many e =
-    elim (nat_lt many most_relations) as (λ t. HasNumber (refusal_in (cond t (numbered h e) (refuses (refusal too_many h (suc most_relations)))))) [
+    elim (nat_lt many most_relations) as (λ t. HasNumber (refusal_in (cond t (act_with_number h e) (refuses (refusal too_many h (suc most_relations)))))) [
       | true ↦ room_numbered h e (suc (position h))
       | false ↦ λ z. absurd (omega arith)
     ]
 
-hyper_numbered : {X : Type 0} (h : History) (o : Option X) (e : Event) → HasNumber (refusal_in (cond (is_some o) (refuses (refusal name_taken h 0)) (numbered h e)))
+hyper_numbered : {X : Type 0} (h : History) (o : Option X) (e : Event) → HasNumber (refusal_in (cond (is_some o) (refuses (refusal name_taken h 0)) (act_with_number h e)))
 hyper_numbered h None e = room_numbered h e (suc (position h))
 hyper_numbered h (Some x) e = λ z. absurd (omega arith)
 
@@ -57,7 +57,7 @@ call_numbered h (Table def) = relation_numbered h (is_taken (roster h) def.name)
 call_numbered h (Hyper t hyper) = hyper_numbered h (hyper_of (roster h) t) (Hyper t hyper)
 call_numbered h (View def) = relation_numbered h (is_taken (roster h) def.name) (length (roster h).views) (View def)
 call_numbered h (Mode v only) = room_numbered h (Mode v only) (suc (position h))
-call_numbered h (Commit ops) = room_numbered h (Commit ops) (committed ops h)
+call_numbered h (Commit ops) = room_numbered h (Commit ops) (commit_result ops h)
 call_numbered h (Cut v span) = room_numbered h (Cut v span) (suc (position h))
 call_numbered h (Built cut snap) = finish_numbered h cut snap (pending h cut)
 
@@ -77,7 +77,7 @@ only_calls h e =
 
 act_free : (h : History) (e : Event) → call_refusal h e ≡ None → making_event e h ≡ makes e (effect_of h e)
 act_free h e free =
-    ap (λ o. unless o (making h e (effect_of h e))) free
+    ap (λ o. unless o (act_of_event h e (effect_of h e))) free
     ∙ cond-true (has_room h) (makes e (effect_of h e)) (refuses (refusal history_full h 0)) (room_where_free h e free)
 
 pub came_made : (h : History) (e : Event) (next : Option Event) (b : Committed) → call_refusal h e ≡ None → next ≡ Some e → b ≡ effect_of h e → CameTo (making_event e h) next (Made b)
@@ -87,11 +87,11 @@ pub came_otherwise : (h : History) (e : Event) (next : Option Event) → call_re
 came_otherwise h e next free other = subst (λ act. CameTo act next Otherwise) (sym (act_free h e free)) other
 
 pub came_refused : (h : History) (e : Event) (next : Option Event) (r : Refusal) → call_refusal h e ≡ Some r → CameTo (making_event e h) next (Refused r)
-came_refused h e next r is = subst (λ act. CameTo act next (Refused r)) (sym (ap (λ o. unless o (making h e (effect_of h e))) is)) refl
+came_refused h e next r is = subst (λ act. CameTo act next (Refused r)) (sym (ap (λ o. unless o (act_of_event h e (effect_of h e))) is)) refl
 
 -- ---- with something else returned
 
-pub came_with : {A B : Type 0} (f : A → B) (act : Act A) (next : Option Event) (came : Came A) → CameTo act next came → CameTo (with_answer f act) next (came_as f came)
+pub came_with : {A B : Type 0} (f : A → B) (act : Act A) (next : Option Event) (came : PastOutcome A) → CameTo act next came → CameTo (with_answer f act) next (came_as f came)
 came_with f (refuses r) next came is = ap (came_as f) is
 came_with f (returns a) next came is = ap (came_as f) is
 came_with f (makes e a) next (Made b) is = (is.0, ap f is.1)
@@ -100,6 +100,6 @@ came_with f (makes e a) next (Refused r) is = absurd is
 came_with f (makes e a) next Otherwise is = is
 
 -- a call whose act is that of an event, with something else returned
-pub came_to : {A B : Type 0} (f : A → B) (act : Act A) (whole : Act B) (next : Option Event) (came : Came A) (result : Came B) → whole ≡ with_answer f act → result ≡ came_as f came → CameTo act next came → CameTo whole next result
+pub came_to : {A B : Type 0} (f : A → B) (act : Act A) (whole : Act B) (next : Option Event) (came : PastOutcome A) (result : PastOutcome B) → whole ≡ with_answer f act → result ≡ came_as f came → CameTo act next came → CameTo whole next result
 came_to f act whole next came result act_is is c =
     subst (λ r. CameTo whole next r) (sym is) (subst (λ a. CameTo a next (came_as f came)) (sym act_is) (came_with f act next came c))

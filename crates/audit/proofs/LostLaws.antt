@@ -14,7 +14,7 @@ use Rattle.std.proofs.lemmas.List.Sorted.{All-permutation, ranks_by, sorted_far,
 use Rattle.turn_lock.specs.Positions.{positions_between, times}
 use Rattle.turn_lock.proofs.Numbers.{positions_meet, positions_one, times-cons, times_between}
 use Rattle.audit.specs.Answers.{IsLost}
-use Rattle.audit.specs.Retold.{LieBetween}
+use Rattle.audit.specs.ReplayedReplies.{LieBetween}
 
 -- a number below all of a list isn't in it
 times_below : (q : ℕ) (ys : List ℕ) → ((k : ℕ) → k < length ys → q < get_or ys k 0) → times q ys ≡ 0

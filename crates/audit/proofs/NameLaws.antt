@@ -7,10 +7,10 @@ use Rattle.std.proofs.lemmas.Bool.Decides.{nat_tests}
 use Rattle.ts_schema.specs.Names.{is_head, is_name, is_tail}
 use Rattle.stmt_syntax.specs.Limits.{longest_line}
 use Rattle.stmt_tokens.specs.Lines.{begins_session, continues_session, line_kind}
-use Rattle.reply_looks.specs.Replies.{is_line_end}
+use Rattle.audit_looks.specs.Replies.{is_line_end}
 use Rattle.transcript.specs.Shape.{is_line_of, is_one_line, is_session_name, is_sound_talk, speaks_in}
 use Rattle.transcript.specs.declared.transcripts.Exchange.{Exchange}
-use Rattle.transcript.specs.declared.transcripts.Talk.{Talk}
+use Rattle.transcript.specs.declared.transcripts.SessionTranscript.{SessionTranscript}
 use Rattle.audit.specs.Short.{AreShort, AreShortTalks}
 
 -- ---- names
@@ -57,10 +57,10 @@ session_is_named (b ∷ bs) e =
     λ i. (short i && begins_head b front.0 i) && go_on_tails bs front.1 i
 session_is_named [] e = e
 
-pub talk_is_named : (talk : Talk) → is_sound_talk talk ≡ true → is_name talk.name ≡ true
+pub talk_is_named : (talk : SessionTranscript) → is_sound_talk talk ≡ true → is_name talk.name ≡ true
 talk_is_named talk e = session_is_named talk.name (and_parts (is_session_name talk.name) (list_all (λ f. is_line_of talk.name f.line) talk.replies) e).0
 
-pub names_of_one_line : (talk : Talk) → is_sound_talk talk ≡ true → list_any is_line_end talk.name ≡ false
+pub names_of_one_line : (talk : SessionTranscript) → is_sound_talk talk ≡ true → list_any is_line_end talk.name ≡ false
 names_of_one_line talk e = name_of_one_line talk.name (talk_is_named talk e)
 
 -- ---- lines
@@ -74,10 +74,10 @@ short_lines name (f ∷ es) e zero d within =
 short_lines name (f ∷ es) e (suc k) d within =
     short_lines name es (and_parts (is_line_of name f.line) (list_all (λ f. is_line_of name f.line) es) e).1 k d (omega arith)
 
-pub talk_is_short : (talk : Talk) → is_sound_talk talk ≡ true → AreShort talk.replies
+pub talk_is_short : (talk : SessionTranscript) → is_sound_talk talk ≡ true → AreShort talk.replies
 talk_is_short talk e = short_lines talk.name talk.replies (and_parts (is_session_name talk.name) (list_all (λ f. is_line_of talk.name f.line) talk.replies) e).1
 
-pub talks_are_short : (talks : List Talk) → list_all is_sound_talk talks ≡ true → AreShortTalks talks
+pub talks_are_short : (talks : List SessionTranscript) → list_all is_sound_talk talks ≡ true → AreShortTalks talks
 talks_are_short [] e k d within = absurd (omega arith)
 talks_are_short (talk ∷ talks) e zero d within = talk_is_short talk (and_parts (is_sound_talk talk) (list_all is_sound_talk talks) e).0
 talks_are_short (talk ∷ talks) e (suc k) d within = talks_are_short talks (and_parts (is_sound_talk talk) (list_all is_sound_talk talks) e).1 k d (omega arith)

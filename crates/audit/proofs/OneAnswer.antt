@@ -16,7 +16,7 @@ use Rattle.transcript.specs.Laws.{ReadsAsOne}
 use Rattle.transcript.specs.Reading.{IsReading}
 use Rattle.transcript.specs.Shape.{is_sound, is_sound_talk}
 use Rattle.transcript.specs.declared.transcripts.Exchange.{Exchange}
-use Rattle.transcript.specs.declared.transcripts.Talk.{Talk}
+use Rattle.transcript.specs.declared.transcripts.SessionTranscript.{SessionTranscript}
 use Rattle.transcript.specs.declared.transcripts.Transcript.{Transcript}
 use Rattle.audit.specs.Answers.{Answers, FirstUnexplained, HasExplanation, HasLost, IsLost, Judges, ReadsAs, reply_count}
 use Rattle.audit.specs.Explained.{AreExplained, Came, Explained, IsExplained, IsWithin, named_by, named_by_all}
@@ -54,17 +54,17 @@ fewer_of all start name es m n le h = subst (λ xs. HasExplanation all start nam
 
 -- ---- the first that isn't explained
 
-all_explained : (all : History) (start : ℕ) (talks : List Talk) (i j : ℕ) (answers : List (List Came)) → FirstUnexplained all start talks i j → AreExplained all start talks answers → ⊥
+all_explained : (all : History) (start : ℕ) (talks : List SessionTranscript) (i j : ℕ) (answers : List (List Came)) → FirstUnexplained all start talks i j → AreExplained all start talks answers → ⊥
 all_explained all start [] i j answers f x = f
 all_explained all start (talk ∷ talks) i j [] f x = x
 all_explained all start (talk ∷ talks) zero j (a ∷ answers) f x = f.1 (fewer all start talk.name talk.replies (suc j) (record { answers = a; explained = x.0 }))
 all_explained all start (talk ∷ talks) (suc i) j (a ∷ answers) f x = all_explained all start talks i j answers f.1 x.1
 
-same_stop : (all : History) (start : ℕ) (talk : Talk) (j k : ℕ) → HasExplanation all start talk.name (take j talk.replies) → (HasExplanation all start talk.name (take (suc k) talk.replies) → ⊥) → j ≤ k
+same_stop : (all : History) (start : ℕ) (talk : SessionTranscript) (j k : ℕ) → HasExplanation all start talk.name (take j talk.replies) → (HasExplanation all start talk.name (take (suc k) talk.replies) → ⊥) → j ≤ k
 same_stop all start talk j k before fails =
     not_below k j (λ less. fails (fewer_of all start talk.name talk.replies (suc k) j (omega arith) before))
 
-first_once : (all : History) (start : ℕ) (talks : List Talk) (i j k l : ℕ) → FirstUnexplained all start talks i j → FirstUnexplained all start talks k l → (i ≡ k) × (j ≡ l)
+first_once : (all : History) (start : ℕ) (talks : List SessionTranscript) (i j k l : ℕ) → FirstUnexplained all start talks i j → FirstUnexplained all start talks k l → (i ≡ k) × (j ≡ l)
 first_once all start [] i j k l f g = absurd f
 first_once all start (talk ∷ talks) zero j zero l f g =
     let le = same_stop all start talk j l f.0 g.1 in
@@ -95,7 +95,7 @@ names_once all name tells at p (e ∷ es) cs bs low x y =
     ∙ (λ i. made_in ((sym same.said) i) ++ rest i)
     ∙ sym (ap named_by v.is)
 
-all_names_once : (laws : Laws) (all : History) → all_allowed all ≡ true → (start : ℕ) → base_position all ≤ start → (talks : List Talk) (cs bs : List (List Came)) → IsTrue (list_all is_sound_talk talks) → AreExplained all start talks cs → AreExplained all start talks bs → named_by_all cs ≡ named_by_all bs
+all_names_once : (laws : Laws) (all : History) → all_allowed all ≡ true → (start : ℕ) → base_position all ≤ start → (talks : List SessionTranscript) (cs bs : List (List Came)) → IsTrue (list_all is_sound_talk talks) → AreExplained all start talks cs → AreExplained all start talks bs → named_by_all cs ≡ named_by_all bs
 all_names_once laws all allowed start low [] [] [] sound x y = refl
 all_names_once laws all allowed start low [] [] (b ∷ bs) sound x y = absurd y
 all_names_once laws all allowed start low [] (a ∷ cs) bs sound x y = absurd x

@@ -3,7 +3,7 @@ use Rattle.std.proofs.Common.{◌≡◌, ◌<◌, ℕ, zero, suc, ◌+◌, Bool,
 use Rattle.std.specs.Prelude.{nat_lt, not, position}
 use Rattle.std.specs.List.{position_or_len}
 use Rattle.std.proofs.lemmas.Bool.{cond-false, cond-true, le-ltb, lt-ltb}
-use Rattle.transcript.specs.declared.transcripts.Talk.{Talk}
+use Rattle.transcript.specs.declared.transcripts.SessionTranscript.{SessionTranscript}
 use Rattle.audit.specs.Lines.{first_policy, found_first, policy_among}
 
 -- ---- in one list
@@ -35,14 +35,14 @@ module _ {X : Type 0} (p : X → Bool) where
 
 -- ---- in all sessions
 
-pub policy_found : (talks : List Talk) (i : ℕ) (talk : Talk) (j : ℕ) → ((k : ℕ) (d : Talk) → k < i → policy_among (get_or talks k d).replies ≡ None) → i < length talks → talk ≡ get_or talks i talk → policy_among talk.replies ≡ Some j → first_policy talks ≡ Some (record { session = i; reply = j })
+pub policy_found : (talks : List SessionTranscript) (i : ℕ) (talk : SessionTranscript) (j : ℕ) → ((k : ℕ) (d : SessionTranscript) → k < i → policy_among (get_or talks k d).replies ≡ None) → i < length talks → talk ≡ get_or talks i talk → policy_among talk.replies ≡ Some j → first_policy talks ≡ Some (record { session = i; reply = j })
 policy_found [] i talk j none within at here = absurd (omega arith)
 policy_found (t ∷ talks) zero talk j none within at here = ap (λ o. found_first o (first_policy talks)) (ap (λ z. policy_among z.replies) (sym at) ∙ here)
 policy_found (t ∷ talks) (suc i) talk j none within at here =
     ap (λ o. found_first o (first_policy talks)) (none 0 t (omega arith))
     ∙ ap (found_first None) (policy_found talks i talk j (λ k d l. none (suc k) d (omega arith)) (omega arith) at here)
 
-pub policy_nowhere : (talks : List Talk) → ((k : ℕ) (d : Talk) → k < length talks → policy_among (get_or talks k d).replies ≡ None) → first_policy talks ≡ None
+pub policy_nowhere : (talks : List SessionTranscript) → ((k : ℕ) (d : SessionTranscript) → k < length talks → policy_among (get_or talks k d).replies ≡ None) → first_policy talks ≡ None
 policy_nowhere [] none = refl
 policy_nowhere (t ∷ talks) none =
     ap (λ o. found_first o (first_policy talks)) (none 0 t (omega arith))

@@ -12,15 +12,15 @@ use Rattle.ts_model.specs.Limits.{last_position}
 use Rattle.turn_lock.specs.Positions.{positions_after, positions_between}
 use Rattle.ts_sessions.specs.Made.{made_in}
 use Rattle.ts_sessions.specs.Script.{text_of}
-use Rattle.reply_looks.specs.Replies.{is_line_end, numbers_in}
-use Rattle.reply_looks.proofs.ByteLaws.{all_parts}
-use Rattle.reply_looks.proofs.TextLaws.{texts_name}
+use Rattle.audit_looks.specs.Replies.{is_line_end, numbers_in}
+use Rattle.audit_looks.proofs.ByteLaws.{all_parts}
+use Rattle.audit_looks.proofs.TextLaws.{texts_name}
 use Rattle.engine_core.proofs.TimelineLaws.{allowed_fits}
 use Rattle.transcript.specs.Laws.{ReadsAsOne}
 use Rattle.transcript.specs.Reading.{IsReading}
 use Rattle.transcript.specs.Shape.{is_sound, is_sound_talk}
 use Rattle.transcript.specs.declared.transcripts.Exchange.{Exchange}
-use Rattle.transcript.specs.declared.transcripts.Talk.{Talk}
+use Rattle.transcript.specs.declared.transcripts.SessionTranscript.{SessionTranscript}
 use Rattle.transcript.specs.declared.transcripts.Transcript.{Transcript}
 use Rattle.audit.specs.Answers.{Answers, Judges, MayBeJudged, ReadsAs}
 use Rattle.audit.specs.Explained.{AreExplained, Came, Explained, named_by, named_by_all, texts_of}
@@ -50,7 +50,7 @@ session_read name one_line (e ∷ es) (a ∷ answers) same fit =
     λ i. here i ++ rest i
 
 -- of all sessions
-all_read : (all : History) (start : ℕ) (talks : List Talk) (answers : List (List Came)) → list_all is_sound_talk talks ≡ true → AreExplained all start talks answers → Fit (named_by_all answers) → flat_map numbers_of talks ≡ named_by_all answers
+all_read : (all : History) (start : ℕ) (talks : List SessionTranscript) (answers : List (List Came)) → list_all is_sound_talk talks ≡ true → AreExplained all start talks answers → Fit (named_by_all answers) → flat_map numbers_of talks ≡ named_by_all answers
 all_read all start [] [] sound x fit = refl
 all_read all start [] (a ∷ answers) sound x fit = absurd x
 all_read all start (talk ∷ talks) [] sound x fit = absurd x

@@ -14,20 +14,20 @@ use Rattle.ts_sessions.specs.Held.{HoldsOf, places_in}
 use Rattle.ts_sessions.specs.Places.{Places, Turn, no_places}
 use Rattle.ts_sessions.specs.Replies.{reply_to}
 use Rattle.ts_sessions.specs.Script.{SessionLine}
-use Rattle.past_sessions.specs.Telling.{IsToldLine, state_of}
-use Rattle.past_sessions.specs.Told.{Told, Tells}
+use Rattle.audit_past.specs.ReplaySteps.{IsToldLine, state_of}
+use Rattle.audit_past.specs.Replay.{Told, Tells}
 use Rattle.ts_sessions.specs.declared.sessions.Session.{Session}
-use Rattle.past_sessions.specs.declared.lines.ToldLine.{ToldLine}
+use Rattle.audit_past.specs.declared.lines.ReplayedLine.{ReplayedLine}
 use Rattle.ts_sessions.proofs.GivenNames.{replies_named}
 use Rattle.ts_sessions.proofs.GivesLaws.{gives_events}
-use Rattle.past_sessions.proofs.ToldLaws.{told_is_given}
-use Rattle.reply_looks.specs.Replies.{looks_in}
+use Rattle.audit_past.proofs.ReplayLaws.{told_is_given}
+use Rattle.audit_looks.specs.Replies.{looks_in}
 use Rattle.transcript.specs.declared.transcripts.Exchange.{Exchange}
 use Rattle.audit.specs.Lines.{line_of}
 use Rattle.audit.specs.Judged.{IsNamedBy}
-use Rattle.audit.specs.Retold.{Leads, LieBetween, Names, StopsAt}
-use Rattle.audit.specs.Tellers.{GoesBehind, IsAt, RetellsTo}
-use Rattle.audit.specs.declared.sessions.Teller.{Teller}
+use Rattle.audit.specs.ReplayedReplies.{Leads, LieBetween, Names, StopsAt}
+use Rattle.audit.specs.ReplayedSessions.{GoesBehind, IsAt, RetellsTo}
+use Rattle.audit.specs.declared.replayed_session.ReplayedSession.{ReplayedSession}
 use Rattle.audit.proofs.NameLaws.{name_of_one_line}
 use Rattle.audit.proofs.RetoldLaws.{names_led, stops_here}
 use Rattle.audit.proofs.TellerLaws.{otherwise, retold, untold}
@@ -47,7 +47,7 @@ events_lie all at last (x ∷ es) e =
     (omega (arith, up, on), All-cons (λ n. (at < n) × (n ≤ last)) x.0 (numbers es) (up, on) (lie_wider x.0 last at last (numbers es) (omega (arith, up)) (omega arith) rest.1))
 
 -- the numbers that a told line names lie behind where it was told from
-told_lie : (all : History) (at : ℕ) (p : Places) (line : SessionLine) (looks : List ℕ) (name : List ℕ) (q : Places) (told : ToldLine) → base_position all ≤ at → IsToldLine all at (reply_to p line.text line.skip) looks name q told → LieBetween at told.last told.reply.events
+told_lie : (all : History) (at : ℕ) (p : Places) (line : SessionLine) (looks : List ℕ) (name : List ℕ) (q : Places) (told : ReplayedLine) → base_position all ≤ at → IsToldLine all at (reply_to p line.text line.skip) looks name q told → LieBetween at told.last told.reply.events
 told_lie all at p line looks name q told low l =
     let end : Turn Places = record { places = q; said = l.said; reads = l.read } in
     let g = told_is_given all at (reply_to p line.text line.skip) looks (record { last = told.last; given = l.given; end = end }) l.tells in
@@ -57,7 +57,7 @@ told_lie all at p line looks name q told low l =
 
 -- ---- one reply
 
-module _ {T J : Type 0} (all : History) (allowed : all_allowed all ≡ true) (e : Exchange) (old : Teller T J) (named : is_name old.session.name ≡ true) (low : base_position all ≤ old.at) (line : SessionLine) (line_is : line ≡ line_of e) (looks reply : List ℕ) (looks_are : looks ≡ looks_in old.session.name reply) (reply_is : reply ≡ e.reply) where
+module _ {T J : Type 0} (all : History) (allowed : all_allowed all ≡ true) (e : Exchange) (old : ReplayedSession T J) (named : is_name old.session.name ≡ true) (low : base_position all ≤ old.at) (line : SessionLine) (line_is : line ≡ line_of e) (looks reply : List ℕ) (looks_are : looks ≡ looks_in old.session.name reply) (reply_is : reply ≡ e.reply) where
   told_of_line : (r : Option (Told (Turn Places))) → Tells all old.at [] (reply_to (places_in old.session) line.text line.skip) looks r → Tells all old.at [] (reply_to (places_in old.session) (line_of e).text (line_of e).skip) looks r
   told_of_line r t = subst (λ (l : SessionLine). Tells all old.at [] (reply_to (places_in old.session) l.text l.skip) looks r) line_is t
 
@@ -65,15 +65,15 @@ module _ {T J : Type 0} (all : History) (allowed : all_allowed all ≡ true) (e 
   looks_read = looks_are ∙ ap (looks_in old.session.name) reply_is
 
   -- where the line came to nothing
-  pub retells_none : (new : Teller T J) → Tells all old.at [] (reply_to (places_in old.session) line.text line.skip) looks None → RetellsTo all e old false new
+  pub retells_none : (new : ReplayedSession T J) → Tells all old.at [] (reply_to (places_in old.session) line.text line.skip) looks None → RetellsTo all e old false new
   retells_none new t = untold the_laws all allowed old.session.name (name_of_one_line old.session.name named) e old.at (places_in old.session) looks low looks_read (told_of_line None t)
 
   -- and where it came to something
-  module _ (session : Session T J) (told : ToldLine) (l : IsToldLine all old.at (reply_to (places_in old.session) line.text line.skip) looks old.session.name (places_in session) told) where
-    mid : Teller T J
+  module _ (session : Session T J) (told : ReplayedLine) (l : IsToldLine all old.at (reply_to (places_in old.session) line.text line.skip) looks old.session.name (places_in session) told) where
+    mid : ReplayedSession T J
     mid = record { session = session; at = old.at; named = old.named }
 
-    pub retells_some : (t : Bool) (new : Teller T J) → new.session ≡ session → GoesBehind told reply (record { session = session; at = old.at; named = old.named }) t new → RetellsTo all e old t new
+    pub retells_some : (t : Bool) (new : ReplayedSession T J) → new.session ≡ session → GoesBehind told reply (record { session = session; at = old.at; named = old.named }) t new → RetellsTo all e old t new
     retells_some true new same b =
         let tells : Tells all old.at [] (reply_to (places_in old.session) (line_of e).text (line_of e).skip) looks (Some (record { last = new.at; given = l.given; end = record { places = places_in new.session; said = l.said; reads = l.read } })) =
         subst (λ (s : Session T J). Tells all old.at [] (reply_to (places_in old.session) (line_of e).text (line_of e).skip) looks (Some (record { last = new.at; given = l.given; end = record { places = places_in s; said = l.said; reads = l.read } }))) (sym same)
@@ -85,7 +85,7 @@ module _ {T J : Type 0} (all : History) (allowed : all_allowed all ≡ true) (e 
         (λ text. b (l.reply.text ∙ text ∙ sym reply_is))
 
     -- the session goes on behind it
-    pub goes_on : (shown : Shown T J) (start : ℕ) (t : Bool) (new : Teller T J) → IsAt shown all start old.session.name old → new.session ≡ session → session.name ≡ old.session.name → HoldsOf shown session (state_of all) → GoesBehind told reply (record { session = session; at = old.at; named = old.named }) t new → IsTrue t → IsAt shown all start old.session.name new
+    pub goes_on : (shown : Shown T J) (start : ℕ) (t : Bool) (new : ReplayedSession T J) → IsAt shown all start old.session.name old → new.session ≡ session → session.name ≡ old.session.name → HoldsOf shown session (state_of all) → GoesBehind told reply (record { session = session; at = old.at; named = old.named }) t new → IsTrue t → IsAt shown all start old.session.name new
     goes_on shown start false new at same name holds b yes_told = absurd (true≢false (sym yes_told))
     goes_on shown start true new at same name holds b yes_told =
         let here = b.at in
@@ -105,7 +105,7 @@ module _ {T J : Type 0} (all : History) (allowed : all_allowed all ≡ true) (e 
 
 module _ {T J : Type 0} (shown : Shown T J) (all : History) (start : ℕ) (name : List ℕ) where
   -- one more led it on
-  pub leads_next : (exchanges : List Exchange) (i : ℕ) (e : Exchange) (old new : Teller T J) → IsAt shown all start name old → Leads all name start no_places (take i exchanges) old.at (places_in old.session) old.named.items → i < length exchanges → e ≡ get_or exchanges i e → RetellsTo all e old true new → Leads all name start no_places (take (i + 1) exchanges) new.at (places_in new.session) new.named.items
+  pub leads_next : (exchanges : List Exchange) (i : ℕ) (e : Exchange) (old new : ReplayedSession T J) → IsAt shown all start name old → Leads all name start no_places (take i exchanges) old.at (places_in old.session) old.named.items → i < length exchanges → e ≡ get_or exchanges i e → RetellsTo all e old true new → Leads all name start no_places (take (i + 1) exchanges) new.at (places_in new.session) new.named.items
   leads_next exchanges i e old new at l within there r =
       let own : Leads all old.session.name start no_places (take i exchanges) old.at (places_in old.session) old.named.items = subst (λ n. Leads all n start no_places (take i exchanges) old.at (places_in old.session) old.named.items) (sym at.named) l in
       let more : take i exchanges ++ e ∷ [] ≡ take (i + 1) exchanges = sym (take_more exchanges i e within ∙ ap (λ x. take i exchanges ++ x ∷ []) (sym there)) in
@@ -113,19 +113,19 @@ module _ {T J : Type 0} (shown : Shown T J) (all : History) (start : ℕ) (name 
       (subst (λ n. Leads all n start no_places (take i exchanges ++ e ∷ []) new.at (places_in new.session) new.named.items) at.named (r start no_places (take i exchanges) own))
 
   -- and brought it on
-  pub at_next : (old new : Teller T J) → IsAt shown all start name old → (IsAt shown all start old.session.name old → IsAt shown all start old.session.name new) → IsAt shown all start name new
+  pub at_next : (old new : ReplayedSession T J) → IsAt shown all start name old → (IsAt shown all start old.session.name old → IsAt shown all start old.session.name new) → IsAt shown all start name new
   at_next old new at goes =
       let own = goes (record { named = refl; holds = at.holds; low = at.low; high = at.high; lie = at.lie }) in
       record { named = own.named ∙ at.named; holds = own.holds; low = own.low; high = own.high; lie = own.lie }
 
   -- the next one isn't explained
-  pub stops_next : (exchanges : List Exchange) (i : ℕ) (e : Exchange) (old new : Teller T J) → IsAt shown all start name old → Leads all name start no_places (take i exchanges) old.at (places_in old.session) old.named.items → i < length exchanges → e ≡ get_or exchanges i e → RetellsTo all e old false new → StopsAt all start (record { name = name; replies = exchanges }) i
+  pub stops_next : (exchanges : List Exchange) (i : ℕ) (e : Exchange) (old new : ReplayedSession T J) → IsAt shown all start name old → Leads all name start no_places (take i exchanges) old.at (places_in old.session) old.named.items → i < length exchanges → e ≡ get_or exchanges i e → RetellsTo all e old false new → StopsAt all start (record { name = name; replies = exchanges }) i
   stops_next exchanges i e old new at l within there r =
       stops_here all name start exchanges i e old.at (places_in old.session) old.named.items l within there
       (λ found n. r found (subst (λ m. Names all old.at (places_in old.session) m (e ∷ []) found) (sym at.named) n))
 
   -- all were
-  pub all_led : (exchanges : List Exchange) (i : ℕ) (t : Teller T J) (numbers : List ℕ) → IsAt shown all start name t → Leads all name start no_places (take i exchanges) t.at (places_in t.session) t.named.items → length exchanges ≤ i → numbers ≡ t.named.items → IsNamedBy all start (record { name = name; replies = exchanges }) numbers
+  pub all_led : (exchanges : List Exchange) (i : ℕ) (t : ReplayedSession T J) (numbers : List ℕ) → IsAt shown all start name t → Leads all name start no_places (take i exchanges) t.at (places_in t.session) t.named.items → length exchanges ≤ i → numbers ≡ t.named.items → IsNamedBy all start (record { name = name; replies = exchanges }) numbers
   all_led exchanges i t numbers at l whole is = record {
     names =
         subst (λ ns. Names all start no_places name exchanges ns) (sym is)

@@ -13,7 +13,7 @@ use Rattle.transcript.specs.declared.transcripts.Exchange.{Exchange}
 use Rattle.audit.specs.Answers.{HasExplanation}
 use Rattle.audit.specs.Explained.{Came, IsExplained, named_by, texts_of}
 use Rattle.audit.specs.Lines.{line_of}
-use Rattle.audit.specs.Retold.{Leads, Names, StopsAt}
+use Rattle.audit.specs.ReplayedReplies.{Leads, Names, StopsAt}
 
 -- ---- the first reply, and those behind it
 

@@ -3,19 +3,19 @@ use Rattle.std.proofs.Common.{◌≡◌, ℕ, suc, ◌+◌, List, [], ◌∷◌,
 use Rattle.std.proofs.lemmas.List.{append-nil}
 use Rattle.ts_model.specs.History.{History}
 use Rattle.ts_sessions.specs.Places.{no_places}
-use Rattle.transcript.specs.declared.transcripts.Talk.{Talk}
+use Rattle.transcript.specs.declared.transcripts.SessionTranscript.{SessionTranscript}
 use Rattle.audit.specs.Answers.{FirstUnexplained}
-use Rattle.audit.specs.Retold.{Names, NamesAll, Passes, StopsAt}
+use Rattle.audit.specs.ReplayedReplies.{Names, NamesAll, Passes, StopsAt}
 use Rattle.audit.proofs.RetoldLaws.{has_explanation}
 
-pub passes_none : (all : History) (start : ℕ) (talks : List Talk) → Passes all start talks 0 talks []
+pub passes_none : (all : History) (start : ℕ) (talks : List SessionTranscript) → Passes all start talks 0 talks []
 passes_none all start talks = record {
   stops = λ i j f. let same : i ≡ 0 + i = omega arith in subst (λ n. FirstUnexplained all start talks n j) same f;
   names = λ others n. n;
 }
 
 -- one more session is explained
-pub passes_more : (all : History) (start : ℕ) (talks : List Talk) (i : ℕ) (talk : Talk) (left : List Talk) (ns ms : List ℕ) → Passes all start talks i (talk ∷ left) ns → Names all start no_places talk.name talk.replies ms → Passes all start talks (i + 1) left (ns ++ ms)
+pub passes_more : (all : History) (start : ℕ) (talks : List SessionTranscript) (i : ℕ) (talk : SessionTranscript) (left : List SessionTranscript) (ns ms : List ℕ) → Passes all start talks i (talk ∷ left) ns → Names all start no_places talk.name talk.replies ms → Passes all start talks (i + 1) left (ns ++ ms)
 passes_more all start talks i talk left ns ms p one = record {
   stops = λ k j f.
       let same : i + suc k ≡ i + 1 + k = omega arith in
@@ -30,13 +30,13 @@ passes_more all start talks i talk left ns ms p one = record {
 }
 
 -- the next one isn't
-pub stopped_here : (all : History) (start : ℕ) (talks : List Talk) (i : ℕ) (talk : Talk) (left : List Talk) (ns : List ℕ) (j : ℕ) → Passes all start talks i (talk ∷ left) ns → StopsAt all start talk j → FirstUnexplained all start talks i j
+pub stopped_here : (all : History) (start : ℕ) (talks : List SessionTranscript) (i : ℕ) (talk : SessionTranscript) (left : List SessionTranscript) (ns : List ℕ) (j : ℕ) → Passes all start talks i (talk ∷ left) ns → StopsAt all start talk j → FirstUnexplained all start talks i j
 stopped_here all start talks i talk left ns j p s =
     let same : i + 0 ≡ i = omega arith in
     subst (λ n. FirstUnexplained all start talks n j) same (p.stops 0 j (s.before, s.fails))
 
 -- all are
-pub all_named : (all : History) (start : ℕ) (talks : List Talk) (i : ℕ) (ns : List ℕ) → Passes all start talks i [] ns → NamesAll all start talks ns
+pub all_named : (all : History) (start : ℕ) (talks : List SessionTranscript) (i : ℕ) (ns : List ℕ) → Passes all start talks i [] ns → NamesAll all start talks ns
 all_named all start talks i ns p =
     subst (λ ks. NamesAll all start talks ks) (append-nil ns)
     (p.names [] (record { answers = []; explained = tt; named = refl }))

@@ -13,15 +13,15 @@ use Rattle.ts_sessions.specs.Places.{Places, Turn}
 use Rattle.ts_sessions.specs.Procedures.{Procedure}
 use Rattle.ts_sessions.specs.Replies.{reply_to}
 use Rattle.ts_sessions.specs.Script.{text_of}
-use Rattle.past_sessions.specs.Told.{Told, Tells}
-use Rattle.past_sessions.specs.ToldLaws.{IsToldByReply, RepliesTellTheirLooks, ToldIsGiven, ToldOnce}
-use Rattle.reply_looks.specs.Laws.{TextsTellLooks}
-use Rattle.reply_looks.specs.Replies.{is_line_end, looks_in}
+use Rattle.audit_past.specs.Replay.{Told, Tells}
+use Rattle.audit_past.specs.ReplayLaws.{IsToldByReply, RepliesTellTheirLooks, ToldIsGiven, ToldOnce}
+use Rattle.audit_looks.specs.Laws.{TextsTellLooks}
+use Rattle.audit_looks.specs.Replies.{is_line_end, looks_in}
 use Rattle.engine_core.proofs.TimelineLaws.{allowed_fits}
 use Rattle.transcript.specs.declared.transcripts.Exchange.{Exchange}
 use Rattle.audit.specs.Explained.{Came}
 use Rattle.audit.specs.Lines.{line_of}
-use Rattle.audit.specs.Retold.{Leads, Names, Retells}
+use Rattle.audit.specs.ReplayedReplies.{Leads, Names, Retells}
 use Rattle.audit.proofs.RetoldLaws.{TextsTellReplies, leads_more, leads_one, uncons}
 
 -- the laws that it rests on

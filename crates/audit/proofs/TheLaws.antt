@@ -1,7 +1,7 @@
 -- The laws that an audit rests on.
-use Rattle.past_sessions.proofs.LookLaws.{replies_tell}
-use Rattle.past_sessions.proofs.ToldLaws.{told_is_given, told_once}
-use Rattle.reply_looks.proofs.TextLaws.{texts_tell as texts_tell_looks}
+use Rattle.audit_past.proofs.LookLaws.{replies_tell}
+use Rattle.audit_past.proofs.ReplayLaws.{told_is_given, told_once}
+use Rattle.audit_looks.proofs.TextLaws.{texts_tell as texts_tell_looks}
 use Rattle.audit.proofs.TellerLaws.{Laws}
 
 pub the_laws : Laws

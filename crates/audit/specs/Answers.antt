@@ -5,7 +5,7 @@ use Rattle.turn_lock.specs.Positions.{times}
 use Rattle.ts_sessions.specs.Places.{no_places}
 use Rattle.transcript.specs.Reading.{IsReading}
 use Rattle.transcript.specs.declared.transcripts.Exchange.{Exchange}
-use Rattle.transcript.specs.declared.transcripts.Talk.{Talk}
+use Rattle.transcript.specs.declared.transcripts.SessionTranscript.{SessionTranscript}
 use Rattle.transcript.specs.declared.transcripts.Transcript.{Transcript}
 use Rattle.audit.specs.declared.answers.Audit.{Audit}
 use Rattle.audit.specs.declared.answers.Audit.TheVariants.{Yes, No, Lost, Policy, Early, BadText, NoMemory}
@@ -19,7 +19,7 @@ pub record HasExplanation (all : History) (start : ℕ) (name : List ℕ) (excha
 
 -- the first reply that isn't explained, in the order of the text, is number j of session i: the sessions before are
 -- explained, and of this one the first j replies are, and one more aren't
-abbrev pub FirstUnexplained : History → ℕ → List Talk → ℕ → ℕ → Type 0
+abbrev pub FirstUnexplained : History → ℕ → List SessionTranscript → ℕ → ℕ → Type 0
 FirstUnexplained all start [] i j = ⊥
 FirstUnexplained all start (talk ∷ talks) zero j =
     HasExplanation all start talk.name (take j talk.replies)

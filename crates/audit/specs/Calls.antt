@@ -1,8 +1,8 @@
 -- What a call comes to at a position of a history.
 use Rattle.std.specs.Prelude.{◌==◌, cond, Option, Some, None}
 use Rattle.ts_model.specs.declared.outcomes.Refusal.{Refusal}
-use Rattle.past_sessions.specs.declared.pasts.Came.{Came}
-use Rattle.past_sessions.specs.declared.pasts.Came.TheVariants.{Made, Returned, Refused, Otherwise}
+use Rattle.audit_past.specs.declared.history_view.PastOutcome.{PastOutcome}
+use Rattle.audit_past.specs.declared.history_view.PastOutcome.TheVariants.{Made, Returned, Refused, Otherwise}
 
 -- a refusal that has a number
 abbrev pub numbered_only : Option Refusal → Option Refusal
@@ -10,7 +10,7 @@ numbered_only None = None
 numbered_only (Some r) = cond (r.code == 0) None (Some r)
 
 -- the same, with something else as what is returned
-abbrev pub came_as : {A B : Type 0} → (A → B) → Came A → Came B
+abbrev pub came_as : {A B : Type 0} → (A → B) → PastOutcome A → PastOutcome B
 came_as f (Made a) = Made (f a)
 came_as f (Returned a) = Returned (f a)
 came_as f (Refused r) = Refused r

@@ -9,7 +9,7 @@ use Rattle.ts_sessions.specs.Script.{text_of}
 use Rattle.par_laws.specs.Answered.{LineAnswer, Answered}
 use Rattle.par_laws.specs.Parallel.{places_after}
 use Rattle.transcript.specs.declared.transcripts.Exchange.{Exchange}
-use Rattle.transcript.specs.declared.transcripts.Talk.{Talk}
+use Rattle.transcript.specs.declared.transcripts.SessionTranscript.{SessionTranscript}
 use Rattle.transcript.specs.declared.transcripts.Transcript.{Transcript}
 use Rattle.audit.specs.Lines.{lines_of}
 
@@ -39,7 +39,7 @@ pub record IsExplained (all : History) (at : ℕ) (p : Places) (name : List ℕ)
   pub replies : texts_of name answers ≡ map (λ e. e.reply) exchanges
 
 -- each session's replies are explained, from the same position on
-abbrev pub AreExplained : History → ℕ → List Talk → List (List Came) → Type 0
+abbrev pub AreExplained : History → ℕ → List SessionTranscript → List (List Came) → Type 0
 AreExplained all start [] [] = Unit {0}
 AreExplained all start [] (answers ∷ others) = ⊥
 AreExplained all start (talk ∷ talks) [] = ⊥

@@ -3,9 +3,9 @@ pub mod Short
 pub mod Explained
 pub mod Texts
 pub mod Answers
-pub mod Retold
+pub mod ReplayedReplies
 pub mod Judged
 pub mod Calls
-pub mod Tellers
-pub mod Hearings
+pub mod ReplayedSessions
+pub mod SessionReplays
 pub mod Laws

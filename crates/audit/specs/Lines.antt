@@ -7,7 +7,7 @@ use Rattle.stmt_tokens.specs.declared.lines.LineKind.TheVariants.{Blank, NotAsci
 use Rattle.policy_jobs.specs.Words.{begins}
 use Rattle.ts_sessions.specs.Script.{SessionLine}
 use Rattle.transcript.specs.declared.transcripts.Exchange.{Exchange}
-use Rattle.transcript.specs.declared.transcripts.Talk.{Talk}
+use Rattle.transcript.specs.declared.transcripts.SessionTranscript.{SessionTranscript}
 use Rattle.audit.specs.declared.lines.Place.{Place}
 
 -- what a session executes of a line of this kind: its bytes before the comment. No session speaks in another line
@@ -41,6 +41,6 @@ found_first None (Some place) = Some (record { session = suc place.session; repl
 found_first None None = None
 
 -- the place of the first such line of all sessions
-abbrev pub first_policy : List Talk → Option Place
+abbrev pub first_policy : List SessionTranscript → Option Place
 first_policy [] = None
 first_policy (talk ∷ talks) = found_first (policy_among talk.replies) (first_policy talks)

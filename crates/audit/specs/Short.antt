@@ -2,11 +2,11 @@
 use Rattle.std.specs.Prelude.{◌≤◌, All, List, length}
 use Rattle.stmt_syntax.specs.Limits.{longest_line}
 use Rattle.transcript.specs.declared.transcripts.Exchange.{Exchange}
-use Rattle.transcript.specs.declared.transcripts.Talk.{Talk}
+use Rattle.transcript.specs.declared.transcripts.SessionTranscript.{SessionTranscript}
 
 abbrev pub AreShort : List Exchange → Type 0
 AreShort exchanges = All (λ e. length e.line ≤ longest_line) exchanges
 
 -- so are the lines of all sessions
-abbrev pub AreShortTalks : List Talk → Type 0
+abbrev pub AreShortTalks : List SessionTranscript → Type 0
 AreShortTalks talks = All (λ talk. AreShort talk.replies) talks

@@ -3,12 +3,12 @@ use Rattle.std.specs.Prelude.{ℕ, List, IsPermutation}
 use Rattle.std.specs.List.{flat_map}
 use Rattle.ts_model.specs.History.{History, position}
 use Rattle.turn_lock.specs.Positions.{positions_between}
-use Rattle.reply_looks.specs.Replies.{numbers_in}
-use Rattle.transcript.specs.declared.transcripts.Talk.{Talk}
+use Rattle.audit_looks.specs.Replies.{numbers_in}
+use Rattle.transcript.specs.declared.transcripts.SessionTranscript.{SessionTranscript}
 use Rattle.transcript.specs.declared.transcripts.Transcript.{Transcript}
 
 -- those that the replies of one session name, in order
-abbrev pub numbers_of : Talk → List ℕ
+abbrev pub numbers_of : SessionTranscript → List ℕ
 numbers_of talk = flat_map (λ exchange. numbers_in talk.name exchange.reply) talk.replies
 
 -- and those of all sessions

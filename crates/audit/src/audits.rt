@@ -10,15 +10,15 @@ ghost use Rattle.audit.specs.Explained.{IsWithin};
 ghost use Rattle.audit.specs.Lines.{first_policy};
 
 use crate::answers::Audit;
+use crate::judgement::{JudgedSessions, judge_sessions};
+use crate::known_history::KnownHistory;
 use crate::lines::first_policy;
 use crate::numbers::first_lost;
-use crate::pasts::Known;
-use crate::talks::{JudgedTalks, judge_talks};
 use engine_core::{Timeline, begun_at, end_of};
 use std::alloc::Global;
 use std::mem::forget;
 use std::thread::Threads;
-use transcript::{ReadTranscript, Talk, Transcript, read_transcript};
+use transcript::{ReadTranscript, SessionTranscript, Transcript, read_transcript};
 use ts_model::{Event, Image};
 use ts_schema::{NoMemory, Steps};
 
@@ -100,17 +100,17 @@ fn judge_replies<R: Threads + Sync>(
     let start = transcript.start;
     let talks = transcript.sessions.items();
     let steps = &mut Steps::new(());
-    let known = Known {
+    let known = KnownHistory {
         timeline: Timeline::of(rt, alloc, base, events, start, steps)?,
     };
-    let judged = judge_talks(rt, alloc, &known, start, talks, steps)?;
+    let judged = judge_sessions(rt, alloc, &known, start, talks, steps)?;
     forget(known);
     match judged {
-        JudgedTalks::Unexplained(place) => Ok(Audit::No {
+        JudgedSessions::Unexplained(place) => Ok(Audit::No {
             session: place.session,
             reply: place.reply,
         }),
-        JudgedTalks::Explained(numbers) => match first_lost(numbers, start, end) {
+        JudgedSessions::Explained(numbers) => match first_lost(numbers, start, end) {
             Some(position) => Ok(Audit::Lost(position)),
             None => Ok(Audit::Yes(reply_count(talks)?)),
         },
@@ -118,7 +118,7 @@ fn judge_replies<R: Threads + Sync>(
 }
 
 /// How many replies there are.
-fn reply_count(talks: &[Talk]) -> Result<u64, NoMemory>
+fn reply_count(talks: &[SessionTranscript]) -> Result<u64, NoMemory>
     ensures count { IfOk result (λ count. count ≡ sum_by (λ talk. length talk.replies) talks.now) }
 {
     let mut count: u64 = 0;

@@ -5,26 +5,26 @@ ghost use Rattle.ts_model.specs.declared.outcomes.CutDone.TheVariants.{Cut as Cu
 ghost use Rattle.ts_model.specs.History.{event_at, position, prefix};
 ghost use Rattle.engine_core.specs.Acts.{making_event};
 ghost use Rattle.engine_core.specs.Histories.{history_of};
-ghost use Rattle.past_sessions.specs.Pasts.{CameTo};
+ghost use Rattle.audit_past.specs.Pasts.{CameTo};
 ghost use Rattle.audit.specs.Calls.{came_as, numbered_only};
 
+use audit_past::PastOutcome;
 use engine_core::Timeline;
 use event_check::refusal_of;
-use past_sessions::Came;
 use ts_bucket::Span;
 use ts_model::codes::NO_NUMBER;
 use ts_model::{Committed, CutDone, Event, Pending, Refusal};
 
 /// What the call comes to that makes this event.
-pub(crate) fn call(timeline: &Timeline<'_>, at: u64, event: &Event) -> Came<Committed>
+pub(crate) fn call(timeline: &Timeline<'_>, at: u64, event: &Event) -> PastOutcome<Committed>
     requires known { timeline.now.start ≤ at }
     requires within { at ≤ position (history_of timeline.now.past) }
     ensures came { CameTo (making_event event.now (prefix (history_of timeline.now.past) at))
         (event_at (history_of timeline.now.past) (suc at)) result }
 {
     match refusal_at(timeline, at, event) {
-        Some(refusal) => Came::Refused(refusal),
-        None => compared(timeline, at, event),
+        Some(refusal) => PastOutcome::Refused(refusal),
+        None => compare_event(timeline, at, event),
     }
 }
 
@@ -35,12 +35,12 @@ fn refusal_at(timeline: &Timeline<'_>, at: u64, event: &Event) -> Option<Refusal
     ensures refusal { result ≡ call_refusal (prefix (history_of timeline.now.past) at) event.now }
 {
     let roster = timeline.roster(at);
-    let pending = finished(timeline, at, event);
+    let pending = pending_of(timeline, at, event);
     numbered_only(refusal_of(roster, pending, at, timeline.base(), event))
 }
 
 /// What had become of the refresh that an event finishes, at a position.
-fn finished(timeline: &Timeline<'_>, at: u64, event: &Event) -> Pending
+fn pending_of(timeline: &Timeline<'_>, at: u64, event: &Event) -> Pending
     requires known { timeline.now.start ≤ at }
     requires within { at ≤ position (history_of timeline.now.past) }
     ensures pending { PendingIs (prefix (history_of timeline.now.past) at) event.now result }
@@ -73,7 +73,7 @@ fn numbered_only(refusal: Option<Refusal>) -> Option<Refusal>
 }
 
 /// Whether an event that no call refuses is the one that comes next, and what that does.
-fn compared(timeline: &Timeline<'_>, at: u64, event: &Event) -> Came<Committed>
+fn compare_event(timeline: &Timeline<'_>, at: u64, event: &Event) -> PastOutcome<Committed>
     requires known { timeline.now.start ≤ at }
     requires within { at ≤ position (history_of timeline.now.past) }
     requires free { call_refusal (prefix (history_of timeline.now.past) at) event.now ≡ None }
@@ -83,36 +83,36 @@ fn compared(timeline: &Timeline<'_>, at: u64, event: &Event) -> Came<Committed>
     match timeline.event_after(at) {
         Some(next) => {
             if *next == *event {
-                Came::Made(timeline.effect_after(at))
+                PastOutcome::Made(timeline.effect_after(at))
             } else {
-                Came::Otherwise
+                PastOutcome::Otherwise
             }
         }
-        None => Came::Otherwise,
+        None => PastOutcome::Otherwise,
     }
 }
 
 /// The same, with the event's number alone.
-pub(crate) fn numbered(came: Came<Committed>) -> Came<u64>
+pub(crate) fn event_number(came: PastOutcome<Committed>) -> PastOutcome<u64>
     ensures { result ≡ came_as (λ c. c.pos) came }
 {
     match came {
-        Came::Made(effect) => Came::Made(effect.pos),
-        Came::Returned(effect) => Came::Returned(effect.pos),
-        Came::Refused(refusal) => Came::Refused(refusal),
-        Came::Otherwise => Came::Otherwise,
+        PastOutcome::Made(effect) => PastOutcome::Made(effect.pos),
+        PastOutcome::Returned(effect) => PastOutcome::Returned(effect.pos),
+        PastOutcome::Refused(refusal) => PastOutcome::Refused(refusal),
+        PastOutcome::Otherwise => PastOutcome::Otherwise,
     }
 }
 
 /// The same, with a cut over this span.
-pub(crate) fn cut_over(came: Came<Committed>, span: Span) -> Came<CutDone>
+pub(crate) fn cut_over(came: PastOutcome<Committed>, span: Span) -> PastOutcome<CutDone>
     ensures { result ≡ came_as (λ c. CutMade c.pos span) came }
 {
     match came {
-        Came::Made(effect) => Came::Made(cut_made(effect, span)),
-        Came::Returned(effect) => Came::Returned(cut_made(effect, span)),
-        Came::Refused(refusal) => Came::Refused(refusal),
-        Came::Otherwise => Came::Otherwise,
+        PastOutcome::Made(effect) => PastOutcome::Made(cut_made(effect, span)),
+        PastOutcome::Returned(effect) => PastOutcome::Returned(cut_made(effect, span)),
+        PastOutcome::Refused(refusal) => PastOutcome::Refused(refusal),
+        PastOutcome::Otherwise => PastOutcome::Otherwise,
     }
 }
 

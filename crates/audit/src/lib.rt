@@ -4,11 +4,11 @@
 //! - `answers`: what an audit answers.
 //! - `audits`: the audit.
 //! - `lines`: the lines of a transcript, as sessions execute them, and the first that asks for policies.
-//! - `pasts`: a history as the past of a store, with its states at each position from one on.
+//! - `known_history`: a history as the past of a store, with its states at each position from one on.
 //! - `calls`: what a call comes to at a position of it.
-//! - `sessions`: a session whose replies are judged, one after the other.
-//! - `hearings`: its replies, as far as they are judged.
-//! - `talks`: those of all sessions, judged side by side.
+//! - `replayed_session`: a session whose replies are judged, one after the other.
+//! - `session_replay`: its replies, as far as they are judged.
+//! - `judgement`: those of all sessions, judged side by side.
 //! - `numbers`: whether the numbers that replies name are the positions after the start, each once.
 //! - `laws`: laws of audits, in clauses of functions that do nothing.
 #![tactic(auto)]
@@ -16,13 +16,13 @@
 mod answers;
 mod audits;
 mod calls;
-mod hearings;
+mod judgement;
+mod known_history;
 pub mod laws;
 mod lines;
 mod numbers;
-mod pasts;
-mod sessions;
-mod talks;
+mod replayed_session;
+mod session_replay;
 
 pub use answers::Audit;
 pub use audits::audit;

@@ -8,7 +8,7 @@ ghost use Rattle.audit.specs.Short.{AreShort, AreShortTalks};
 use policy_jobs::{PolicyRead, read_policy};
 use std::alloc::Global;
 use stmt_tokens::{LineKind, split_line};
-use transcript::{Exchange, Talk};
+use transcript::{Exchange, SessionTranscript};
 use ts_schema::NoMemory;
 
 /// What a session executes of a line.
@@ -77,7 +77,10 @@ fn policy_among(alloc: Global, exchanges: &[Exchange]) -> Result<Option<u64>, No
 }
 
 /// The first line of all sessions that begins as a statement on policies does.
-pub(crate) fn first_policy(alloc: Global, talks: &[Talk]) -> Result<Option<Place>, NoMemory>
+pub(crate) fn first_policy(
+    alloc: Global,
+    talks: &[SessionTranscript],
+) -> Result<Option<Place>, NoMemory>
     requires short { AreShortTalks talks.now }
     ensures first { IfOk result (λ first. first ≡ first_policy talks.now) }
 {

@@ -3,7 +3,7 @@ ghost use Rattle.std.specs.Prelude.{◌≡◌, ◌≤◌, IsPermutation, MatchOp
 ghost use Rattle.std.specs.List.Sorted.{IsNonDecreasing};
 ghost use Rattle.turn_lock.specs.Positions.{positions_between};
 ghost use Rattle.audit.specs.Answers.{IsLost};
-ghost use Rattle.audit.specs.Retold.{LieBetween};
+ghost use Rattle.audit.specs.ReplayedReplies.{LieBetween};
 
 use ts_schema::Seq;
 

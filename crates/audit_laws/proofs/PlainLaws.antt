@@ -22,8 +22,8 @@ use Rattle.par_laws.specs.Named.{NamesEvents}
 use Rattle.par_laws.specs.Parallel.{exchanges_of, places_after}
 use Rattle.audit.specs.Explained.{Came, named_by, texts_of}
 use Rattle.audit.specs.Lines.{asks_policies, line_as, lines_of}
-use Rattle.run_transcript.proofs.ScriptLaws.{IsOwn}
-use Rattle.run_transcript.proofs.TalkLaws.{exchange_in}
+use Rattle.par_transcript.proofs.ScriptLaws.{IsOwn}
+use Rattle.par_transcript.proofs.TalkLaws.{exchange_in}
 use Rattle.audit_laws.proofs.ShiftLaws.{GivenBefore, given_before}
 
 -- what the replies to the lines of a session with policies say

@@ -18,16 +18,16 @@ use Rattle.par_laws.specs.Answered.{Answered, ends_of, numbers_of}
 use Rattle.par_laws.specs.Named.{NamesEvents, RepliesNameEvents}
 use Rattle.par_laws.specs.Parallel.{AreReplies, SessionReplies, SessionsRan, exchanges_of, lines_in, places_after}
 use Rattle.par_laws.specs.Phases.{AllExplained, Explained as IsPhaseExplained, all_numbers}
-use Rattle.par_lines.specs.Sorted.{at_once, final, only, setup, sorted}
+use Rattle.par_lines.specs.Sorted.{at_once, final, only, setup, sorted_lines}
 use Rattle.par_lines.proofs.Passing.{position_none}
 use Rattle.transcript.specs.declared.transcripts.Exchange.{Exchange}
-use Rattle.transcript.specs.declared.transcripts.Talk.{Talk}
+use Rattle.transcript.specs.declared.transcripts.SessionTranscript.{SessionTranscript}
 use Rattle.transcript.specs.Laws.{AsciiReadsBack}
 use Rattle.transcript.specs.Text.{transcript_text}
-use Rattle.run_transcript.specs.Made.{transcript_in}
-use Rattle.run_transcript.proofs.ScriptLaws.{IsSoundScript, sound_filter, sound_input}
-use Rattle.run_transcript.proofs.SoundLaws.{runs_sound}
-use Rattle.run_transcript.proofs.TalkLaws.{exchange_in, sessions_in, talk_in}
+use Rattle.par_transcript.specs.Made.{transcript_in}
+use Rattle.par_transcript.proofs.ScriptLaws.{IsSoundScript, sound_filter, sound_input}
+use Rattle.par_transcript.proofs.SoundLaws.{runs_sound}
+use Rattle.par_transcript.proofs.TalkLaws.{exchange_in, sessions_in, talk_in}
 use Rattle.audit.specs.Laws.{ExplainedIsYes}
 use Rattle.audit.specs.Explained.{AreExplained, Came, IsExplained, named_by, named_by_all, texts_of}
 use Rattle.audit.specs.declared.lines.Place.{Place}
@@ -58,10 +58,10 @@ plain_exchanges exchanges e = all_mapped exchanges (none_passes (λ x. asks_poli
     all_mapped (x ∷ es) a = (a.0, all_mapped es a.1)
 
 -- the lines of sessions of which none is on policies
-abbrev ArePlain : List Talk → Type 0
+abbrev ArePlain : List SessionTranscript → Type 0
 ArePlain talks = AllByRecursion (λ t. AllByRecursion IsPlain (lines_of t.replies)) talks
 
-plain_talks : (talks : List Talk) → first_policy talks ≡ None → ArePlain talks
+plain_talks : (talks : List SessionTranscript) → first_policy talks ≡ None → ArePlain talks
 plain_talks [] e = tt
 plain_talks (t ∷ talks) e =
     let parts = none_found (policy_among t.replies) (first_policy talks) e in
@@ -82,7 +82,7 @@ abbrev places_with : List Policy → PolicyPlaces Places
 places_with policies = record { inner = no_places; policies = policies }
 
 -- it is explained from a position on, and the numbers that its replies name are those of its events
-record TalkExplained (all : History) (start : ℕ) (talk : Talk) (numbers : List ℕ) : Type 0 where
+record TalkExplained (all : History) (start : ℕ) (talk : SessionTranscript) (numbers : List ℕ) : Type 0 where
   answers : List Came
   explained : IsExplained all start no_places talk.name talk.replies answers
   named : named_by answers ≡ numbers
@@ -106,7 +106,7 @@ module _ (policies : List Policy) (all : History) (start from to : ℕ) (earlier
 
   -- ---- those of a phase
 
-  record TalksExplained (talks : List Talk) (numbers : List ℕ) : Type 0 where
+  record TalksExplained (talks : List SessionTranscript) (numbers : List ℕ) : Type 0 where
     all_answers : List (List Came)
     explained : AreExplained all start talks all_answers
     named : named_by_all all_answers ≡ numbers
@@ -129,7 +129,7 @@ module _ (policies : List Policy) (all : History) (start from to : ℕ) (earlier
 
 -- ---- phases one after the other
 
-explained_both : (all : History) (start : ℕ) (ts us : List Talk) (cs bs : List (List Came)) → AreExplained all start ts cs → AreExplained all start us bs → AreExplained all start (ts ++ us) (cs ++ bs)
+explained_both : (all : History) (start : ℕ) (ts us : List SessionTranscript) (cs bs : List (List Came)) → AreExplained all start ts cs → AreExplained all start us bs → AreExplained all start (ts ++ us) (cs ++ bs)
 explained_both all start [] us [] bs a b = b
 explained_both all start [] us (x ∷ cs) bs a b = absurd a
 explained_both all start (t ∷ ts) us [] bs a b = absurd a
@@ -150,7 +150,7 @@ pub runs_explained : RunsAreExplained
 runs_explained opening input policies new out reads ran still plain =
     let all = new.history in
     let start = position opening in
-    let scripts = (sorted input).sessions in
+    let scripts = (sorted_lines input).sessions in
     let sound = sound_input input in
     let r = ran.ran in
     let stopped : stop_of new ≡ None = ap (λ b. cond b (Some (position all)) None) still in
@@ -159,7 +159,7 @@ runs_explained opening input policies new out reads ran still plain =
     let apart : map talk_in said ≡ (map talk_in ran.before ++ map talk_in ran.between) ++ map talk_in ran.after =
     map-append talk_in (ran.before ++ ran.between) ran.after ∙ ap (λ l. l ++ map talk_in ran.after) (map-append talk_in ran.before ran.between) in
     let lines : ArePlain ((map talk_in ran.before ++ map talk_in ran.between) ++ map talk_in ran.after) = plain_talks _ (ap first_policy (sym (sessions ∙ apart)) ∙ plain) in
-    let P : Talk → Type 0 = λ t. AllByRecursion IsPlain (lines_of t.replies) in
+    let P : SessionTranscript → Type 0 = λ t. AllByRecursion IsPlain (lines_of t.replies) in
     let first_two = all_first P (map talk_in ran.before ++ map talk_in ran.between) (map talk_in ran.after) lines in
     let f = r.setup_ran.phase in
     let o = r.others_ran.phase in

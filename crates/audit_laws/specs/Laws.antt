@@ -7,13 +7,13 @@ use Rattle.ts_sessions.specs.Places.{no_places}
 use Rattle.ts_sessions.specs.Replies.{reply_to}
 use Rattle.policy_jobs.specs.Turns.{policy_does}
 use Rattle.policy_jobs.specs.declared.policies.Policy.{Policy}
-use Rattle.par_lines.specs.Sorted.{sorted}
+use Rattle.par_lines.specs.Sorted.{sorted_lines}
 use Rattle.par_run.specs.Crews.{LinesRan}
 use Rattle.par_run.specs.Outputs.{Output}
 use Rattle.transcript.specs.Ascii.{is_ascii_transcript}
 use Rattle.transcript.specs.Text.{transcript_text}
 use Rattle.transcript.specs.declared.transcripts.Transcript.{Transcript}
-use Rattle.run_transcript.specs.Made.{transcript_in}
+use Rattle.par_transcript.specs.Made.{transcript_in}
 use Rattle.audit.specs.Answers.{Answers, reply_count}
 use Rattle.audit.specs.Explained.{Explained}
 use Rattle.audit.specs.Lines.{first_policy}
@@ -25,7 +25,7 @@ use Rattle.audit.specs.declared.answers.Audit.TheVariants.{Yes, NoMemory}
 abbrev pub InputRan : History → List ℕ → List Policy → State → Output → ℕ → Type 0
 InputRan opening input policies new out reads =
     LinesRan (policy_does reply_to (λ p. p.block)) (record { inner = no_places; policies = policies }) opening
-    (sorted input) new out reads
+    (sorted_lines input) new out reads
 
 -- a history explains a transcript, unless a line of it is a statement on policies
 abbrev pub ExplainedUnlessPolicies : History → Transcript → Type 0

@@ -12,12 +12,12 @@ use Rattle.ts_model.specs.declared.images.SavedView.{SavedView}
 use Rattle.ts_model.specs.declared.images.Sums.{Sums}
 use Rattle.ts_model.specs.declared.refreshes.Waiting.{Waiting}
 use Rattle.ts_model.proofs.FieldLaws.{sum_cons}
-use Rattle.event_codec.specs.Spelling.{four, eight, signed, many, value, span, event}
+use Rattle.event_codec.specs.Spelling.{four, eight, signed_bytes, many, value, span, event}
 use Rattle.event_codec.proofs.BytesCounted.{bytes_counted as event_counted}
 use Rattle.event_codec.proofs.Fronts.{four_length, eight_length, signed_length}
 use Rattle.base_image.specs.Counting.{framed_bytes, sums_bytes, group_bytes, saved_bytes}
 use Rattle.base_image.specs.Laws.{BytesAreCounted}
-use Rattle.base_image.specs.Spelling.{wide, framed, sums, group, last, saved, waiting, finished}
+use Rattle.base_image.specs.Spelling.{wide, bytes_of_frame, sums, group, last, bytes_of_saved_view, bytes_of_waiting, bytes_of_finished}
 
 -- items whose bytes are counted one by one
 pub counted : {X : Type 0} (spell : X → List ℕ) (f : X → ℕ) → ((x : X) → length (spell x) ≡ f x) → (xs : List X) → length (flat_map spell xs) ≡ sum_by f xs
@@ -47,9 +47,9 @@ value_count None = refl
 value_count (Some v) = omega (arith, signed_length v)
 
 span_count : (s : Span) → length (span s) ≡ 16
-span_count s = omega (arith, length-append (signed s.lo) (signed s.hi), signed_length s.lo, signed_length s.hi)
+span_count s = omega (arith, length-append (signed_bytes s.lo) (signed_bytes s.hi), signed_length s.lo, signed_length s.hi)
 
-framed_count : (e : Event) → length (framed e) ≡ framed_bytes e
+framed_count : (e : Event) → length (bytes_of_frame e) ≡ framed_bytes e
 framed_count e = omega (arith, length-append (four (length (event e))) (event e), four_length (length (event e)), event_counted e)
 
 sums_count : (s : Sums) → length (sums s) ≡ sums_bytes s
@@ -69,7 +69,7 @@ sums_count s = omega (
 group_count : (g : SavedGroup) → length (group g) ≡ group_bytes g
 group_count g = omega (
   arith,
-  length-append (signed g.start) (flat_map value g.keys ++ flat_map sums g.parts),
+  length-append (signed_bytes g.start) (flat_map value g.keys ++ flat_map sums g.parts),
   signed_length g.start,
   length-append (flat_map value g.keys) (flat_map sums g.parts),
   counted value value_bytes value_count g.keys,
@@ -79,7 +79,7 @@ group_count g = omega (
 last_count : (l : SavedLast) → length (last l) ≡ 24
 last_count l = omega (arith, length-append (span l.span) (eight l.pos), span_count l.span, eight_length l.pos)
 
-saved_count : (v : SavedView) → length (saved v) ≡ saved_bytes v
+saved_count : (v : SavedView) → length (bytes_of_saved_view v) ≡ saved_bytes v
 saved_count v = omega (
   arith,
   length-append (many last v.lasts) (many span v.dirty ++ (many group v.groups ++ value v.mark)),
@@ -91,24 +91,24 @@ saved_count v = omega (
   value_count v.mark,
 )
 
-waiting_count : (w : Waiting) → length (waiting w) ≡ 28
+waiting_count : (w : Waiting) → length (bytes_of_waiting w) ≡ 28
 waiting_count w = omega (arith, length-append (eight w.cut) (four w.view ++ span w.span), eight_length w.cut, length-append (four w.view) (span w.span), four_length w.view, span_count w.span)
 
-finished_count : (f : Finished) → length (finished f) ≡ 16
+finished_count : (f : Finished) → length (bytes_of_finished f) ≡ 16
 finished_count f = omega (arith, length-append (eight f.cut) (eight f.built), eight_length f.cut, eight_length f.built)
 
 pub bytes_counted : BytesAreCounted
 bytes_counted i = omega (
   arith,
-  length-append (eight i.pos) (many framed i.roster ++ (many framed i.rows ++ (many saved i.views ++ (many waiting i.waiting ++ many finished i.done)))),
+  length-append (eight i.pos) (many bytes_of_frame i.roster ++ (many bytes_of_frame i.rows ++ (many bytes_of_saved_view i.views ++ (many bytes_of_waiting i.waiting ++ many bytes_of_finished i.done)))),
   eight_length i.pos,
-  length-append (many framed i.roster) (many framed i.rows ++ (many saved i.views ++ (many waiting i.waiting ++ many finished i.done))),
-  many_counted framed framed_bytes framed_count i.roster,
-  length-append (many framed i.rows) (many saved i.views ++ (many waiting i.waiting ++ many finished i.done)),
-  many_counted framed framed_bytes framed_count i.rows,
-  length-append (many saved i.views) (many waiting i.waiting ++ many finished i.done),
-  many_counted saved saved_bytes saved_count i.views,
-  length-append (many waiting i.waiting) (many finished i.done),
-  many_evenly waiting 28 waiting_count i.waiting,
-  many_evenly finished 16 finished_count i.done,
+  length-append (many bytes_of_frame i.roster) (many bytes_of_frame i.rows ++ (many bytes_of_saved_view i.views ++ (many bytes_of_waiting i.waiting ++ many bytes_of_finished i.done))),
+  many_counted bytes_of_frame framed_bytes framed_count i.roster,
+  length-append (many bytes_of_frame i.rows) (many bytes_of_saved_view i.views ++ (many bytes_of_waiting i.waiting ++ many bytes_of_finished i.done)),
+  many_counted bytes_of_frame framed_bytes framed_count i.rows,
+  length-append (many bytes_of_saved_view i.views) (many bytes_of_waiting i.waiting ++ many bytes_of_finished i.done),
+  many_counted bytes_of_saved_view saved_bytes saved_count i.views,
+  length-append (many bytes_of_waiting i.waiting) (many bytes_of_finished i.done),
+  many_evenly bytes_of_waiting 28 waiting_count i.waiting,
+  many_evenly bytes_of_finished 16 finished_count i.done,
 )

@@ -4,10 +4,10 @@ use Rattle.std.specs.List.{flat_map, AllByRecursion}
 use Rattle.std.proofs.lemmas.List.{nil_from_length}
 use Rattle.event_codec.specs.Formed.{IsFour, Many}
 use Rattle.event_codec.specs.Spelling.{four, many}
-use Rattle.event_codec.specs.Reading.{Reads, go_on, gives, pair, mapped, put_before, items, second, any_four, many_of}
+use Rattle.event_codec.specs.Reading.{Reads, go_on, gives, pair, read_map, put_before, items, second, any_four, many_of}
 use Rattle.event_codec.proofs.Formats.{IsFormat, Stands, Source, SameSpelling, went_on, done, same_value, same_left}
 use Rattle.event_codec.proofs.NumberLaws.{any_four_format}
-use Rattle.base_image.specs.Reading.{checked}
+use Rattle.base_image.specs.Reading.{checked_by}
 
 pub record IsExact {A : Type 0} (spelling : A → List ℕ) (fits : A → Type 0) (read : Reads A) : Type 0 where
   -- what is read is spelled so
@@ -39,7 +39,7 @@ module _ {A : Type 0} (test : A → Bool) (spell : A → List ℕ) (fits : A →
   passes true a b end left is e = (is, same_value a b end left e, same_left a b end left e)
   passes false a b end left is e = absurd cc
 
-  checked_takes : (bytes : List ℕ) (b : A) (left : List ℕ) → checked test p bytes ≡ Ok (b, left) → Stands spell (λ a. fits a × (test a ≡ true)) bytes b left
+  checked_takes : (bytes : List ℕ) (b : A) (left : List ℕ) → checked_by test p bytes ≡ Ok (b, left) → Stands spell (λ a. fits a × (test a ≡ true)) bytes b left
   checked_takes bytes b left e =
       let w = went_on (p bytes) tested (b, left) e in
       let t = passes (test w.0.0) w.0.0 b w.0.1 left refl w.2 in
@@ -49,7 +49,7 @@ module _ {A : Type 0} (test : A → Bool) (spell : A → List ℕ) (fits : A →
         parts = one.parts ∙ ap (λ (a : A). spell a ++ w.0.1) t.1 ∙ ap (λ (l : List ℕ). spell b ++ l) t.2;
       }
 
-  pub checked_exact : IsExact spell (λ a. fits a × (test a ≡ true)) (checked test p)
+  pub checked_exact : IsExact spell (λ a. fits a × (test a ≡ true)) (checked_by test p)
   checked_exact = record {
     takes = checked_takes;
     again = λ a left h. ap (λ (r : Read A). go_on r tested) (first.again a left h.0) ∙ ap (λ (t : Bool). cond t (done a left) (Err left)) h.1;
@@ -100,7 +100,7 @@ module _ {A B : Type 0} (f : A → B) (spell : A → List ℕ) (fits : A → Typ
   abbrev seen_as : A → Reads B
   seen_as a left = Ok (f a, left)
 
-  map_takes : (bytes : List ℕ) (b : B) (left : List ℕ) → mapped f p bytes ≡ Ok (b, left) → Stands seen holds bytes b left
+  map_takes : (bytes : List ℕ) (b : B) (left : List ℕ) → read_map f p bytes ≡ Ok (b, left) → Stands seen holds bytes b left
   map_takes bytes b left e =
       let w = went_on (p bytes) seen_as (b, left) e in
       let value = same_value (f w.0.0) b w.0.1 left w.2 in
@@ -112,14 +112,14 @@ module _ {A B : Type 0} (f : A → B) (spell : A → List ℕ) (fits : A → Typ
         parts = one.parts ∙ ap (λ (l : List ℕ). l ++ w.0.1) (sym t.1) ∙ ap (λ (c : B). seen c ++ w.0.1) value ∙ ap (λ (l : List ℕ). seen b ++ l) end;
       }
 
-  map_again : (b : B) (left : List ℕ) → holds b → mapped f p (seen b ++ left) ≡ Ok (b, left)
+  map_again : (b : B) (left : List ℕ) → holds b → read_map f p (seen b ++ left) ≡ Ok (b, left)
   map_again b left h =
       let s = same.back b h in
-      ap (λ (w : List ℕ). mapped f p (w ++ left)) s.spelled
+      ap (λ (w : List ℕ). read_map f p (w ++ left)) s.spelled
       ∙ ap (λ (r : Read A). go_on r seen_as) (first.again s.value left s.ok)
       ∙ ap (λ (c : B). done c left) s.same
 
-  pub map_exact : IsExact seen holds (mapped f p)
+  pub map_exact : IsExact seen holds (read_map f p)
   map_exact = record { takes = map_takes; again = map_again }
 
 -- ---- so many items

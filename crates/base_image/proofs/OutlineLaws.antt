@@ -22,7 +22,7 @@ use Rattle.image_laws.specs.Images.{held_events, row_events}
 use Rattle.base_image.specs.Counting.{framed_bytes, image_bytes}
 use Rattle.base_image.specs.Formed.{IsFramed, IsWritable}
 use Rattle.base_image.specs.Outlines.{rows_in, tally_of, tallies, commits, commit_bytes, commit_head, with_rows, whole, IsOutline}
-use Rattle.base_image.specs.Spelling.{framed, image}
+use Rattle.base_image.specs.Spelling.{bytes_of_frame, image}
 use Rattle.base_image.specs.declared.outlines.Outline.{Outline}
 use Rattle.base_image.specs.declared.tallies.Tally.{Tally}
 use Rattle.base_image.proofs.Counts.{bytes_counted}
@@ -109,23 +109,23 @@ pub record Fits (held : List Row) : Type 0 where
   pub formed : AllByRecursion IsRow held
 
 pub fits : (t : ℕ) (held : List Row) → AllByRecursion IsFramed (held_events t held) → Fits held
-fits t [] framed = record { bytes = omega arith; rows = omega arith; formed = tt }
-fits t (row ∷ held) framed = record {
-  bytes = omega (arith, framed.0.1, commit_length t (row ∷ held));
-  rows = omega (arith, framed.0.0.1.0.1.0);
-  formed = framed.0.0.1.0.1.1;
+fits t [] bytes_of_frame = record { bytes = omega arith; rows = omega arith; formed = tt }
+fits t (row ∷ held) bytes_of_frame = record {
+  bytes = omega (arith, bytes_of_frame.0.1, commit_length t (row ∷ held));
+  rows = omega (arith, bytes_of_frame.0.0.1.0.1.0);
+  formed = bytes_of_frame.0.0.1.0.1.1;
 }
 
 -- the bytes of the commit, in two parts
-pub commit_is : (t : ℕ) (held : List Row) → AllByRecursion IsFramed (held_events t held) → 0 < length held → flat_map framed (held_events t held) ≡ commit_head t (tally_of held) ++ flat_map row_spelling held
-commit_is t [] framed some = absurd (omega (arith, some))
+pub commit_is : (t : ℕ) (held : List Row) → AllByRecursion IsFramed (held_events t held) → 0 < length held → flat_map bytes_of_frame (held_events t held) ≡ commit_head t (tally_of held) ++ flat_map row_spelling held
+commit_is t [] bytes_of_frame some = absurd (omega (arith, some))
 commit_is t (row ∷ held) fit some =
     let rows : List Row = row ∷ held in
     let f = fits t rows fit in
     let bytes : length (event (Commit (Insert t (row ∷ held) ∷ []))) ≡ 14 + (tally_of (row ∷ held)).bytes = omega (arith, f.bytes, commit_length t (row ∷ held)) in
     let count : length (row ∷ held) ≡ (tally_of (row ∷ held)).rows = omega (arith, f.rows) in
     let body : List ℕ = flat_map row_spelling rows in
-    append-nil (framed (Commit (Insert t rows ∷ [])))
+    append-nil (bytes_of_frame (Commit (Insert t rows ∷ [])))
     ∙ ap (λ n. four n ++ event (Commit (Insert t rows ∷ []))) bytes
     ∙ ap (λ xs. four (14 + (tally_of rows).bytes) ++ (5 ∷ (four 1 ++ xs))) (append-nil (op (Insert t rows)))
     ∙ ap (λ n. four (14 + (tally_of rows).bytes) ++ (5 ∷ (four 1 ++ (1 ∷ (four t ++ (four n ++ body)))))) count

@@ -23,8 +23,8 @@ use Rattle.event_codec.proofs.Parts.{value_format, span_format}
 use Rattle.event_codec.proofs.Decodings.{is_formed, is_spelled, is_read}
 use Rattle.base_image.specs.declared.shapes.Shape.{Shape}
 use Rattle.base_image.specs.Formed.{IsFramed, IsSums, IsGroup, IsLast, IsWaiting, IsFinished}
-use Rattle.base_image.specs.Reading.{checked, wide_at, passed, frame_body, framed_at, to_sums, sums_at, to_group, group_at, to_last, last_at, to_saved, saved_at, shape_of, saved_each, views_at, to_waiting, waiting_at, to_finished, finished_at, with_roster, roster_at, to_image, image_at, at_end, whole_image}
-use Rattle.base_image.specs.Spelling.{framed, sums, group, last, saved, waiting, finished, image}
+use Rattle.base_image.specs.Reading.{checked_by, wide_at, past_part, frame_body, framed_at, to_sums, sums_at, to_group, group_at, to_last, last_at, to_saved, saved_at, shape_of, saved_each, views_at, to_waiting, waiting_at, to_finished, finished_at, with_roster, roster_at, to_image, image_at, at_end, whole_image}
+use Rattle.base_image.specs.Spelling.{bytes_of_frame, sums, group, last, bytes_of_saved_view, bytes_of_waiting, bytes_of_finished, image}
 use Rattle.base_image.proofs.Exact.{IsExact, exact, checked_exact, pair_exact, map_exact, items_exact, many_exact}
 use Rattle.base_image.proofs.WideLaws.{wide_exact}
 
@@ -39,7 +39,7 @@ unfolding whole_event
 whole_again e f = ap (λ (r : Result (Event × List ℕ) (List ℕ)). go_on r event_end) (is_read e f)
 
 -- the first n bytes were read as an event
-passed_is : (bytes here rest left : List ℕ) (e : Event) (r : Result (Event × List ℕ) (List ℕ)) → whole_event bytes ≡ r → passed r here rest ≡ Ok (e, left) → (end : List ℕ) × (whole_event bytes ≡ Ok (e, end)) × (rest ≡ left)
+passed_is : (bytes here rest left : List ℕ) (e : Event) (r : Result (Event × List ℕ) (List ℕ)) → whole_event bytes ≡ r → past_part r here rest ≡ Ok (e, left) → (end : List ℕ) × (whole_event bytes ≡ Ok (e, end)) × (rest ≡ left)
 passed_is bytes here rest left e (Ok x) is h =
     let value = same_value x.0 e rest left h in
     (x.1, is ∙ ap (λ (d : Event). done d x.1) value, same_left x.0 e rest left h)
@@ -48,7 +48,7 @@ passed_is bytes here rest left e (Err end) is h = absurd cc
 body_takes : (n : ℕ) (bytes : List ℕ) (e : Event) (left : List ℕ) → frame_body n bytes ≡ Ok (e, left) → Stands event (IsOfBytes n) bytes e left
 body_takes n bytes e left h = by_test (nat_le n (length bytes)) refl h
   where
-    by_test : (t : Bool) → nat_le n (length bytes) ≡ t → cond t (passed (whole_event (take n bytes)) bytes (drop n bytes)) (Err bytes) ≡ Ok (e, left) → Stands event (IsOfBytes n) bytes e left
+    by_test : (t : Bool) → nat_le n (length bytes) ≡ t → cond t (past_part (whole_event (take n bytes)) bytes (drop n bytes)) (Err bytes) ≡ Ok (e, left) → Stands event (IsOfBytes n) bytes e left
     by_test true is h =
         let p = passed_is (take n bytes) bytes (drop n bytes) left e (whole_event (take n bytes)) refl h in
         let spelled = is_spelled (take n bytes) e p.0 p.1 in
@@ -62,14 +62,14 @@ body_takes n bytes e left h = by_test (nat_le n (length bytes)) refl h
 body_again : (n : ℕ) (e : Event) (left : List ℕ) → IsOfBytes n e → frame_body n (event e ++ left) ≡ Ok (e, left)
 body_again n e left h =
     let within : nat_le n (length (event e ++ left)) ≡ true = le-leb n (length (event e ++ left)) (omega (arith, length-append (event e) left, h.0)) in
-    ap (λ (t : Bool). cond t (passed (whole_event (take n (event e ++ left))) (event e ++ left) (drop n (event e ++ left))) (Err (event e ++ left))) within
-    ∙ ap (λ (l : List ℕ). passed (whole_event l) (event e ++ left) (drop n (event e ++ left))) (take_at (event e) left n h.0)
-    ∙ ap (λ (r : Result (Event × List ℕ) (List ℕ)). passed r (event e ++ left) (drop n (event e ++ left))) (whole_again e h.1)
+    ap (λ (t : Bool). cond t (past_part (whole_event (take n (event e ++ left))) (event e ++ left) (drop n (event e ++ left))) (Err (event e ++ left))) within
+    ∙ ap (λ (l : List ℕ). past_part (whole_event l) (event e ++ left) (drop n (event e ++ left))) (take_at (event e) left n h.0)
+    ∙ ap (λ (r : Result (Event × List ℕ) (List ℕ)). past_part r (event e ++ left) (drop n (event e ++ left))) (whole_again e h.1)
     ∙ ap (λ (l : List ℕ). done e l) (drop_at (event e) left n h.0)
 
-pub framed_exact : IsExact framed IsFramed framed_at
+pub framed_exact : IsExact bytes_of_frame IsFramed framed_at
 unfolding framed_at
-framed_exact = map_exact second (λ x. four x.0 ++ event x.1) (λ x. IsFour x.0 × IsOfBytes x.0 x.1) (pair any_four frame_body) framed IsFramed
+framed_exact = map_exact second (λ x. four x.0 ++ event x.1) (λ x. IsFour x.0 × IsOfBytes x.0 x.1) (pair any_four frame_body) bytes_of_frame IsFramed
     (pair_exact four IsFour any_four (λ n. event) IsOfBytes frame_body (exact any_four_format) (λ n h. record { takes = body_takes n; again = body_again n }))
     (record {
       there = λ x h. ((h.1.1, subst IsFour (sym h.1.0) h.0), ap (λ (n : ℕ). four n ++ event x.1) h.1.0);
@@ -117,9 +117,9 @@ pub record IsSavedOf (shape : Shape) (v : SavedView) : Type 0 where
   pub groups : Many (IsGroupOf shape) v.groups
   pub mark : IsValue v.mark
 
-pub saved_exact : (shape : Shape) → IsExact saved (IsSavedOf shape) (saved_at shape)
+pub saved_exact : (shape : Shape) → IsExact bytes_of_saved_view (IsSavedOf shape) (saved_at shape)
 unfolding saved_at
-saved_exact shape = map_exact to_saved _ _ (pair (many_of last_at) (λ lasts. pair (many_of span_at) (λ dirty. pair (many_of (group_at shape)) (λ groups. value_at)))) saved (IsSavedOf shape)
+saved_exact shape = map_exact to_saved _ _ (pair (many_of last_at) (λ lasts. pair (many_of span_at) (λ dirty. pair (many_of (group_at shape)) (λ groups. value_at)))) bytes_of_saved_view (IsSavedOf shape)
     (pair_exact _ _ _ _ _ _ (many_exact _ _ _ last_exact) (λ lasts h. pair_exact _ _ _ _ _ _ (many_exact _ _ _ (exact span_format)) (λ dirty i. pair_exact _ _ _ _ _ _ (many_exact _ _ _ (group_exact shape)) (λ groups j. exact value_format))))
     (record {
       there = λ x h. (record { lasts = h.0; dirty = h.1.0; groups = h.1.1.0; mark = h.1.1.1 }, refl);
@@ -139,21 +139,21 @@ as_many [] (v ∷ vs) h = absurd h
 as_many (def ∷ defs) [] h = absurd h
 as_many (def ∷ defs) (v ∷ vs) h = omega (arith, as_many defs vs h.1)
 
-each_exact : (defs : List ViewDef) → IsExact (flat_map saved) (AreSavedOf defs) (saved_each defs)
+each_exact : (defs : List ViewDef) → IsExact (flat_map bytes_of_saved_view) (AreSavedOf defs) (saved_each defs)
 unfolding saved_each
 each_exact [] = record {
-  takes = λ bytes vs left e. let none = same_value [] vs bytes left e in record { ok = subst (AreSavedOf []) none tt; parts = same_left [] vs bytes left e ∙ ap (λ (l : List SavedView). flat_map saved l ++ left) none };
+  takes = λ bytes vs left e. let none = same_value [] vs bytes left e in record { ok = subst (AreSavedOf []) none tt; parts = same_left [] vs bytes left e ∙ ap (λ (l : List SavedView). flat_map bytes_of_saved_view l ++ left) none };
   again = none;
 }
   where
-    none : (vs : List SavedView) (left : List ℕ) → AreSavedOf [] vs → saved_each [] (flat_map saved vs ++ left) ≡ Ok (vs, left)
+    none : (vs : List SavedView) (left : List ℕ) → AreSavedOf [] vs → saved_each [] (flat_map bytes_of_saved_view vs ++ left) ≡ Ok (vs, left)
     none [] left h = refl
     none (v ∷ vs) left h = absurd h
-each_exact (def ∷ defs) = map_exact put_before (λ x. saved x.0 ++ flat_map saved x.1) (λ x. IsSavedOf (shape_of def) x.0 × AreSavedOf defs x.1) (pair (saved_at (shape_of def)) (λ v. saved_each defs)) (flat_map saved) (AreSavedOf (def ∷ defs))
+each_exact (def ∷ defs) = map_exact put_before (λ x. bytes_of_saved_view x.0 ++ flat_map bytes_of_saved_view x.1) (λ x. IsSavedOf (shape_of def) x.0 × AreSavedOf defs x.1) (pair (saved_at (shape_of def)) (λ v. saved_each defs)) (flat_map bytes_of_saved_view) (AreSavedOf (def ∷ defs))
     (pair_exact _ _ _ _ _ _ (saved_exact (shape_of def)) (λ v h. each_exact defs))
     (record { there = λ x h. (h, refl); back = back })
   where
-    back : (vs : List SavedView) → AreSavedOf (def ∷ defs) vs → Source put_before (λ (x : SavedView × List SavedView). saved x.0 ++ flat_map saved x.1) (λ x. IsSavedOf (shape_of def) x.0 × AreSavedOf defs x.1) (flat_map saved) vs
+    back : (vs : List SavedView) → AreSavedOf (def ∷ defs) vs → Source put_before (λ (x : SavedView × List SavedView). bytes_of_saved_view x.0 ++ flat_map bytes_of_saved_view x.1) (λ x. IsSavedOf (shape_of def) x.0 × AreSavedOf defs x.1) (flat_map bytes_of_saved_view) vs
     back [] h = absurd h
     back (v ∷ vs) h = record { value = (v, vs); ok = h; same = refl; spelled = refl }
 
@@ -161,34 +161,34 @@ each_exact (def ∷ defs) = map_exact put_before (λ x. saved x.0 ++ flat_map sa
 abbrev pub AreViewsOf : List ViewDef → List SavedView → Type 0
 AreViewsOf defs vs = IsFour (length vs) × AreSavedOf defs vs
 
-pub views_exact : (defs : List ViewDef) → IsExact (many saved) (AreViewsOf defs) (views_at defs)
+pub views_exact : (defs : List ViewDef) → IsExact (many bytes_of_saved_view) (AreViewsOf defs) (views_at defs)
 unfolding views_at
-views_exact defs = map_exact second (λ x. four x.0 ++ flat_map saved x.1) (λ x. (IsFour x.0 × ((x.0 == length defs) ≡ true)) × AreSavedOf defs x.1) (pair (checked (λ n. n == length defs) any_four) (λ n. saved_each defs)) (many saved) (AreViewsOf defs)
+views_exact defs = map_exact second (λ x. four x.0 ++ flat_map bytes_of_saved_view x.1) (λ x. (IsFour x.0 × ((x.0 == length defs) ≡ true)) × AreSavedOf defs x.1) (pair (checked_by (λ n. n == length defs) any_four) (λ n. saved_each defs)) (many bytes_of_saved_view) (AreViewsOf defs)
     (pair_exact _ _ _ _ _ _ (checked_exact (λ n. n == length defs) _ _ _ (exact any_four_format)) (λ n h. each_exact defs))
     (record { there = there; back = back })
   where
-    there : (x : ℕ × List SavedView) → (IsFour x.0 × ((x.0 == length defs) ≡ true)) × AreSavedOf defs x.1 → AreViewsOf defs x.1 × (many saved x.1 ≡ four x.0 ++ flat_map saved x.1)
+    there : (x : ℕ × List SavedView) → (IsFour x.0 × ((x.0 == length defs) ≡ true)) × AreSavedOf defs x.1 → AreViewsOf defs x.1 × (many bytes_of_saved_view x.1 ≡ four x.0 ++ flat_map bytes_of_saved_view x.1)
     there x h =
         let same : length x.1 ≡ x.0 = as_many defs x.1 h.1 ∙ sym (eqb-true x.0 (length defs) h.0.1) in
-        ((subst IsFour (sym same) h.0.0, h.1), ap (λ (n : ℕ). four n ++ flat_map saved x.1) same)
+        ((subst IsFour (sym same) h.0.0, h.1), ap (λ (n : ℕ). four n ++ flat_map bytes_of_saved_view x.1) same)
 
     equal : (m n : ℕ) → m ≡ n → (m == n) ≡ true
     equal m n e = grind (arith)
 
-    back : (vs : List SavedView) → AreViewsOf defs vs → Source second (λ (x : ℕ × List SavedView). four x.0 ++ flat_map saved x.1) (λ x. (IsFour x.0 × ((x.0 == length defs) ≡ true)) × AreSavedOf defs x.1) (many saved) vs
+    back : (vs : List SavedView) → AreViewsOf defs vs → Source second (λ (x : ℕ × List SavedView). four x.0 ++ flat_map bytes_of_saved_view x.1) (λ x. (IsFour x.0 × ((x.0 == length defs) ≡ true)) × AreSavedOf defs x.1) (many bytes_of_saved_view) vs
     back vs h = record { value = (length vs, vs); ok = ((h.0, equal (length vs) (length defs) (as_many defs vs h.1)), h.1); same = refl; spelled = refl }
 
 -- ---- refreshes
 
-pub waiting_exact : IsExact waiting IsWaiting waiting_at
+pub waiting_exact : IsExact bytes_of_waiting IsWaiting waiting_at
 unfolding waiting_at
-waiting_exact = map_exact to_waiting _ _ (pair any_eight (λ cut. pair any_four (λ view. span_at))) waiting IsWaiting
+waiting_exact = map_exact to_waiting _ _ (pair any_eight (λ cut. pair any_four (λ view. span_at))) bytes_of_waiting IsWaiting
     (pair_exact _ _ _ _ _ _ (exact any_eight_format) (λ cut h. pair_exact _ _ _ _ _ _ (exact any_four_format) (λ view i. exact span_format)))
     (record { there = λ x h. (record { cut = h.0; view = h.1.0; span = h.1.1 }, refl); back = λ w h. record { value = (w.cut, (w.view, w.span)); ok = (h.cut, (h.view, h.span)); same = refl; spelled = refl } })
 
-pub finished_exact : IsExact finished IsFinished finished_at
+pub finished_exact : IsExact bytes_of_finished IsFinished finished_at
 unfolding finished_at
-finished_exact = map_exact to_finished _ _ (pair any_eight (λ cut. any_eight)) finished IsFinished
+finished_exact = map_exact to_finished _ _ (pair any_eight (λ cut. any_eight)) bytes_of_finished IsFinished
     (pair_exact _ _ _ _ _ _ (exact any_eight_format) (λ cut h. exact any_eight_format))
     (record { there = λ x h. (h, refl); back = λ f h. record { value = (f.cut, f.built); ok = h; same = refl; spelled = refl } })
 
@@ -198,9 +198,9 @@ finished_exact = map_exact to_finished _ _ (pair any_eight (λ cut. any_eight)) 
 abbrev pub MakeRoster : List Event × Roster → Type 0
 MakeRoster x = (Many IsFramed x.0 × (make_relations no_relations x.0 ≡ true)) × (x.1 ≡ roster_over no_relations x.0)
 
-roster_exact : IsExact (λ x. many framed x.0) MakeRoster roster_at
+roster_exact : IsExact (λ x. many bytes_of_frame x.0) MakeRoster roster_at
 unfolding roster_at
-roster_exact = map_exact with_roster (many framed) (λ es. Many IsFramed es × (make_relations no_relations es ≡ true)) (checked (make_relations no_relations) (many_of framed_at)) (λ x. many framed x.0) MakeRoster
+roster_exact = map_exact with_roster (many bytes_of_frame) (λ es. Many IsFramed es × (make_relations no_relations es ≡ true)) (checked_by (make_relations no_relations) (many_of framed_at)) (λ x. many bytes_of_frame x.0) MakeRoster
     (checked_exact (make_relations no_relations) _ _ _ (many_exact _ _ _ framed_exact))
     (record {
       there = λ es h. ((h, refl), refl);
@@ -222,7 +222,7 @@ Parts = ℕ × (ℕ × ((List Event × Roster) × (List Event × (List SavedView
 
 abbrev spell_parts : Parts → List ℕ
 spell_parts x =
-    (x.0 ∷ []) ++ (eight x.1.0 ++ (many framed x.1.1.0.0 ++ (many framed x.1.1.1.0 ++ (many saved x.1.1.1.1.0 ++ (many waiting x.1.1.1.1.1.0 ++ many finished x.1.1.1.1.1.1)))))
+    (x.0 ∷ []) ++ (eight x.1.0 ++ (many bytes_of_frame x.1.1.0.0 ++ (many bytes_of_frame x.1.1.1.0 ++ (many bytes_of_saved_view x.1.1.1.1.0 ++ (many bytes_of_waiting x.1.1.1.1.1.0 ++ many bytes_of_finished x.1.1.1.1.1.1)))))
 
 abbrev fit_parts : Parts → Type 0
 fit_parts x =
@@ -238,7 +238,7 @@ spell_image x = image x.0
 image_exact : IsExact spell_image WithRoster image_at
 unfolding image_at
 image_exact = map_exact to_image spell_parts fit_parts _ spell_image WithRoster
-    (pair_exact _ _ _ _ _ _ (exact (byte_format (λ b. b == 8) 8 refl)) (λ kind h. pair_exact _ _ _ _ _ _ (exact any_eight_format) (λ pos i. pair_exact _ _ _ _ _ _ roster_exact (λ made j. pair_exact _ _ _ _ _ _ (many_exact _ _ _ framed_exact) (λ rows k. pair_exact _ _ _ _ _ _ (views_exact made.1.views) (λ views l. pair_exact _ _ _ _ _ _ (many_exact _ _ _ waiting_exact) (λ waiting m. many_exact _ _ _ finished_exact)))))))
+    (pair_exact _ _ _ _ _ _ (exact (byte_format (λ b. b == 8) 8 refl)) (λ kind h. pair_exact _ _ _ _ _ _ (exact any_eight_format) (λ pos i. pair_exact _ _ _ _ _ _ roster_exact (λ made j. pair_exact _ _ _ _ _ _ (many_exact _ _ _ framed_exact) (λ rows k. pair_exact _ _ _ _ _ _ (views_exact made.1.views) (λ views l. pair_exact _ _ _ _ _ _ (many_exact _ _ _ waiting_exact) (λ bytes_of_waiting m. many_exact _ _ _ finished_exact)))))))
     (record { there = there; back = back })
   where
     there : (x : Parts) → fit_parts x → WithRoster (to_image x) × (spell_image (to_image x) ≡ spell_parts x)
@@ -256,7 +256,7 @@ image_exact = map_exact to_image spell_parts fit_parts _ spell_image WithRoster
             },
             h.1.1.0.1,
           ),
-          ap (λ (n : ℕ). n ∷ (eight x.1.0 ++ (many framed x.1.1.0.0 ++ (many framed x.1.1.1.0 ++ (many saved x.1.1.1.1.0 ++ (many waiting x.1.1.1.1.1.0 ++ many finished x.1.1.1.1.1.1)))))) (sym kind),
+          ap (λ (n : ℕ). n ∷ (eight x.1.0 ++ (many bytes_of_frame x.1.1.0.0 ++ (many bytes_of_frame x.1.1.1.0 ++ (many bytes_of_saved_view x.1.1.1.1.0 ++ (many bytes_of_waiting x.1.1.1.1.1.0 ++ many bytes_of_finished x.1.1.1.1.1.1)))))) (sym kind),
         )
 
     back : (x : Image × Roster) → WithRoster x → Source to_image spell_parts fit_parts spell_image x

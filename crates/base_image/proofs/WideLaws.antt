@@ -3,7 +3,7 @@ use Rattle.std.proofs.Common.{◌≡◌, ℕ, ◌+◌, ◌-◌, ◌*◌, ◌/◌
 use Rattle.std.specs.Int.{w64, w128, to_le_bytes, cast_unsigned}
 use Rattle.std.proofs.lemmas.Int.{ints}
 use Rattle.event_codec.specs.Formed.{IsEight, IsWord}
-use Rattle.event_codec.specs.Spelling.{eight, signed}
+use Rattle.event_codec.specs.Spelling.{eight, signed_bytes}
 use Rattle.event_codec.specs.Reading.{any_eight, any_word, pair}
 use Rattle.event_codec.proofs.NumberLaws.{any_eight_format, any_word_format}
 use Rattle.base_image.specs.Formed.{IsWide}
@@ -35,8 +35,8 @@ unsigned : (low : ℕ) (high : ℤ) → low < 2 ^ 64 → IsWord high → cast_un
 unsigned low (pos h) small w = omega (arith, ints)
 unsigned low (negsuc h) small w = omega (arith, ints, small, w.0)
 
-pub wide_halves : (low : ℕ) (high : ℤ) → low < 2 ^ 64 → IsWord high → wide (to_wide (low, high)) ≡ eight low ++ signed high
-unfolding wide eight signed
+pub wide_halves : (low : ℕ) (high : ℤ) → low < 2 ^ 64 → IsWord high → wide (to_wide (low, high)) ≡ eight low ++ signed_bytes high
+unfolding wide eight signed_bytes
 wide_halves low high small w = halves (cast_unsigned w128 (to_wide (low, high))) low (cast_unsigned w64 high) (unsigned low high small w) small
 
 is_wide : (low : ℕ) (high : ℤ) → low < 2 ^ 64 → IsWord high → IsWide (to_wide (low, high))
@@ -65,7 +65,7 @@ both (negsuc n) = omega (arith, ints)
 
 pub wide_exact : IsExact wide IsWide wide_at
 unfolding wide_at
-wide_exact = map_exact to_wide (λ x. eight x.0 ++ signed x.1) (λ x. IsEight x.0 × IsWord x.1) (pair any_eight (λ low. any_word)) wide IsWide
+wide_exact = map_exact to_wide (λ x. eight x.0 ++ signed_bytes x.1) (λ x. IsEight x.0 × IsWord x.1) (pair any_eight (λ low. any_word)) wide IsWide
     (pair_exact _ _ _ _ _ _ (exact any_eight_format) (λ low h. exact any_word_format))
     (record {
       there = λ x h. (is_wide x.0 x.1 h.0 h.1, wide_halves x.0 x.1 h.0 h.1);

@@ -1,7 +1,7 @@
 -- What reading an image answers.
 use Rattle.ts_model.specs.declared.images.Image.{Image}
-use Rattle.base_image.specs.declared.answers.ReadImage.{ReadImage}
-use Rattle.base_image.specs.declared.answers.ReadImage.TheVariants as answers
+use Rattle.base_image.specs.declared.read_outcome.ReadImage.{ReadImage}
+use Rattle.base_image.specs.declared.read_outcome.ReadImage.TheVariants as answers
 
 -- P of an image that was read
 abbrev pub IfImage : ReadImage → (Image → Type 0) → Type 0

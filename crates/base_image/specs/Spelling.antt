@@ -10,37 +10,37 @@ use Rattle.ts_model.specs.declared.images.SavedLast.{SavedLast}
 use Rattle.ts_model.specs.declared.images.SavedView.{SavedView}
 use Rattle.ts_model.specs.declared.images.Sums.{Sums}
 use Rattle.ts_model.specs.declared.refreshes.Waiting.{Waiting}
-use Rattle.event_codec.specs.Spelling.{four, eight, signed, many, value, span, event}
+use Rattle.event_codec.specs.Spelling.{four, eight, signed_bytes, many, value, span, event}
 
 -- a signed number in sixteen bytes, by two's complement, the lowest byte first
 unfoldable pub wide : ℤ → List ℕ
 wide z = to_le_bytes w128 (cast_unsigned w128 z)
 
 -- an event behind the count of its bytes
-abbrev pub framed : Event → List ℕ
-framed e = four (length (event e)) ++ event e
+abbrev pub bytes_of_frame : Event → List ℕ
+bytes_of_frame e = four (length (event e)) ++ event e
 
 abbrev pub sums : Sums → List ℕ
 sums s = eight s.count ++ (eight s.values ++ (wide s.sum ++ (value s.least ++ value s.most)))
 
 -- how many keys and parts a group has, its aggregate tells
 abbrev pub group : SavedGroup → List ℕ
-group g = signed g.start ++ (flat_map value g.keys ++ flat_map sums g.parts)
+group g = signed_bytes g.start ++ (flat_map value g.keys ++ flat_map sums g.parts)
 
 abbrev pub last : SavedLast → List ℕ
 last l = span l.span ++ eight l.pos
 
-abbrev pub saved : SavedView → List ℕ
-saved v = many last v.lasts ++ (many span v.dirty ++ (many group v.groups ++ value v.mark))
+abbrev pub bytes_of_saved_view : SavedView → List ℕ
+bytes_of_saved_view v = many last v.lasts ++ (many span v.dirty ++ (many group v.groups ++ value v.mark))
 
-abbrev pub waiting : Waiting → List ℕ
-waiting w = eight w.cut ++ (four w.view ++ span w.span)
+abbrev pub bytes_of_waiting : Waiting → List ℕ
+bytes_of_waiting w = eight w.cut ++ (four w.view ++ span w.span)
 
-abbrev pub finished : Finished → List ℕ
-finished f = eight f.cut ++ eight f.built
+abbrev pub bytes_of_finished : Finished → List ℕ
+bytes_of_finished f = eight f.cut ++ eight f.built
 
 -- the byte that no event begins with, and all parts in order
 abbrev pub image : Image → List ℕ
 image i =
-    8 ∷ (eight i.pos ++ (many framed i.roster ++ (many framed i.rows
-    ++ (many saved i.views ++ (many waiting i.waiting ++ many finished i.done)))))
+    8 ∷ (eight i.pos ++ (many bytes_of_frame i.roster ++ (many bytes_of_frame i.rows
+    ++ (many bytes_of_saved_view i.views ++ (many bytes_of_waiting i.waiting ++ many bytes_of_finished i.done)))))

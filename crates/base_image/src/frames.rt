@@ -3,7 +3,7 @@ ghost use Rattle.std.specs.Prelude.{◌≡◌};
 ghost use Rattle.event_codec.specs.Reading.{Gives};
 ghost use Rattle.base_image.specs.Formed.{IsFramed};
 ghost use Rattle.base_image.specs.Reading.{frame_body, framed_at};
-ghost use Rattle.base_image.specs.Spelling.{framed};
+ghost use Rattle.base_image.specs.Spelling.{bytes_of_frame};
 
 use crate::parts::Part;
 use crate::shapes::Shape;
@@ -16,7 +16,7 @@ use ts_schema::NoMemory;
 fn read_body(count: u32, reader: &mut Reader<'_>) -> Result<Event, ReadError>
     ensures { Gives result (frame_body count reader.old) reader.new }
 {
-    let left = reader.left();
+    let left = reader.rest();
     if left.len() < count as usize {
         return Err(ReadError::Bad);
     }
@@ -27,7 +27,7 @@ fn read_body(count: u32, reader: &mut Reader<'_>) -> Result<Event, ReadError>
 }
 
 impl Part for Event {
-    ghost spelling = { framed };
+    ghost spelling = { bytes_of_frame };
 
     ghost fits = { IsFramed };
 

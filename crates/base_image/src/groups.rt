@@ -53,7 +53,7 @@ fn put_ends(out: &mut Vec<u8>, sums: &Sums) -> Result<(), NoMemory>
 
 /// The signed number of sixteen bytes whose eight lower bytes are `low` and whose eight upper bytes are
 /// `high`.
-fn joined(low: u64, high: i64) -> i128
+fn join_halves(low: u64, high: i64) -> i128
     ensures { result ≡ to_wide (low, high) }
 {
     i128::from(high) * 18_446_744_073_709_551_616 + i128::from(low)
@@ -66,7 +66,7 @@ fn read_wide(reader: &mut Reader<'_>) -> Result<i128, ReadError>
 {
     let low = reader.eight()?;
     let high = reader.word()?;
-    Ok(joined(low, high))
+    Ok(join_halves(low, high))
 }
 
 /// Reads NULL, or a number.

@@ -7,7 +7,7 @@ ghost use Rattle.event_codec.specs.Spelling.{eight, many};
 ghost use Rattle.base_image.specs.Formed.{IsWritable};
 ghost use Rattle.base_image.specs.Reading.{image_at, roster_at, whole_image};
 ghost use Rattle.base_image.specs.Spelling as spelling;
-ghost use Rattle.base_image.specs.Spelling.{finished, framed, saved, waiting};
+ghost use Rattle.base_image.specs.Spelling.{bytes_of_finished, bytes_of_frame, bytes_of_saved_view, bytes_of_waiting};
 
 use crate::parts::{put_many, read_many};
 use crate::relations::roster_of;
@@ -26,7 +26,7 @@ const IMAGE_KIND: u8 = 8;
 fn put_refreshes(image: &Image, out: &mut Vec<u8>) -> Result<(), NoMemory>
     requires { IsWritable image.now }
     ensures put { OnOk result (out.new.items
-        ≡ out.old.items ++ (many waiting image.now.waiting ++ many finished image.now.done)) }
+        ≡ out.old.items ++ (many bytes_of_waiting image.now.waiting ++ many bytes_of_finished image.now.done)) }
     ensures grows { Grows out.old.items out.new.items }
 {
     put_many(&image.waiting, out)?;
@@ -37,8 +37,8 @@ fn put_refreshes(image: &Image, out: &mut Vec<u8>) -> Result<(), NoMemory>
 #[tactic(auto, using(event_codec::proofs::GrowthLaws::grows_on, std::proofs::lemmas::List::append_assoc))]
 pub(crate) fn put_behind(image: &Image, out: &mut Vec<u8>) -> Result<(), NoMemory>
     requires { IsWritable image.now }
-    ensures put { OnOk result (out.new.items ≡ out.old.items ++ (many saved image.now.views
-        ++ (many waiting image.now.waiting ++ many finished image.now.done))) }
+    ensures put { OnOk result (out.new.items ≡ out.old.items ++ (many bytes_of_saved_view image.now.views
+        ++ (many bytes_of_waiting image.now.waiting ++ many bytes_of_finished image.now.done))) }
     ensures grows { Grows out.old.items out.new.items }
 {
     put_many(&image.views, out)?;
@@ -50,7 +50,7 @@ pub(crate) fn put_behind(image: &Image, out: &mut Vec<u8>) -> Result<(), NoMemor
 pub(crate) fn put_front(image: &Image, out: &mut Vec<u8>) -> Result<(), NoMemory>
     requires { IsWritable image.now }
     ensures put { OnOk result (out.new.items
-        ≡ out.old.items ++ 8 ∷ (eight image.now.pos ++ many framed image.now.roster)) }
+        ≡ out.old.items ++ 8 ∷ (eight image.now.pos ++ many bytes_of_frame image.now.roster)) }
     ensures grows { Grows out.old.items out.new.items }
 {
     out.push(IMAGE_KIND)?;
@@ -74,7 +74,7 @@ fn put_whole(image: &Image, out: &mut Vec<u8>) -> Result<(), NoMemory>
 fn read_kind(reader: &mut Reader<'_>) -> Result<u8, ReadError>
     ensures { Gives result (byte_where (λ b. b == 8) reader.old) reader.new }
 {
-    let [byte, rest @ ..] = reader.left() else {
+    let [byte, rest @ ..] = reader.rest() else {
         return Err(ReadError::Bad);
     };
     if *byte != IMAGE_KIND {
@@ -125,7 +125,7 @@ pub(crate) fn read_whole(reader: &mut Reader<'_>) -> Result<(Image, Roster), Rea
     ensures { Gives result (whole_image reader.old) reader.new }
 {
     let found = read_image(reader)?;
-    if !reader.left().is_empty() {
+    if !reader.rest().is_empty() {
         return Err(ReadError::Bad);
     }
     Ok(found)

@@ -3,35 +3,35 @@
 //! valid image, whose bytes these are and no others.
 #![tactic(auto)]
 
-mod answers;
-mod flows;
+mod capture;
+mod countable_rows;
 mod frames;
+mod group_checks;
 mod groups;
-mod held;
+mod imaged;
 mod images;
 pub mod laws;
-mod makings;
 mod orders;
 mod outlines;
 mod parts;
 mod ranges;
+mod read_outcome;
 mod refreshes;
 mod relations;
+mod roster_events;
+mod row_writers;
 mod searches;
 mod shapes;
 mod sizes;
-mod states;
-mod sums;
-mod takes;
 mod tallies;
 mod validity;
 mod views;
-mod waits;
+mod waiting_checks;
 
-pub use answers::{ReadImage, read};
+pub use capture::take;
+pub use imaged::Imaged;
 pub use images::put;
 pub use outlines::{Outline, outline_of};
+pub use read_outcome::{ReadImage, read};
 pub use sizes::size;
-pub use states::Imaged;
-pub use takes::take;
 pub use tallies::Tally;

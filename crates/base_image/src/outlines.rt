@@ -11,12 +11,12 @@ ghost use Rattle.base_image.specs.Formed.{IsWritable};
 ghost use Rattle.base_image.specs.Outlines.{commits, whole, IsOutline};
 ghost use Rattle.base_image.specs.Spelling as spelling;
 
-use crate::flows::put_commits;
+use crate::capture::saved_views;
+use crate::imaged::Imaged;
 use crate::images::{put_behind, put_front};
-use crate::makings::roster_events;
+use crate::roster_events::roster_events;
+use crate::row_writers::put_commits;
 use crate::sizes::size;
-use crate::states::Imaged;
-use crate::takes::saved_views;
 use crate::tallies::{Tally, bytes_of_commits, table_tallies};
 use std::alloc::Global;
 use ts_model::Image;

@@ -2,7 +2,7 @@
 ghost use Rattle.std.specs.Prelude.{◌≡◌};
 ghost use Rattle.base_image.specs.Formed.{Any};
 ghost use Rattle.base_image.specs.Reading.{finished_at, waiting_at};
-ghost use Rattle.base_image.specs.Spelling.{finished, waiting};
+ghost use Rattle.base_image.specs.Spelling.{bytes_of_finished, bytes_of_waiting};
 
 use crate::parts::Part;
 use crate::shapes::Shape;
@@ -12,7 +12,7 @@ use ts_model::{Finished, Waiting};
 use ts_schema::NoMemory;
 
 impl Part for Waiting {
-    ghost spelling = { waiting };
+    ghost spelling = { bytes_of_waiting };
 
     ghost fits = { Any };
 
@@ -35,7 +35,7 @@ impl Part for Waiting {
 }
 
 impl Part for Finished {
-    ghost spelling = { finished };
+    ghost spelling = { bytes_of_finished };
 
     ghost fits = { Any };
 

@@ -8,7 +8,7 @@ ghost use Rattle.ts_model.specs.Rows.{rows};
 ghost use Rattle.image_laws.specs.Images.{row_events};
 ghost use Rattle.base_image.specs.Outlines.{commit_bytes, commits, span_rows, tallies, tally_of};
 
-use crate::states::Imaged;
+use crate::imaged::Imaged;
 use event_check::bytes_of_rows;
 use std::alloc::Global;
 use ts_bucket::Span;

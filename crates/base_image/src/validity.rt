@@ -7,10 +7,10 @@ ghost use Rattle.ts_model.specs.Saved.{appended_over};
 ghost use Rattle.ts_model.specs.Valid.{image_roster, make_relations, valid, view_kept, views_kept};
 ghost use Rattle.base_image.specs.Held.{is_timed};
 
-use crate::held::{rows_are_held, table_is_marked};
+use crate::countable_rows::{rows_are_held, table_is_marked};
+use crate::group_checks::{groups_are_below, groups_are_fit};
 use crate::ranges::{dirty_are_fit, lasts_are_fit, mark_is_fit};
-use crate::sums::{groups_are_below, groups_are_fit};
-use crate::waits::{finishes_are_fit, waits_are_fit};
+use crate::waiting_checks::{finishes_are_fit, waits_are_fit};
 use ts_model::limits::LAST_POSITION;
 use ts_model::{Event, Image, Roster, SavedView, ViewDef};
 

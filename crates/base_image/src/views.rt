@@ -5,7 +5,7 @@ ghost use Rattle.event_codec.specs.Spelling.{span};
 ghost use Rattle.event_codec.specs.Reading.{Gives, span_at};
 ghost use Rattle.base_image.specs.Formed.{Any, HasCounts};
 ghost use Rattle.base_image.specs.Reading.{last_at, saved_at, saved_each, views_at};
-ghost use Rattle.base_image.specs.Spelling.{last, saved};
+ghost use Rattle.base_image.specs.Spelling.{last, bytes_of_saved_view};
 
 use crate::groups::{put_value, read_value};
 use crate::parts::{Part, put_many, read_many};
@@ -70,7 +70,7 @@ impl Part for SavedLast {
 }
 
 impl Part for SavedView {
-    ghost spelling = { saved };
+    ghost spelling = { bytes_of_saved_view };
 
     ghost fits = { HasCounts };
 

@@ -18,5 +18,5 @@ abbrev pub room_of : ℕ → ℕ → ℕ
 room_of len capacity = min capacity block_len - len
 
 -- the items of a list with new ones in place of those from one place on and below another
-abbrev pub spliced : {X : Type 0} → ℕ → ℕ → List X → List X → List X
-spliced from to new old = take from old ++ new ++ drop to old
+abbrev pub splice : {X : Type 0} → ℕ → ℕ → List X → List X → List X
+splice from to new old = take from old ++ new ++ drop to old

@@ -4,9 +4,9 @@ ghost use Rattle.std.specs.Arc.{arc_value};
 ghost use Rattle.block_list.specs.Blocks.{IsRun, block_len};
 
 use crate::blocks::{BLOCK_LEN, Block};
+use crate::inner_nodes::{Blocks, InnerNode, NodeBuilder, SHELF_LEN};
 use crate::lists::BlockList;
 use crate::parts::Items;
-use crate::shelves::{Blocks, Closed, SHELF_LEN, Shelf};
 use std::alloc::Global;
 use std::marker::Model;
 use std::mem;
@@ -18,7 +18,7 @@ use ts_schema::NoMemory;
 #[derive(Drop, Debug)]
 pub struct Builder<T> {
     alloc: Global,
-    closed: Closed<T>,
+    closed: NodeBuilder<T>,
     newest: Vec<T>,
 }
 
@@ -40,7 +40,7 @@ impl<T: Clone + Drop> Builder<T> {
     {
         Builder {
             alloc,
-            closed: Closed::new(alloc),
+            closed: NodeBuilder::new(alloc),
             newest: Vec::new(alloc),
         }
     }
@@ -83,7 +83,7 @@ impl<T: Clone + Drop> Builder<T> {
     }
 
     /// Appends the items of a shelf, which is shared.
-    fn push_shelf(&mut self, shelf: &Arc<Shelf<T>>) -> Result<(), NoMemory>
+    fn push_shelf(&mut self, shelf: &Arc<InnerNode<T>>) -> Result<(), NoMemory>
         ensures pushed { IfOk result (λ _. self.new ≡ self.old ++ arc_value shelf.now) }
     {
         close_block(self.alloc, &mut self.closed, &mut self.newest)?;
@@ -92,7 +92,7 @@ impl<T: Clone + Drop> Builder<T> {
 
     /// Whether a shelf's blocks are appended one by one, and it isn't shared. The shelf after it has so
     /// many blocks.
-    fn opens(&self, shelf: &Shelf<T>, after: usize) -> bool {
+    fn opens(&self, shelf: &InnerNode<T>, after: usize) -> bool {
         let newest = usize::from(!self.newest.is_empty());
         let before = self.closed.open_blocks().saturating_add(newest);
         is_merged(before, shelf.count(), after, SHELF_LEN)
@@ -181,7 +181,7 @@ impl<T: Clone + Drop> Builder<T> {
             closed,
             newest,
         } = self;
-        let blocks = closed.shared()?;
+        let blocks = closed.share()?;
         Ok((blocks, Arc::new(alloc, Block::of(newest))?))
     }
 }
@@ -189,7 +189,7 @@ impl<T: Clone + Drop> Builder<T> {
 /// Makes a block of the newest items, so that none is left.
 fn close_block<T: Drop>(
     alloc: Global,
-    closed: &mut Closed<T>,
+    closed: &mut NodeBuilder<T>,
     newest: &mut Vec<T>,
 ) -> Result<(), NoMemory>
     requires { vec_len newest.old ≤ block_len }

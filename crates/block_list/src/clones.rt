@@ -14,7 +14,7 @@ pub(crate) fn push_clones<T: Clone>(items: &mut Vec<T>, more: &[T]) -> Result<()
 }
 
 /// Two lists of items again, one after the other.
-pub(crate) fn joined<T: Clone + Drop>(
+pub(crate) fn concat<T: Clone + Drop>(
     alloc: Global,
     first: &[T],
     second: &[T],

@@ -4,7 +4,7 @@
 //!
 //! - `blocks`: blocks of items.
 //! - `parts`: parts of a list, as blocks of a shelf or shelves, and where each of them begins.
-//! - `shelves`: blocks on shelves, growing and shared.
+//! - `inner_nodes`: blocks on shelves, growing and shared.
 //! - `lists`: lists, and one more item without memory.
 //! - `runs`: items of a list from a place on.
 //! - `builders`: lists made of runs of others and of new items.
@@ -15,11 +15,11 @@
 mod blocks;
 mod builders;
 mod clones;
+mod inner_nodes;
 mod iter;
 mod lists;
 mod parts;
 mod runs;
-mod shelves;
 mod slices;
 
 pub use blocks::BLOCK_LEN;

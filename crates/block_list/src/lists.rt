@@ -2,14 +2,14 @@
 ghost use Rattle.std.specs.Prelude.{◌≡◌, ◌==◌, ◌+◌, ◌-◌, ◌^◌, ◌<◌, ◌≤◌, [], ◌∷◌, ◌++◌, length, take, drop, slice_index_or, vec_len, vec_capacity, IfOk, IfSome, OnOk, OnErr};
 ghost use Rattle.std.specs.Arc.{arc_value};
 ghost use Rattle.block_list.specs.Blocks.{IsRun, IsRunFrom, block_len, shared_if};
-ghost use Rattle.block_list.specs.Lists.{room_of, spliced};
+ghost use Rattle.block_list.specs.Lists.{room_of, splice};
 
 use crate::blocks::{BLOCK_LEN, Block};
 use crate::builders::Builder;
-use crate::clones::joined;
+use crate::clones::concat;
+use crate::inner_nodes::{Blocks, InnerNode};
 use crate::iter::Iter;
 use crate::runs::{block_in, copy_if, items_if, run_in};
-use crate::shelves::{Blocks, Shelf};
 use crate::slices::Slice;
 use std::alloc::Global;
 use std::marker::Model;
@@ -19,7 +19,7 @@ use ts_schema::NoMemory;
 /// A list of items in blocks of at most 64, which stand on shelves of at most 64. Contracts see it as
 /// the list of its items, and for how many more there is room.
 ///
-/// Its shelves are shared with its copies. What was pushed since it was last `shared` is its own
+/// Its shelves are shared with its copies. What was pushed since it was last `share` is its own
 /// alone, and a copy copies that.
 #[derive(Drop, Debug)]
 pub struct BlockList<T> {
@@ -125,7 +125,7 @@ impl<T> BlockList<T> {
 
 impl<T: Clone + Drop> BlockList<T> {
     /// The same list again. It is a count, but for the items that were pushed since the list was
-    /// last `shared`. Its room may differ.
+    /// last `share`. Its room may differ.
     pub fn copy(&self) -> Result<BlockList<T>, NoMemory>
         requires faithful { (x y : T) → T.is_clone x y → x ≡ y }
         ensures items { IfOk result (λ copy. copy.items ≡ self.now.items) }
@@ -134,7 +134,7 @@ impl<T: Clone + Drop> BlockList<T> {
             alloc: self.alloc,
             blocks: self.blocks.copy()?,
             newest: copy_if(&self.newest)?,
-            own: joined(self.alloc, &self.own, &[])?,
+            own: concat(self.alloc, &self.own, &[])?,
         })
     }
 
@@ -152,7 +152,7 @@ impl<T: Clone + Drop> BlockList<T> {
     /// The same list, all of whose items are shared from here on, so that a copy of it is a count.
     /// It costs a block, and once in a block of new items the blocks of the last shelf and the number
     /// of shelves too.
-    pub fn shared(&self) -> Result<BlockList<T>, NoMemory>
+    pub fn share(&self) -> Result<BlockList<T>, NoMemory>
         requires faithful { (x y : T) → T.is_clone x y → x ≡ y }
         ensures items { IfOk result (λ shared. shared.items ≡ self.now.items) }
     {
@@ -162,7 +162,7 @@ impl<T: Clone + Drop> BlockList<T> {
         let alloc = self.alloc;
         let newest = items_if(&self.newest);
         if newest.len() + self.own.len() <= BLOCK_LEN {
-            let items = joined(alloc, newest, &self.own)?;
+            let items = concat(alloc, newest, &self.own)?;
             let block = Arc::new(alloc, Block::of(items))?;
             return Ok(BlockList::of_blocks(alloc, self.blocks.copy()?, block));
         }
@@ -225,11 +225,11 @@ impl<T: Clone + Drop> BlockList<T> {
     /// The list with these items in place of those from place `from` on and below place `to`. It
     /// costs the items of the blocks at both places, the new items, the blocks of the shelves at both
     /// places and beside them, and the number of shelves.
-    pub fn replaced(&self, from: usize, to: usize, items: &[T]) -> Result<BlockList<T>, NoMemory>
+    pub fn replace(&self, from: usize, to: usize, items: &[T]) -> Result<BlockList<T>, NoMemory>
         requires order { from ≤ to }
         requires within { to ≤ length self.now.items }
         requires faithful { (x y : T) → T.is_clone x y → x ≡ y }
-        ensures items { IfOk result (λ list. list.items ≡ spliced from to items.now self.now.items) }
+        ensures items { IfOk result (λ list. list.items ≡ splice from to items.now self.now.items) }
     {
         let mut made = Builder::new(self.alloc);
         made.append(self, 0, from)?;
@@ -241,7 +241,7 @@ impl<T: Clone + Drop> BlockList<T> {
 
 impl<T> BlockList<T> {
     /// The shelf that begins at place `at` and ends at or before `end`, if one does.
-    pub(crate) fn shelf_at(&self, at: usize, end: usize) -> Option<&Arc<Shelf<T>>>
+    pub(crate) fn shelf_at(&self, at: usize, end: usize) -> Option<&Arc<InnerNode<T>>>
         requires { at ≤ end }
         ensures { IfSome result (λ shelf. IsRun self.now.items at end (arc_value shelf.now)) }
     {

@@ -4,8 +4,8 @@ ghost use Rattle.std.specs.Arc.{arc_value};
 ghost use Rattle.block_list.specs.Blocks.{IsRun, IsRunFrom, shared_if};
 
 use crate::blocks::Block;
+use crate::inner_nodes::Blocks;
 use crate::parts::Items;
-use crate::shelves::Blocks;
 use std::sync::Arc;
 use ts_schema::NoMemory;
 

@@ -118,6 +118,13 @@ values_of (c ∷ cs) (v ∷ vs) e =
     let rest = values_of cs vs parts.1 in
     (ap suc rest.0, (fitting_value c v parts.0, rest.1))
 
+-- so the time column is one of the row's
+pub place_of_fitting : (def : TableDef) (hyper : Hyper) (row : Row) → hyper.at < length def.cols → row_fits def hyper row ≡ true → hyper.at ≤ length row.vals
+place_of_fitting def hyper row there e =
+    let parts = and_parts (is_time row.at) (values_fit (remove def.cols hyper.at) row.vals) e in
+    let values = values_of (remove def.cols hyper.at) row.vals parts.1 in
+    omega (arith, values.0, length-remove def.cols hyper.at there)
+
 fitting_row : (def : TableDef) (hyper : Hyper) (row : Row) → hyper.at < length def.cols → row_fits def hyper row ≡ true → ShowARow hyper.at (all_columns hyper.at row)
 fitting_row def hyper row there e =
     let parts = and_parts (is_time row.at) (values_fit (remove def.cols hyper.at) row.vals) e in
@@ -125,7 +132,7 @@ fitting_row def hyper row there e =
     record {
       row = row;
       columns = refl;
-      place = omega (arith, values.0, length-remove def.cols hyper.at there);
+      place = place_of_fitting def hyper row there e;
       time = parts.0;
       values = values.1;
     }

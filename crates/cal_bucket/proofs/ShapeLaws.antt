@@ -21,8 +21,8 @@ use Rattle.group_fold.specs.Grouping.{row_group, row_parts}
 use Rattle.cell_groups.specs.declared.shapes.Shape.{Shape}
 use Rattle.cell_groups.specs.Cells.{cells_pass}
 use Rattle.cell_groups.specs.Groups.{keys_at, rows_shown}
-use Rattle.cell_groups.specs.Kept.{needed, needed_parts, row_needs}
-use Rattle.cell_groups.specs.Taken.{with_rows}
+use Rattle.cell_groups.specs.KeptSummaries.{needed_summary, needed_parts, row_needs}
+use Rattle.cell_groups.specs.TakenRows.{with_rows}
 use Rattle.cell_groups.proofs.Shown.{StandFor, gathered_show}
 use Rattle.cal_bucket.specs.declared.plans.CalPlan.{CalPlan}
 use Rattle.cal_bucket.specs.Answers.{plan_rows}
@@ -106,8 +106,8 @@ module _ (at : ℕ) (cells : List Datum) (shown : ShowARow at cells) where
     parts_stand : (aggs : List Agg) → row_needs (map (agg_among at) aggs) cells ≡ needed_parts (map (agg_among at) aggs) (row_parts (map next_agg aggs) (moved name (row_shown at cells)))
     parts_stand [] = refl
     parts_stand (a ∷ aggs) =
-        ap (λ v. needed a.fun (summary (v ∷ [])) ∷ row_needs (map (agg_among at) aggs) cells) (cell_moved a.col)
-        ∙ ap (λ ps. needed a.fun (summary (field_of (moved name (row_shown at cells)) (a.col + 1) ∷ [])) ∷ ps) (parts_stand aggs)
+        ap (λ v. needed_summary a.fun (summary (v ∷ [])) ∷ row_needs (map (agg_among at) aggs) cells) (cell_moved a.col)
+        ∙ ap (λ ps. needed_summary a.fun (summary (field_of (moved name (row_shown at cells)) (a.col + 1) ∷ [])) ∷ ps) (parts_stand aggs)
 
     tests_stand : (tests : List Test) → cells_pass (map (test_among at) tests) cells ≡ passes_all (moved name (row_shown at cells)) (map next_test tests)
     tests_stand [] = refl

@@ -4,9 +4,9 @@ ghost use Rattle.std.specs.List.{AllByRecursion};
 ghost use Rattle.cell_groups.specs.Cells.{cells_pass};
 ghost use Rattle.cell_groups.specs.Groups.{as_groups, cells_at};
 ghost use Rattle.cell_groups.specs.Room.{AreOfRows, ShowWords};
-ghost use Rattle.cell_groups.specs.Taken.{AreGathered, taken_in, with_rows};
+ghost use Rattle.cell_groups.specs.TakenRows.{AreGathered, taken_in, with_rows};
 ghost use Rattle.group_fold.specs.Merging.{with_group};
-ghost use Rattle.group_fold.specs.Gathering.{ordered};
+ghost use Rattle.group_fold.specs.Gathering.{in_group_order};
 ghost use Rattle.ts_model.specs.Results.{row_cells};
 ghost use Rattle.cal_bucket.specs.Buckets.{IsNumber};
 ghost use Rattle.cal_bucket.specs.Named.{NamesItsTimes};
@@ -31,7 +31,7 @@ pub(crate) fn gather<'a>(
 ) -> Result<CellGroups<'a>, NoMemory>
     requires number { IsNumber plan.now.number }
     requires shown { AllByRecursion (ShowARow plan.now.at) lower.now }
-    ensures groups { IfOk result (λ gathered. ordered (as_groups shape.now gathered.groups.items)
+    ensures groups { IfOk result (λ gathered. in_group_order (as_groups shape.now gathered.groups.items)
         ≡ with_rows (cells_pass tests.now) (named_group plan.now shape.now) lower.now []) }
     ensures gathered { IfOk result (λ gathered. AreGathered shape.now gathered) }
     ensures few { IfOk result (λ gathered. AreOfRows (length lower.now) (as_groups shape.now gathered.groups.items)) }
@@ -63,9 +63,9 @@ fn take_row<'a>(
     requires gathered { AreGathered shape.now gathered.old }
     requires room { AreOfRows (2 ^ 64 - 2) (as_groups shape.now gathered.old.groups.items) }
     ensures names { NamesItsTimes plan.now.unit plan.now.number bucket.new }
-    ensures groups { OnOk result (ordered (as_groups shape.now gathered.new.groups.items)
+    ensures groups { OnOk result (in_group_order (as_groups shape.now gathered.new.groups.items)
         ≡ taken_in (cells_pass tests.now) (named_group plan.now shape.now) (row_cells row.entry)
-        (ordered (as_groups shape.now gathered.old.groups.items))) }
+        (in_group_order (as_groups shape.now gathered.old.groups.items))) }
     ensures gathered { OnOk result (AreGathered shape.now gathered.new) }
     ensures few { (n : ℕ) → AreOfRows n (as_groups shape.now gathered.old.groups.items)
         → OnOk result (AreOfRows (n + 1) (as_groups shape.now gathered.new.groups.items)) }
@@ -90,8 +90,8 @@ fn take_words<'a>(
     requires words { ShowWords cells }
     requires gathered { AreGathered shape.now gathered.old }
     requires room { AreOfRows (2 ^ 64 - 2) (as_groups shape.now gathered.old.groups.items) }
-    ensures groups { OnOk result (ordered (as_groups shape.now gathered.new.groups.items)
-        ≡ with_group (cells_at shape.now start cells.entry) (ordered (as_groups shape.now gathered.old.groups.items))) }
+    ensures groups { OnOk result (in_group_order (as_groups shape.now gathered.new.groups.items)
+        ≡ with_group (cells_at shape.now start cells.entry) (in_group_order (as_groups shape.now gathered.old.groups.items))) }
     ensures gathered { OnOk result (AreGathered shape.now gathered.new) }
     ensures few { (n : ℕ) → AreOfRows n (as_groups shape.now gathered.old.groups.items)
         → OnOk result (AreOfRows (n + 1) (as_groups shape.now gathered.new.groups.items)) }

@@ -9,45 +9,45 @@ use Rattle.partial_agg.specs.declared.groups.Group.{Group}
 use Rattle.partial_agg.specs.Groups.{AreInOrder, group_cmp}
 use Rattle.partial_agg.specs.Summaries.{Summary}
 use Rattle.partial_agg.proofs.GroupLaws.{group_cmp-place}
-use Rattle.group_fold.specs.Gathering.{IsAt, ordered}
-use Rattle.group_fold.specs.Merging.{joined_parts, merged, with_group, with_groups}
+use Rattle.group_fold.specs.Gathering.{IsAt, in_group_order}
+use Rattle.group_fold.specs.Merging.{joined_parts, merge_of, with_group, with_groups}
 use Rattle.group_fold.proofs.Gathers.{none_in_order}
 use Rattle.group_fold.proofs.Insertions.{equal_back, joined_parts_comm, with_group-commutes, with_group-twice}
-use Rattle.cell_groups.specs.declared.gathers.CellGroups.{CellGroups}
+use Rattle.cell_groups.specs.declared.group_lookup.CellGroups.{CellGroups}
 use Rattle.cell_groups.specs.declared.groups.CellGroup.{CellGroup}
 use Rattle.cell_groups.specs.declared.shapes.Shape.{Shape}
 use Rattle.cell_groups.specs.declared.tallies.Tally.{Tally}
 use Rattle.cell_groups.specs.Groups.{HaveTallies, as_group, as_groups, cells_at, keys_at, parts_of}
-use Rattle.cell_groups.specs.Kept.{as_parts, row_needs, row_tallies}
+use Rattle.cell_groups.specs.KeptSummaries.{as_parts, row_needs, row_tallies}
 use Rattle.cell_groups.specs.Room.{AreOfRows, CanBeKept, ShowWords}
-use Rattle.cell_groups.specs.Taken.{AreGathered, ComesLast, IsRowAt, taken_in, with_rows}
-use Rattle.cell_groups.proofs.Kept.{as_row}
+use Rattle.cell_groups.specs.TakenRows.{AreGathered, ComesLast, IsRowAt, taken_in, with_rows}
+use Rattle.cell_groups.proofs.KeptSummaries.{as_row}
 use Rattle.cell_groups.proofs.Room.{row_kept, row_taken, row_words, rows_pushed, rows_set}
 use Rattle.cell_groups.proofs.Sorting.{order_last, order_set}
 
 -- ---- one more group
 
-pub ordered-push : (gs : List Group) (g : Group) → ordered (gs ++ g ∷ []) ≡ with_group g (ordered gs)
+pub ordered-push : (gs : List Group) (g : Group) → in_group_order (gs ++ g ∷ []) ≡ with_group g (in_group_order gs)
 ordered-push [] g = refl
-ordered-push (x ∷ gs) g = ap (with_group x) (ordered-push gs g) ∙ with_group-commutes x g (ordered gs)
+ordered-push (x ∷ gs) g = ap (with_group x) (ordered-push gs g) ∙ with_group-commutes x g (in_group_order gs)
 
-ordered-set : (gs : List Group) (at : ℕ) (g d : Group) → at < length gs → group_cmp (get_or gs at d) g ≡ Equal → ordered (set gs at (merged g (get_or gs at d))) ≡ with_group g (ordered gs)
+ordered-set : (gs : List Group) (at : ℕ) (g d : Group) → at < length gs → group_cmp (get_or gs at d) g ≡ Equal → in_group_order (set gs at (merge_of g (get_or gs at d))) ≡ with_group g (in_group_order gs)
 ordered-set [] at g d h e = absurd (omega (arith, h))
-ordered-set (x ∷ gs) zero g d h e = with_group-twice g x (ordered gs) (equal_back x g e)
-ordered-set (x ∷ gs) (suc at) g d h e = ap (with_group x) (ordered-set gs at g d (omega (arith, h)) e) ∙ with_group-commutes x g (ordered gs)
+ordered-set (x ∷ gs) zero g d h e = with_group-twice g x (in_group_order gs) (equal_back x g e)
+ordered-set (x ∷ gs) (suc at) g d h e = ap (with_group x) (ordered-set gs at g d (omega (arith, h)) e) ∙ with_group-commutes x g (in_group_order gs)
 
 -- a group that has taken in another of its place is that other merged with it
-pub added_is_merged : (g old new : Group) → group_cmp old g ≡ Equal → new.start ≡ old.start → new.keys ≡ old.keys → new.parts ≡ joined_parts old.parts g.parts → new ≡ merged g old
+pub added_is_merged : (g old new : Group) → group_cmp old g ≡ Equal → new.start ≡ old.start → new.keys ≡ old.keys → new.parts ≡ joined_parts old.parts g.parts → new ≡ merge_of g old
 added_is_merged g old new e start keys parts =
     let place = group_cmp-place old g e in
     let made : ℤ → List (Option ℤ) → List Summary → Group = λ s ks ps. record { start = s; keys = ks; parts = ps } in
     ap (λ s. made s new.keys new.parts) (start ∙ place.0) ∙ ap (λ ks. made g.start ks new.parts) (keys ∙ place.1) ∙ ap (λ ps. made g.start g.keys ps) (parts ∙ joined_parts_comm old.parts g.parts)
 
-pub ordered-taken : (g : Group) (gs : List Group) (at : ℕ) (old new : Group) → IsAt g gs at → old ≡ get_or gs at old → new.start ≡ old.start → new.keys ≡ old.keys → new.parts ≡ joined_parts old.parts g.parts → ordered (set gs at new) ≡ with_group g (ordered gs)
+pub ordered-taken : (g : Group) (gs : List Group) (at : ℕ) (old new : Group) → IsAt g gs at → old ≡ get_or gs at old → new.start ≡ old.start → new.keys ≡ old.keys → new.parts ≡ joined_parts old.parts g.parts → in_group_order (set gs at new) ≡ with_group g (in_group_order gs)
 ordered-taken g gs at old new place is start keys parts =
     let tied : group_cmp old g ≡ Equal = ap (λ x. group_cmp x g) is ∙ place.same old in
-    let whole : new ≡ merged g (get_or gs at old) = added_is_merged g old new tied start keys parts ∙ ap (merged g) is in
-    ap (λ x. ordered (set gs at x)) whole ∙ ordered-set gs at g old place.within (place.same old)
+    let whole : new ≡ merge_of g (get_or gs at old) = added_is_merged g old new tied start keys parts ∙ ap (merge_of g) is in
+    ap (λ x. in_group_order (set gs at x)) whole ∙ ordered-set gs at g old place.within (place.same old)
 
 -- ---- rows one after another
 
@@ -75,19 +75,19 @@ module _ (shape : Shape) (b : ℤ) (cells : List Datum) (gs : List CellGroup) wh
   -- a row in its group
   pub ordered-row : (at : ℕ) (was now : CellGroup) → IsRowAt shape b cells gs at → was ≡ get_or gs at was
       → now.start ≡ was.start → now.first ≡ was.first → parts_of shape.aggs now ≡ joined_parts (parts_of shape.aggs was) (as_parts shape.aggs (row_tallies shape.aggs cells))
-      → ordered (as_groups shape (set gs at now)) ≡ with_group (cells_at shape b cells) (ordered (as_groups shape gs))
+      → in_group_order (as_groups shape (set gs at now)) ≡ with_group (cells_at shape b cells) (in_group_order (as_groups shape gs))
   ordered-row at was now place is start first parts =
       let before : as_group shape was ≡ get_or (as_groups shape gs) at (as_group shape was) = ap (as_group shape) is ∙ sym (get_or-map (as_group shape) gs at was (as_group shape was) place.within) in
-      ap ordered (map-set (as_group shape) gs at now)
+      ap in_group_order (map-set (as_group shape) gs at now)
       ∙ ordered-taken (cells_at shape b cells) (as_groups shape gs) at (as_group shape was) (as_group shape now) (place_kept at was place) before start (ap (keys_at shape.keys) first)
       (parts ∙ ap (joined_parts (parts_of shape.aggs was)) (as_row shape.aggs cells))
 
   -- the group of a row, behind the others
-  pub ordered-new : (g : CellGroup) → as_group shape g ≡ cells_at shape b cells → ordered (as_groups shape (gs ++ g ∷ [])) ≡ with_group (cells_at shape b cells) (ordered (as_groups shape gs))
+  pub ordered-new : (g : CellGroup) → as_group shape g ≡ cells_at shape b cells → in_group_order (as_groups shape (gs ++ g ∷ [])) ≡ with_group (cells_at shape b cells) (in_group_order (as_groups shape gs))
   ordered-new g is =
-      ap ordered (map-append (as_group shape) gs (g ∷ []))
+      ap in_group_order (map-append (as_group shape) gs (g ∷ []))
       ∙ ordered-push (as_groups shape gs) (as_group shape g)
-      ∙ ap (λ x. with_group x (ordered (as_groups shape gs))) is
+      ∙ ap (λ x. with_group x (in_group_order (as_groups shape gs))) is
 
   -- groups that are in order stay so
   pub order-row : (at : ℕ) (was now : CellGroup) → IsRowAt shape b cells gs at → was ≡ get_or gs at was → now.start ≡ was.start → now.first ≡ was.first

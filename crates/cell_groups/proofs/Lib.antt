@@ -1,6 +1,6 @@
 pub mod CellLaws
 pub mod Gathering
-pub mod Kept
+pub mod KeptSummaries
 pub mod Room
 pub mod Shown
 pub mod Sorting

@@ -15,22 +15,22 @@ use Rattle.ts_num.specs.declared.values.Fun.TheVariants.{CountAll, Count, Sum, M
 use Rattle.ts_model.specs.declared.views.Agg.{Agg}
 use Rattle.partial_agg.specs.declared.groups.Group.{Group}
 use Rattle.partial_agg.specs.Groups.{group_cmp}
-use Rattle.partial_agg.specs.Summaries.{Summary, joined, summary}
-use Rattle.group_fold.specs.Merging.{joined_parts, merged, with_group}
+use Rattle.partial_agg.specs.Summaries.{Summary, summary_of_both, summary}
+use Rattle.group_fold.specs.Merging.{joined_parts, merge_of, with_group}
 use Rattle.group_fold.proofs.AnyOrder.{gathered, gathered-permuted}
 use Rattle.group_fold.proofs.Insertions.{by_order}
 use Rattle.partial_agg.specs.Summaries.{value_of}
 use Rattle.ts_model.specs.Results.{cell_at}
 use Rattle.group_fold.proofs.Parts.{part_before}
 use Rattle.cell_groups.specs.declared.tallies.Tally.{Tally}
-use Rattle.cell_groups.specs.Kept.{as_part, as_parts, needed, row_needs}
+use Rattle.cell_groups.specs.KeptSummaries.{as_part, as_parts, needed_summary, row_needs}
 use Rattle.cell_groups.specs.Room.{AreOfRows, CanBeKept, IsOfWords, IsWordOrNone, ShowWords, taken_by, taken_by_all}
-use Rattle.cell_groups.proofs.Kept.{as_parts-at, length-as_parts}
+use Rattle.cell_groups.proofs.KeptSummaries.{as_parts-at, length-as_parts}
 use Rattle.cell_groups.proofs.Sorting.{all_permuted, all_push, all_set}
 
 -- ---- parts
 
-words_joined : (p q : Summary) → IsOfWords p → IsOfWords q → IsOfWords (joined p q)
+words_joined : (p q : Summary) → IsOfWords p → IsOfWords q → IsOfWords (summary_of_both p q)
 words_joined p q h k = record {
   low = omega (arith, ints, h.low, k.low);
   high = omega (arith, ints, h.high, k.high);
@@ -63,7 +63,7 @@ all_kept n (p ∷ ps) few most words = (
 )
 
 -- where all parts can be kept so can each
-kept_at : (ps qs : List Summary) (k : ℕ) (d e : Summary) → k < length ps → length ps ≡ length qs → AllByRecursion CanBeKept (joined_parts ps qs) → CanBeKept (joined (get_or ps k d) (get_or qs k e))
+kept_at : (ps qs : List Summary) (k : ℕ) (d e : Summary) → k < length ps → length ps ≡ length qs → AllByRecursion CanBeKept (joined_parts ps qs) → CanBeKept (summary_of_both (get_or ps k d) (get_or qs k e))
 kept_at [] qs k d e h same all = absurd (omega (arith, h))
 kept_at (p ∷ ps) [] k d e h same all = absurd (omega (arith, same))
 kept_at (p ∷ ps) (q ∷ qs) zero d e h same all = all.0
@@ -71,7 +71,7 @@ kept_at (p ∷ ps) (q ∷ qs) (suc k) d e h same all = kept_at ps qs k d e (omeg
 
 pub tally_kept : (aggs : List Agg) (mine theirs now : List Tally) (i : ℕ) (a : Agg) (none old : Tally) → length mine ≡ length aggs → length theirs ≡ length aggs → length now ≡ length aggs
     → as_parts aggs now ≡ take i (joined_parts (as_parts aggs mine) (as_parts aggs theirs)) ++ drop i (as_parts aggs mine) → i < length aggs → old ≡ get_or now i old
-    → AllByRecursion CanBeKept (joined_parts (as_parts aggs mine) (as_parts aggs theirs)) → CanBeKept (joined (as_part (get_or aggs i a).fun old) (as_part (get_or aggs i a).fun (get_or theirs i none)))
+    → AllByRecursion CanBeKept (joined_parts (as_parts aggs mine) (as_parts aggs theirs)) → CanBeKept (summary_of_both (as_part (get_or aggs i a).fun old) (as_part (get_or aggs i a).fun (get_or theirs i none)))
 tally_kept aggs mine theirs now i a none old e f g is h was all =
     let part = as_part (get_or aggs i a).fun in
     let many = length-as_parts aggs mine e in
@@ -79,7 +79,7 @@ tally_kept aggs mine theirs now i a none old e f g is h was all =
     let before : part old ≡ get_or (as_parts aggs mine) i (part old) =
     ap part was ∙ sym (as_parts-at aggs now i a old (part old) h g) ∙ part_before i (as_parts aggs mine) (as_parts aggs theirs) (as_parts aggs now) (part old) same is (omega (arith, h, many)) in
     let added : part (get_or theirs i none) ≡ get_or (as_parts aggs theirs) i (part old) = sym (as_parts-at aggs theirs i a none (part old) h f) in
-    subst CanBeKept (sym (ap (λ p. joined p (part (get_or theirs i none))) before ∙ ap (joined (get_or (as_parts aggs mine) i (part old))) added))
+    subst CanBeKept (sym (ap (λ p. summary_of_both p (part (get_or theirs i none))) before ∙ ap (summary_of_both (get_or (as_parts aggs mine) i (part old))) added))
     (kept_at (as_parts aggs mine) (as_parts aggs theirs) i (part old) (part old) (omega (arith, h, many)) same all)
 
 -- ---- the parts of one row
@@ -89,7 +89,7 @@ value_at [] c h = tt
 value_at (v ∷ vs) zero h = h.0
 value_at (v ∷ vs) (suc c) h = value_at vs c h.1
 
-sum_words : (v : Option ℤ) → IsWordOrNone v → IsOfWords (needed Sum (summary (v ∷ [])))
+sum_words : (v : Option ℤ) → IsWordOrNone v → IsOfWords (needed_summary Sum (summary (v ∷ [])))
 sum_words None h = record { low = omega (arith, ints); high = omega (arith, ints) }
 sum_words (Some x) h =
     let parts = and_parts (int_le least x) (int_le x greatest) h in
@@ -103,7 +103,7 @@ no_sum n = omega (arith, ints)
 no_sum_above : (n : ℕ) → pos 0 ≤ℤ pos (2 ^ 63 * n)
 no_sum_above n = omega (arith, ints)
 
-cell_words : (fun : Fun) (v : Option ℤ) → IsWordOrNone v → IsOfWords (needed fun (summary (v ∷ [])))
+cell_words : (fun : Fun) (v : Option ℤ) → IsWordOrNone v → IsOfWords (needed_summary fun (summary (v ∷ [])))
 cell_words CountAll v h = record { low = no_sum 0; high = no_sum_above 0 }
 cell_words Count v h = sum_words v h
 cell_words Sum v h = sum_words v h
@@ -119,7 +119,7 @@ one_value : (v : Option ℤ) → (summary (v ∷ [])).values ≤ 1
 one_value None = omega arith
 one_value (Some x) = omega arith
 
-cell_counts : (fun : Fun) (v : Option ℤ) → (needed fun (summary (v ∷ []))).count + (needed fun (summary (v ∷ []))).values ≤ 1
+cell_counts : (fun : Fun) (v : Option ℤ) → (needed_summary fun (summary (v ∷ []))).count + (needed_summary fun (summary (v ∷ []))).values ≤ 1
 cell_counts CountAll v = omega arith
 cell_counts Count v = omega (arith, one_value v)
 cell_counts Sum v = omega (arith, one_value v)
@@ -191,7 +191,7 @@ taken_by-with_group g (h ∷ hs) =
     let rest = more_taken h hs in
     by_order (group_cmp g h)
     (λ e. rw e (let all = more_taken g (h ∷ hs) in omega (arith, all)))
-    (λ e. rw e (let all = more_taken (merged g h) hs in omega (arith, all, rest, taken_by-joined g.parts h.parts)))
+    (λ e. rw e (let all = more_taken (merge_of g h) hs in omega (arith, all, rest, taken_by-joined g.parts h.parts)))
     (λ e. rw e (let all = more_taken h (with_group g hs) in omega (arith, all, rest, taken_by-with_group g hs)))
 
 words-with_group : (g : Group) (hs : List Group) → AllByRecursion IsOfWords g.parts → AllByRecursion (λ x. AllByRecursion IsOfWords x.parts) hs → AllByRecursion (λ x. AllByRecursion IsOfWords x.parts) (with_group g hs)

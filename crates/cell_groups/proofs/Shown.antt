@@ -14,15 +14,15 @@ use Rattle.ts_model.specs.declared.views.Fold.{Fold}
 use Rattle.ts_model.specs.Groups.{cells_of, groups_of, shown_each}
 use Rattle.ts_model.specs.Scratch.{fold_rows}
 use Rattle.partial_agg.specs.declared.groups.Group.{Group}
-use Rattle.partial_agg.specs.Summaries.{Summary, shown}
+use Rattle.partial_agg.specs.Summaries.{Summary, datum_of}
 use Rattle.group_fold.specs.Grouping.{row_group}
-use Rattle.group_fold.specs.Merging.{taken, with_group}
+use Rattle.group_fold.specs.Merging.{groups_with_row, with_group}
 use Rattle.group_fold.proofs.RowGroups.{groups_of-more}
 use Rattle.group_fold.proofs.Scratches.{groups_show_scratch}
 use Rattle.cell_groups.specs.declared.shapes.Shape.{Shape}
 use Rattle.cell_groups.specs.Groups.{needed_group, rows_shown}
-use Rattle.cell_groups.specs.Taken.{taken_in, with_rows}
-use Rattle.cell_groups.proofs.Kept.{needed_shown, needed_with_group}
+use Rattle.cell_groups.specs.TakenRows.{taken_in, with_rows}
+use Rattle.cell_groups.proofs.KeptSummaries.{needed_shown, needed_with_group}
 
 -- cells stand for a row of a fold: they pass where it passes, and what is needed of its group is theirs
 pub record StandFor (fold : Fold) (aggs : List Agg) (passes : List Datum → Bool) (own : List Datum → Group) (row : List Datum → Row) (cells : List Datum) : Type 0 where
@@ -40,7 +40,7 @@ module _ (fold : Fold) (shape : Shape) (wide : IsWidth fold.width) (passes : Lis
       (λ e. rw e refl)
       (λ e. rw e refl)
 
-  taken_is : (cells : List Datum) (groups : List Group) → StandFor fold shape.aggs passes own row cells → taken_in passes own cells (map (needed_group shape.aggs) groups) ≡ map (needed_group shape.aggs) (taken fold (row cells) groups)
+  taken_is : (cells : List Datum) (groups : List Group) → StandFor fold shape.aggs passes own row cells → taken_in passes own cells (map (needed_group shape.aggs) groups) ≡ map (needed_group shape.aggs) (groups_with_row fold (row cells) groups)
   taken_is cells groups stand =
       let all = map (needed_group shape.aggs) in
       ap (λ b. cond b (with_group (own cells) (all groups)) (all groups)) stand.tests
@@ -63,7 +63,7 @@ shown_alike (a ∷ aggs) (b ∷ others) e [] = refl
 shown_alike (a ∷ aggs) (b ∷ others) e (p ∷ ps) =
     let first : a.fun ≡ b.fun = cc e in
     let rest : map (λ x. x.fun) aggs ≡ map (λ x. x.fun) others = cc e in
-    ap (λ f. shown f p ∷ shown_each aggs ps) first ∙ ap (λ ds. shown b.fun p ∷ ds) (shown_alike aggs others rest ps)
+    ap (λ f. datum_of f p ∷ shown_each aggs ps) first ∙ ap (λ ds. datum_of b.fun p ∷ ds) (shown_alike aggs others rest ps)
 
 rows_alike : (fold : Fold) (shape : Shape) → map (λ a. a.fun) shape.aggs ≡ map (λ a. a.fun) fold.aggs → (gs : List Group) → rows_shown shape gs ≡ map (cells_of fold) gs
 rows_alike fold shape e [] = refl

@@ -14,13 +14,13 @@ use Rattle.ts_num.specs.declared.values.Datum.{Datum}
 use Rattle.partial_agg.specs.declared.groups.Group.{Group}
 use Rattle.partial_agg.specs.Groups.{AreInOrder, group_cmp}
 use Rattle.partial_agg.proofs.GroupLaws.{group_cmp_total}
-use Rattle.group_fold.specs.Gathering.{ordered}
-use Rattle.group_fold.specs.Merging.{merged, with_group, with_groups}
+use Rattle.group_fold.specs.Gathering.{in_group_order}
+use Rattle.group_fold.specs.Merging.{merge_of, with_group, with_groups}
 use Rattle.group_fold.proofs.Insertions.{by_order, greater_back, less_trans}
 use Rattle.cell_groups.specs.declared.groups.CellGroup.{CellGroup}
 use Rattle.cell_groups.specs.declared.shapes.Shape.{Shape}
 use Rattle.cell_groups.specs.Groups.{as_group, as_groups, cells_at}
-use Rattle.cell_groups.specs.Taken.{ComesLast, IsNotAfter, place_cmp}
+use Rattle.cell_groups.specs.TakenRows.{ComesLast, IsNotAfter, place_cmp}
 
 -- ---- sorted groups
 
@@ -85,10 +85,10 @@ all_put [] g hs p h = tt
 all_put (x ∷ xs) g hs p h = (not_after_put x g hs p.0 h, all_put xs g hs p.1 h)
 
 -- the next from the back: what is left ascends, and none of it stands after the first of what is merged
-pub record IsMerging (groups left merged : List Group) : Type 0 where
-  pub onto : with_groups left merged ≡ ordered groups
+pub record IsMerging (groups left merge_of : List Group) : Type 0 where
+  pub onto : with_groups left merge_of ≡ in_group_order groups
   pub ascends : Ascend left
-  pub before : AllByRecursion (λ x. IsNotAfter x merged) left
+  pub before : AllByRecursion (λ x. IsNotAfter x merge_of) left
 
 all_nothing : (xs : List Group) → AllByRecursion (λ x. IsNotAfter x []) xs
 all_nothing [] = tt
@@ -97,17 +97,17 @@ all_nothing (x ∷ xs) = (tt, all_nothing xs)
 pub merging_starts : (groups : List Group) → IsSorted group_cmp groups → IsMerging groups groups []
 merging_starts groups up = record { onto = refl; ascends = ascend_sorted groups up; before = all_nothing groups }
 
-pub merging_first : (groups left merged rest : List Group) (g : Group) → IsMerging groups left merged → left ≡ rest ++ g ∷ [] → IsNotAfter g merged
-merging_first groups left merged rest g m is = (all_last (λ x. IsNotAfter x merged) rest g (subst (AllByRecursion (λ x. IsNotAfter x merged)) is m.before)).1
+pub merging_first : (groups left merge_of rest : List Group) (g : Group) → IsMerging groups left merge_of → left ≡ rest ++ g ∷ [] → IsNotAfter g merge_of
+merging_first groups left merge_of rest g m is = (all_last (λ x. IsNotAfter x merge_of) rest g (subst (AllByRecursion (λ x. IsNotAfter x merge_of)) is m.before)).1
 
-pub merging_step : (groups left merged rest next : List Group) (g : Group) → IsMerging groups left merged → left ≡ rest ++ g ∷ [] → next ≡ with_group g merged → IsMerging groups rest next
-merging_step groups left merged rest next g m is made =
+pub merging_step : (groups left merge_of rest next : List Group) (g : Group) → IsMerging groups left merge_of → left ≡ rest ++ g ∷ [] → next ≡ with_group g merge_of → IsMerging groups rest next
+merging_step groups left merge_of rest next g m is made =
     let split = ascend_last rest g (subst Ascend is m.ascends) in
-    let first = merging_first groups left merged rest g m is in
+    let first = merging_first groups left merge_of rest g m is in
     record {
-      onto = ap (with_groups rest) made ∙ sym (groups_last rest g merged) ∙ ap (λ xs. with_groups xs merged) (sym is) ∙ m.onto;
+      onto = ap (with_groups rest) made ∙ sym (groups_last rest g merge_of) ∙ ap (λ xs. with_groups xs merge_of) (sym is) ∙ m.onto;
       ascends = split.0;
-      before = subst (λ xs. AllByRecursion (λ x. IsNotAfter x xs) rest) (sym made) (all_put rest g merged split.1 first);
+      before = subst (λ xs. AllByRecursion (λ x. IsNotAfter x xs) rest) (sym made) (all_put rest g merge_of split.1 first);
     }
 
 -- ---- what is kept of groups

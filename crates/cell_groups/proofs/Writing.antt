@@ -8,17 +8,17 @@ use Rattle.cell_rows.specs.Parts.{AreParts, parts}
 use Rattle.ts_num.specs.declared.values.Datum.{Datum}
 use Rattle.partial_agg.specs.declared.groups.Group.{Group}
 use Rattle.partial_agg.specs.Groups.{AreInOrder, group_cmp}
-use Rattle.group_fold.specs.Merging.{joined_parts, merged, with_group}
+use Rattle.group_fold.specs.Merging.{joined_parts, merge_of, with_group}
 use Rattle.group_fold.proofs.Gathers.{none_in_order}
 use Rattle.group_fold.proofs.Insertions.{alike_to, at_equal, at_greater, equal_back, less_back, less_trans}
 use Rattle.group_fold.proofs.RowGroups.{sorted-with_group}
 use Rattle.cell_groups.specs.declared.groups.CellGroup.{CellGroup}
 use Rattle.cell_groups.specs.declared.shapes.Shape.{Shape}
 use Rattle.cell_groups.specs.Groups.{as_group, cells_at, group_shown, keys_at, parts_of, row_shown, rows_shown}
-use Rattle.cell_groups.specs.Taken.{row_cmp}
+use Rattle.cell_groups.specs.TakenRows.{row_cmp}
 use Rattle.cell_groups.specs.Written.{AreWritten, HasTaken, TakesRow, last_cmp}
 use Rattle.cell_groups.proofs.Gathering.{added_is_merged}
-use Rattle.cell_groups.proofs.Kept.{as_row, kept_shown}
+use Rattle.cell_groups.proofs.KeptSummaries.{as_row, kept_shown}
 use Rattle.cell_groups.proofs.Sorting.{all_last}
 
 -- ---- groups in order
@@ -32,7 +32,7 @@ behind_last (x ∷ front) h g up less =
     at_greater g x (front ++ h ∷ []) (less_back x g before) ∙ ap (λ zs. x ∷ zs) (behind_last front h g up.1 less)
 
 -- one of the place of the last
-into_last : (front : List Group) (h g : Group) → AreInOrder (front ++ h ∷ []) → group_cmp h g ≡ Equal → with_group g (front ++ h ∷ []) ≡ front ++ merged g h ∷ []
+into_last : (front : List Group) (h g : Group) → AreInOrder (front ++ h ∷ []) → group_cmp h g ≡ Equal → with_group g (front ++ h ∷ []) ≡ front ++ merge_of g h ∷ []
 unfolding IsStrictlySortedBy
 into_last [] h g up same = at_equal g h [] (equal_back h g same)
 into_last (x ∷ front) h g up same =
@@ -96,7 +96,7 @@ module _ (shape : Shape) (b : ℤ) (cells : List Datum) (groups : List Group) (r
   pub row_written : (old new : CellGroup) → row_cmp shape old b cells ≡ Equal → HasTaken shape.aggs cells old new → AreWritten shape groups rows (Some old)
       → AreWritten shape (with_group (cells_at shape b cells) groups) rows (Some new)
   row_written old new same taken w =
-      let grown : as_group shape new ≡ merged (cells_at shape b cells) (as_group shape old) =
+      let grown : as_group shape new ≡ merge_of (cells_at shape b cells) (as_group shape old) =
       added_is_merged (cells_at shape b cells) (as_group shape old) (as_group shape new) same taken.start (ap (keys_at shape.keys) taken.first)
       (taken.parts ∙ ap (joined_parts (parts_of shape.aggs old)) (as_row shape.aggs cells))
       in

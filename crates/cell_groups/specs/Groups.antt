@@ -12,7 +12,7 @@ use Rattle.cell_groups.specs.declared.groups.CellGroup.{CellGroup}
 use Rattle.cell_groups.specs.declared.shapes.Shape.{Shape}
 use Rattle.cell_groups.specs.declared.tallies.Tally.{Tally}
 use Rattle.ts_model.specs.Results.{cell_at}
-use Rattle.cell_groups.specs.Kept.{as_parts, needed_parts, row_needs, row_tallies, tallies_shown}
+use Rattle.cell_groups.specs.KeptSummaries.{as_parts, needed_parts, row_needs, row_tallies, tallies_shown}
 
 -- the keys of a row
 abbrev pub keys_at : List ℕ → List Datum → List (Option ℤ)

@@ -1,6 +1,6 @@
 pub mod Cells
-pub mod Kept
+pub mod KeptSummaries
 pub mod Groups
-pub mod Taken
+pub mod TakenRows
 pub mod Room
 pub mod Written

@@ -12,8 +12,8 @@ use Rattle.cell_groups.specs.declared.groups.CellGroup.{CellGroup}
 use Rattle.cell_groups.specs.declared.shapes.Shape.{Shape}
 use Rattle.cell_groups.specs.declared.written.WrittenGroups.{WrittenGroups}
 use Rattle.cell_groups.specs.Groups.{as_group, parts_of, rows_shown}
-use Rattle.cell_groups.specs.Kept.{as_parts, row_tallies}
-use Rattle.cell_groups.specs.Taken.{row_cmp}
+use Rattle.cell_groups.specs.KeptSummaries.{as_parts, row_tallies}
+use Rattle.cell_groups.specs.TakenRows.{row_cmp}
 
 -- the result rows that have been written, whose cells stand one row after another
 abbrev pub rows_written : WrittenGroups → List (List Datum)

@@ -3,7 +3,7 @@ ghost use Rattle.std.specs.Prelude.{◌≡◌, ◌++◌, IfOk, IsOkUnless, None,
 ghost use Rattle.std.specs.List.{AllByRecursion};
 ghost use Rattle.group_fold.specs.Merging.{joined_parts};
 ghost use Rattle.cell_groups.specs.Groups.{HasTallies, parts_of, tallies_of};
-ghost use Rattle.cell_groups.specs.Kept.{as_parts, row_tallies};
+ghost use Rattle.cell_groups.specs.KeptSummaries.{as_parts, row_tallies};
 ghost use Rattle.cell_groups.specs.Room.{CanBeKept};
 
 use crate::cells::RowCells;

@@ -4,7 +4,7 @@
 //! - `cells`: the cells of a row, read as values.
 //! - `tallies`: what the cells of a column add up to.
 //! - `groups`: one group.
-//! - `gathers`: the groups of rows as they are taken in.
+//! - `group_lookup`: the groups of rows as they are taken in.
 //! - `orders`: groups put in order.
 //! - `prints`: numbers by which groups are found.
 //! - `results`: what groups show.
@@ -13,7 +13,7 @@
 #![tactic(auto)]
 
 mod cells;
-mod gathers;
+mod group_lookup;
 mod groups;
 mod orders;
 mod prints;
@@ -24,7 +24,7 @@ mod tallies;
 mod written;
 
 pub use cells::{RowCells, passes};
-pub use gathers::CellGroups;
+pub use group_lookup::CellGroups;
 pub use groups::CellGroup;
 pub use results::rows_of;
 pub use shapes::Shape;

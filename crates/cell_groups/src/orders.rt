@@ -2,14 +2,14 @@
 ghost use Rattle.std.specs.Prelude.{◌≡◌, ◌∷◌, ◌<◌, ◌^◌, ℕ, IfOk, IsOkUnless, OnOk};
 ghost use Rattle.std.specs.List.Sorted.{IsSorted};
 ghost use Rattle.ts_schema.specs.Rows.{value_cmp, values_cmp};
-ghost use Rattle.group_fold.specs.Gathering.{ordered};
+ghost use Rattle.group_fold.specs.Gathering.{in_group_order};
 ghost use Rattle.group_fold.specs.Merging.{with_group};
 ghost use Rattle.cell_groups.specs.Groups.{HasTallies, HaveTallies, as_group, as_groups, keys_at};
 ghost use Rattle.cell_groups.specs.Room.{AreOfRows};
-ghost use Rattle.cell_groups.specs.Taken.{AreGathered, IsNotAfter, place_cmp, row_cmp};
+ghost use Rattle.cell_groups.specs.TakenRows.{AreGathered, IsNotAfter, place_cmp, row_cmp};
 
 use crate::cells::RowCells;
-use crate::gathers::CellGroups;
+use crate::group_lookup::CellGroups;
 use crate::groups::{CellGroup, take_group};
 use crate::shapes::Shape;
 use crate::stops::Stop;
@@ -77,23 +77,23 @@ pub(crate) fn in_order<'a>(
     gathered: CellGroups<'a>,
 ) -> Result<Vec<CellGroup<'a>>, Stop>
     requires { AreGathered shape.now gathered }
-    ensures groups { IfOk result (λ sorted. as_groups shape.now sorted.items ≡ ordered (as_groups shape.now gathered.entry.groups.items)) }
+    ensures groups { IfOk result (λ sorted. as_groups shape.now sorted.items ≡ in_group_order (as_groups shape.now gathered.entry.groups.items)) }
     ensures room { (n : ℕ) → AreOfRows n (as_groups shape.now gathered.entry.groups.items) → n < 2 ^ 64 → IsOkUnless result (Stop.NoMemory) }
 {
     if gathered.in_order {
         return Ok(gathered.groups);
     }
-    sorted(alloc, shape, gathered.groups)
+    sort_groups(alloc, shape, gathered.groups)
 }
 
 /// The same groups in order, however they stand.
-fn sorted<'a>(
+fn sort_groups<'a>(
     alloc: Global,
     shape: &Shape,
     groups: Vec<CellGroup<'a>>,
 ) -> Result<Vec<CellGroup<'a>>, Stop>
     requires { HaveTallies shape.now.aggs groups.items }
-    ensures groups { IfOk result (λ sorted. as_groups shape.now sorted.items ≡ ordered (as_groups shape.now groups.entry.items)) }
+    ensures groups { IfOk result (λ sorted. as_groups shape.now sorted.items ≡ in_group_order (as_groups shape.now groups.entry.items)) }
     ensures room { (n : ℕ) → AreOfRows n (as_groups shape.now groups.entry.items) → n < 2 ^ 64 → IsOkUnless result (Stop.NoMemory) }
 {
     let mut sorted = groups;
@@ -109,7 +109,7 @@ fn merge_neighbours<'a>(
 ) -> Result<VecDeque<CellGroup<'a>>, Stop>
     requires sorted { IsSorted (place_cmp shape.now) groups.items }
     requires alike { HaveTallies shape.now.aggs groups.items }
-    ensures groups { IfOk result (λ merged. as_groups shape.now merged.items ≡ ordered (as_groups shape.now groups.entry.items)) }
+    ensures groups { IfOk result (λ merged. as_groups shape.now merged.items ≡ in_group_order (as_groups shape.now groups.entry.items)) }
     ensures room { (n : ℕ) → AreOfRows n (as_groups shape.now groups.entry.items) → n < 2 ^ 64 → IsOkUnless result (Stop.NoMemory) }
 {
     let mut left = groups;

@@ -4,15 +4,15 @@ use crate::cells::RowCells;
 
 /// The print of a row, in the bucket that starts at `start`.
 pub(crate) fn print_of(keys: &[u32], start: i128, cells: &RowCells<'_>) -> u64 {
-    let mut print = mixed(0, Some(start));
+    let mut print = mix(0, Some(start));
     for key in keys {
-        print = mixed(print, cells.value_at(*key));
+        print = mix(print, cells.value_at(*key));
     }
     print
 }
 
 /// A print with one more number.
-fn mixed(print: u64, number: Option<i128>) -> u64 {
+fn mix(print: u64, number: Option<i128>) -> u64 {
     let bits = match number {
         None => 0x5851_f42d_4c95_7f2d,
         Some(number) => (number.cast_unsigned() & 0xffff_ffff_ffff_ffff) as u64,

@@ -2,14 +2,14 @@
 ghost use Rattle.std.specs.Prelude.{◌≡◌, ◌++◌, ◌∷◌, ◌<◌, ◌^◌, ℕ, [], map, IfOk, IsOkUnless, OnOk};
 ghost use Rattle.cell_rows.specs.Parts.{AreParts, parts};
 ghost use Rattle.ts_num.specs.Aggregates.{shown_or_null};
-ghost use Rattle.group_fold.specs.Gathering.{ordered};
+ghost use Rattle.group_fold.specs.Gathering.{in_group_order};
 ghost use Rattle.cell_groups.specs.Groups.{as_groups, group_shown, keys_at, rows_shown, tallies_of};
-ghost use Rattle.cell_groups.specs.Kept.{cell_shown, tallies_shown};
+ghost use Rattle.cell_groups.specs.KeptSummaries.{cell_shown, tallies_shown};
 ghost use Rattle.cell_groups.specs.Room.{AreOfRows};
-ghost use Rattle.cell_groups.specs.Taken.{AreGathered};
+ghost use Rattle.cell_groups.specs.TakenRows.{AreGathered};
 
 use crate::cells::RowCells;
-use crate::gathers::CellGroups;
+use crate::group_lookup::CellGroups;
 use crate::groups::CellGroup;
 use crate::orders::in_order;
 use crate::shapes::Shape;
@@ -29,7 +29,7 @@ pub fn rows_of(
     gathered: CellGroups<'_>,
 ) -> Result<CellRows<Datum>, Stop>
     requires { AreGathered shape.now gathered }
-    ensures rows { IfOk result (λ rows. rows ≡ rows_shown shape.now (ordered (as_groups shape.now gathered.entry.groups.items))) }
+    ensures rows { IfOk result (λ rows. rows ≡ rows_shown shape.now (in_group_order (as_groups shape.now gathered.entry.groups.items))) }
     ensures room { (n : ℕ) → AreOfRows n (as_groups shape.now gathered.entry.groups.items) → n < 2 ^ 64 → IsOkUnless result (Stop.NoMemory) }
 {
     let groups = in_order(alloc, shape, gathered)?;
@@ -93,14 +93,14 @@ fn put_keys(keys: &[u32], row: &RowCells<'_>, cells: &mut Vec<Datum>) -> Result<
     ensures { IfOk result (λ _. cells.new.items ≡ cells.old.items ++ map shown_or_null (keys_at keys.now row.now)) }
 {
     for key in keys {
-        cells.push(shown(row.value_at(*key)))?;
+        cells.push(number_or_null(row.value_at(*key)))?;
     }
     Ok(())
 }
 
 /// A number, or NULL where it is missing.
 #[inline]
-fn shown(value: Option<i128>) -> Datum
+fn number_or_null(value: Option<i128>) -> Datum
     ensures { result ≡ shown_or_null value }
 {
     match value {

@@ -3,9 +3,9 @@ ghost use Rattle.std.specs.Prelude.{◌≡◌, ◌+◌, ◌<◌, pos, IfSome, Is
 ghost use Rattle.std.specs.List.{AllByRecursion};
 ghost use Rattle.ts_num.specs.Aggregates.{greater, lesser};
 ghost use Rattle.ts_num.specs.declared.values.Fun.TheVariants.{CountAll, Max, Min, Sum};
-ghost use Rattle.partial_agg.specs.Summaries.{joined, mean_shown, sum_shown};
+ghost use Rattle.partial_agg.specs.Summaries.{summary_of_both, mean_shown, sum_shown};
 ghost use Rattle.group_fold.specs.Merging.{joined_parts};
-ghost use Rattle.cell_groups.specs.Kept.{as_part, as_parts, bound, cell_tally, row_tallies, tally_shown};
+ghost use Rattle.cell_groups.specs.KeptSummaries.{as_part, as_parts, bound_of, cell_tally, row_tallies, tally_shown};
 ghost use Rattle.cell_groups.specs.Room.{CanBeKept};
 
 use crate::cells::RowCells;
@@ -57,8 +57,8 @@ fn tally_of_value(value: Option<i128>) -> Tally
 /// The tally of the cells of both, where it can be kept.
 #[inline(always)]
 fn both(fun: Fun, a: &Tally, b: &Tally) -> Option<Tally>
-    ensures sum { IfSome result (λ t. as_part fun t ≡ joined (as_part fun a.now) (as_part fun b.now)) }
-    ensures room { CanBeKept (joined (as_part fun a.now) (as_part fun b.now)) → IsSome result }
+    ensures sum { IfSome result (λ t. as_part fun t ≡ summary_of_both (as_part fun a.now) (as_part fun b.now)) }
+    ensures room { CanBeKept (summary_of_both (as_part fun a.now) (as_part fun b.now)) → IsSome result }
 {
     match fun {
         Fun::CountAll => rows_of_both(a, b),
@@ -71,8 +71,8 @@ fn both(fun: Fun, a: &Tally, b: &Tally) -> Option<Tally>
 /// The same where rows are counted.
 #[inline(always)]
 fn rows_of_both(a: &Tally, b: &Tally) -> Option<Tally>
-    ensures sum { IfSome result (λ t. as_part CountAll t ≡ joined (as_part CountAll a.now) (as_part CountAll b.now)) }
-    ensures room { CanBeKept (joined (as_part CountAll a.now) (as_part CountAll b.now)) → IsSome result }
+    ensures sum { IfSome result (λ t. as_part CountAll t ≡ summary_of_both (as_part CountAll a.now) (as_part CountAll b.now)) }
+    ensures room { CanBeKept (summary_of_both (as_part CountAll a.now) (as_part CountAll b.now)) → IsSome result }
 {
     let values = a.values.checked_add(b.values)?;
     Some(Tally { values, number: 0 })
@@ -81,8 +81,8 @@ fn rows_of_both(a: &Tally, b: &Tally) -> Option<Tally>
 /// The same where their sum is what counts.
 #[inline(always)]
 fn sum_of_both(a: &Tally, b: &Tally) -> Option<Tally>
-    ensures sum { IfSome result (λ t. as_part Sum t ≡ joined (as_part Sum a.now) (as_part Sum b.now)) }
-    ensures room { CanBeKept (joined (as_part Sum a.now) (as_part Sum b.now)) → IsSome result }
+    ensures sum { IfSome result (λ t. as_part Sum t ≡ summary_of_both (as_part Sum a.now) (as_part Sum b.now)) }
+    ensures room { CanBeKept (summary_of_both (as_part Sum a.now) (as_part Sum b.now)) → IsSome result }
 {
     let values = a.values.checked_add(b.values)?;
     let number = a.number.checked_add(b.number)?;
@@ -92,8 +92,8 @@ fn sum_of_both(a: &Tally, b: &Tally) -> Option<Tally>
 /// The same where the least is what counts.
 #[inline(always)]
 fn least_of_both(a: &Tally, b: &Tally) -> Option<Tally>
-    ensures sum { IfSome result (λ t. as_part Min t ≡ joined (as_part Min a.now) (as_part Min b.now)) }
-    ensures room { CanBeKept (joined (as_part Min a.now) (as_part Min b.now)) → IsSome result }
+    ensures sum { IfSome result (λ t. as_part Min t ≡ summary_of_both (as_part Min a.now) (as_part Min b.now)) }
+    ensures room { CanBeKept (summary_of_both (as_part Min a.now) (as_part Min b.now)) → IsSome result }
 {
     let values = a.values.checked_add(b.values)?;
     Some(tally_with(values, lesser_of(bound_of(a), bound_of(b))))
@@ -102,8 +102,8 @@ fn least_of_both(a: &Tally, b: &Tally) -> Option<Tally>
 /// The same where the greatest is what counts.
 #[inline(always)]
 fn most_of_both(a: &Tally, b: &Tally) -> Option<Tally>
-    ensures sum { IfSome result (λ t. as_part Max t ≡ joined (as_part Max a.now) (as_part Max b.now)) }
-    ensures room { CanBeKept (joined (as_part Max a.now) (as_part Max b.now)) → IsSome result }
+    ensures sum { IfSome result (λ t. as_part Max t ≡ summary_of_both (as_part Max a.now) (as_part Max b.now)) }
+    ensures room { CanBeKept (summary_of_both (as_part Max a.now) (as_part Max b.now)) → IsSome result }
 {
     let values = a.values.checked_add(b.values)?;
     Some(tally_with(values, greater_of(bound_of(a), bound_of(b))))
@@ -112,7 +112,7 @@ fn most_of_both(a: &Tally, b: &Tally) -> Option<Tally>
 /// The number of a tally, where it has one.
 #[inline(always)]
 fn bound_of(tally: &Tally) -> Option<i128>
-    ensures { result ≡ bound tally.now.values tally.now.number }
+    ensures { result ≡ bound_of tally.now.values tally.now.number }
 {
     match tally.values {
         0 => None,
@@ -180,8 +180,8 @@ pub(crate) fn add_row(
 /// A tally with one more cell, where it can be kept.
 #[inline(always)]
 fn with_cell(fun: Fun, tally: &Tally, value: Option<i128>) -> Option<Tally>
-    ensures sum { IfSome result (λ t. as_part fun t ≡ joined (as_part fun tally.now) (as_part fun (cell_tally fun value))) }
-    ensures room { CanBeKept (joined (as_part fun tally.now) (as_part fun (cell_tally fun value))) → IsSome result }
+    ensures sum { IfSome result (λ t. as_part fun t ≡ summary_of_both (as_part fun tally.now) (as_part fun (cell_tally fun value))) }
+    ensures room { CanBeKept (summary_of_both (as_part fun tally.now) (as_part fun (cell_tally fun value))) → IsSome result }
 {
     match fun {
         Fun::CountAll => rows_of_both(tally, &tally_of(Fun::CountAll, value)),

@@ -16,7 +16,7 @@ use Rattle.chunk_catalog.proofs.PartLaws.{length_more}
 use Rattle.chunk_catalog.specs.Chunks.{AreLow}
 use Rattle.chunk_catalog.specs.Levels.{AreFew, Levels, AreLevel, FewLevels, TreeValue, tree_over}
 use Rattle.chunk_catalog.specs.Places.{Kept, Placed, in_chunk, placed_in, place}
-use Rattle.chunk_catalog.specs.Piles.{AreEven, IsFork}
+use Rattle.chunk_catalog.specs.SegmentTrees.{AreEven, IsFork}
 
 -- what is at most the greater of two is at most one of them
 either : {C : Type 0} (k a b : ℕ) → k ≤ max a b → (k ≤ a → C) → (k ≤ b → C) → C

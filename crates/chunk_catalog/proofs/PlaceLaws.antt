@@ -12,27 +12,27 @@ use Rattle.seg_rows.specs.Hulls.{joined_hull, hull_at}
 use Rattle.seg_rows.specs.Versions.{Version, visible_at, rows_of, after_kill, taken_at, later_time, latest_of, latest_at}
 use Rattle.seg_rows.proofs.HullLaws.{later_time-assoc, later_time-comm, later_time-none}
 use Rattle.seg_rows.proofs.VersionLaws.{picked-append, taken_at-append, after_kill-nothing}
-use Rattle.chunk_catalog.specs.declared.reach.Reach.{Reach}
+use Rattle.chunk_catalog.specs.declared.time_ranges.TimeRange.{TimeRange}
 use Rattle.chunk_catalog.specs.Reach.{in_reach}
 use Rattle.ts_bucket.specs.Chunks.{IsInterval}
-use Rattle.chunk_catalog.specs.Places.{Placed, place, in_chunk, versions_of, reached, after_kill_in, StartsIn, AreOut, is_placed, ArePlaced}
+use Rattle.chunk_catalog.specs.Places.{Placed, place, in_chunk, versions_of, versions_in, after_kill_in, StartsIn, AreOut, is_placed, ArePlaced}
 use Rattle.chunk_catalog.proofs.ReachLaws.{lies}
 use Rattle.ts_schema.proofs.Cases.{and_first, and_second}
 
 -- a chunk in reach gives all its versions, and another one none
-pub reached_in : (r : Reach) (s : ℤ) (vs : List Version) → in_reach r s ≡ true → reached r (in_chunk s vs) ≡ vs
+pub reached_in : (r : TimeRange) (s : ℤ) (vs : List Version) → in_reach r s ≡ true → versions_in r (in_chunk s vs) ≡ vs
 reached_in r s [] h = refl
 reached_in r s (v ∷ vs) h = rw h (ap (λ ws. v ∷ ws) (reached_in r s vs h))
 
-pub reached_out : (r : Reach) (s : ℤ) (vs : List Version) → in_reach r s ≡ false → reached r (in_chunk s vs) ≡ []
+pub reached_out : (r : TimeRange) (s : ℤ) (vs : List Version) → in_reach r s ≡ false → versions_in r (in_chunk s vs) ≡ []
 reached_out r s [] h = refl
 reached_out r s (v ∷ vs) h = rw h (reached_out r s vs h)
 
-pub killed_in : (r : Reach) (p : ℕ) (tests : List Test) (s : ℤ) (vs : List Version) → in_reach r s ≡ true → map (after_kill_in r p tests) (in_chunk s vs) ≡ in_chunk s (map (after_kill p tests) vs)
+pub killed_in : (r : TimeRange) (p : ℕ) (tests : List Test) (s : ℤ) (vs : List Version) → in_reach r s ≡ true → map (after_kill_in r p tests) (in_chunk s vs) ≡ in_chunk s (map (after_kill p tests) vs)
 killed_in r p tests s [] h = refl
 killed_in r p tests s (v ∷ vs) h = rw h (ap (λ ps. place s (after_kill p tests v) ∷ ps) (killed_in r p tests s vs h))
 
-pub killed_out : (r : Reach) (p : ℕ) (tests : List Test) (s : ℤ) (vs : List Version) → in_reach r s ≡ false → map (after_kill_in r p tests) (in_chunk s vs) ≡ in_chunk s vs
+pub killed_out : (r : TimeRange) (p : ℕ) (tests : List Test) (s : ℤ) (vs : List Version) → in_reach r s ≡ false → map (after_kill_in r p tests) (in_chunk s vs) ≡ in_chunk s vs
 killed_out r p tests s [] h = refl
 killed_out r p tests s (v ∷ vs) h = rw h (ap (λ ps. place s v ∷ ps) (killed_out r p tests s vs h))
 
@@ -43,18 +43,18 @@ versions_of-in_chunk s (v ∷ vs) = ap (λ ws. v ∷ ws) (versions_of-in_chunk s
 pub versions_of-append : (xs ys : List Placed) → versions_of (xs ++ ys) ≡ versions_of xs ++ versions_of ys
 versions_of-append xs ys = map-append (λ (x : Placed). x.version) xs ys
 
-pub reached-append : (r : Reach) (xs ys : List Placed) → reached r (xs ++ ys) ≡ reached r xs ++ reached r ys
+pub reached-append : (r : TimeRange) (xs ys : List Placed) → versions_in r (xs ++ ys) ≡ versions_in r xs ++ versions_in r ys
 reached-append r xs ys = picked-append (λ x. x.version) (λ x. in_reach r x.start) xs ys
 
 -- how many versions of a chunk and two trees are reached
-pub length_reached : (r : Reach) (xs ys zs : List Placed) → length (reached r (xs ++ ys ++ zs)) ≡ length (reached r xs) + length (reached r ys) + length (reached r zs)
+pub length_reached : (r : TimeRange) (xs ys zs : List Placed) → length (versions_in r (xs ++ ys ++ zs)) ≡ length (versions_in r xs) + length (versions_in r ys) + length (versions_in r zs)
 length_reached r xs ys zs =
-    omega (arith, ap length (reached-append r (xs ++ ys) zs), length-append (reached r (xs ++ ys)) (reached r zs), ap length (reached-append r xs ys), length-append (reached r xs) (reached r ys))
+    omega (arith, ap length (reached-append r (xs ++ ys) zs), length-append (versions_in r (xs ++ ys)) (versions_in r zs), ap length (reached-append r xs ys), length-append (versions_in r xs) (versions_in r ys))
 
 -- what holds of parts holds of the whole
 pub ruleset places = (versions_of-in_chunk, versions_of-append, reached-append)
 
-pub reached_few : (r : Reach) (ps : List Placed) → length (reached r ps) ≤ length ps
+pub reached_few : (r : TimeRange) (ps : List Placed) → length (versions_in r ps) ≤ length ps
 reached_few r [] = omega arith
 reached_few r (x ∷ ps) =
     elim (in_reach r x.start) as (λ b. length (versions_of (cond b (x ∷ filter (λ y. in_reach r y.start) ps) (filter (λ y. in_reach r y.start) ps))) ≤ length (x ∷ ps)) [
@@ -63,39 +63,39 @@ reached_few r (x ∷ ps) =
     ]
 
 -- where no start is in reach, nothing is seen and nothing dies
-pub out_reached : (r : Reach) (ps : List Placed) → AreOut r ps → reached r ps ≡ []
+pub out_reached : (r : TimeRange) (ps : List Placed) → AreOut r ps → versions_in r ps ≡ []
 out_reached r [] h = refl
 out_reached r (x ∷ ps) h =
     let here : in_reach r x.start ≡ false = not-true (in_reach r x.start) (and_first (not (in_reach r x.start)) (list_all (λ y. not (in_reach r y.start)) ps) h) in
     rw here (out_reached r ps (and_second (not (in_reach r x.start)) (list_all (λ y. not (in_reach r y.start)) ps) h))
 
-pub out_killed : (r : Reach) (p : ℕ) (tests : List Test) (ps : List Placed) → AreOut r ps → map (after_kill_in r p tests) ps ≡ ps
+pub out_killed : (r : TimeRange) (p : ℕ) (tests : List Test) (ps : List Placed) → AreOut r ps → map (after_kill_in r p tests) ps ≡ ps
 out_killed r p tests [] h = refl
 out_killed r p tests (x ∷ ps) h =
     let here : in_reach r x.start ≡ false = not-true (in_reach r x.start) (and_first (not (in_reach r x.start)) (list_all (λ y. not (in_reach r y.start)) ps) h) in
     rw here (ap (λ qs. x ∷ qs) (out_killed r p tests ps (and_second (not (in_reach r x.start)) (list_all (λ y. not (in_reach r y.start)) ps) h)))
 
 -- a delete that takes nothing changes nothing
-pub killed_nothing_in : (r : Reach) (p : ℕ) (tests : List Test) (ps : List Placed) → length (taken_at p tests (reached r ps)) ≡ 0 → map (after_kill_in r p tests) ps ≡ ps
+pub killed_nothing_in : (r : TimeRange) (p : ℕ) (tests : List Test) (ps : List Placed) → length (taken_at p tests (versions_in r ps)) ≡ 0 → map (after_kill_in r p tests) ps ≡ ps
 killed_nothing_in r p tests [] h = refl
 killed_nothing_in r p tests (x ∷ ps) h =
     elim (in_reach r x.start) as (λ b. length (taken_at p tests (versions_of (cond b (x ∷ filter (λ y. in_reach r y.start) ps) (filter (λ y. in_reach r y.start) ps)))) ≡ 0
     → (cond b (place x.start (after_kill p tests x.version)) x) ∷ map (after_kill_in r p tests) ps ≡ x ∷ ps) [
       | true ↦ λ none.
-          let both : length (taken_at p tests (x.version ∷ [])) + length (taken_at p tests (reached r ps)) ≡ 0 =
-          sym (length-append (taken_at p tests (x.version ∷ [])) (taken_at p tests (reached r ps))) ∙ (ap length (sym (taken_at-append p tests (x.version ∷ []) (reached r ps))) ∙ none) in
+          let both : length (taken_at p tests (x.version ∷ [])) + length (taken_at p tests (versions_in r ps)) ≡ 0 =
+          sym (length-append (taken_at p tests (x.version ∷ [])) (taken_at p tests (versions_in r ps))) ∙ (ap length (sym (taken_at-append p tests (x.version ∷ []) (versions_in r ps))) ∙ none) in
           let first : map (after_kill p tests) (x.version ∷ []) ≡ x.version ∷ [] = after_kill-nothing p tests (x.version ∷ []) (omega (arith, both)) in
           let head : after_kill p tests x.version ≡ x.version = cc in
           rw (head, killed_nothing_in r p tests ps (omega (arith, both))) refl
       | false ↦ λ none. ap (λ qs. x ∷ qs) (killed_nothing_in r p tests ps none)
     ] h
 
-pub kill_nothing_in : (r : Reach) (p : ℕ) (tests : List Test) (old new : List Placed) (removed : ℕ)
-    → new ≡ map (after_kill_in r p tests) old → removed ≡ length (taken_at p tests (reached r old)) → removed ≡ 0 → new ≡ old
+pub kill_nothing_in : (r : TimeRange) (p : ℕ) (tests : List Test) (old new : List Placed) (removed : ℕ)
+    → new ≡ map (after_kill_in r p tests) old → removed ≡ length (taken_at p tests (versions_in r old)) → removed ≡ 0 → new ≡ old
 kill_nothing_in r p tests old new removed after counted none = after ∙ killed_nothing_in r p tests old (sym counted ∙ none)
 
 -- the starts of a hull that a range doesn't meet are out of reach
-pub apart_out : (r : Reach) (h : HullValue) (ps : List Placed) → ((t : ℤ) → in_hull h t ≡ true → in_reach r t ≡ false) → StartsIn (Some h) ps → AreOut r ps
+pub apart_out : (r : TimeRange) (h : HullValue) (ps : List Placed) → ((t : ℤ) → in_hull h t ≡ true → in_reach r t ≡ false) → StartsIn (Some h) ps → AreOut r ps
 apart_out r h [] apart inside = refl
 apart_out r h (x ∷ ps) apart inside =
     let here : in_reach r x.start ≡ false = apart x.start (and_first (in_hull h x.start) (list_all (λ y. in_hull h y.start) ps) inside) in

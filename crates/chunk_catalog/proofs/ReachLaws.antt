@@ -7,7 +7,7 @@ use Rattle.std.proofs.lemmas.Bool.Decides.{Decides-int_eq}
 use Rattle.std.proofs.lemmas.Bool.{and_from}
 use Rattle.ts_bucket.specs.Bucket.{is_time, min_time, max_time}
 use Rattle.ts_bucket.proofs.Remainders.{remainder_bounds}
-use Rattle.chunk_catalog.specs.declared.reach.Reach.{Reach}
+use Rattle.chunk_catalog.specs.declared.time_ranges.TimeRange.{TimeRange}
 use Rattle.chunk_catalog.specs.Reach.{in_reach}
 use Rattle.ts_bucket.specs.Chunks.{IsInterval, chunk_start}
 use Rattle.chunk_catalog.specs.Places.{Placed, is_placed}
@@ -42,7 +42,7 @@ lies interval x h p =
     }
 
 -- what two ranges hold is held by their common part
-pub both_hold : (a b : Reach) (first last t : ℤ) → first ≡ int_max a.first b.first → last ≡ int_min a.last b.last → in_reach a t ≡ true → in_reach b t ≡ true
+pub both_hold : (a b : TimeRange) (first last t : ℤ) → first ≡ int_max a.first b.first → last ≡ int_min a.last b.last → in_reach a t ≡ true → in_reach b t ≡ true
     → (int_le first t && int_le t last) ≡ true
 both_hold a b first last t f l p q = rw (f, l) (grind (arith, ints))
 

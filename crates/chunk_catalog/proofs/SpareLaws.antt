@@ -15,8 +15,8 @@ use Rattle.seg_rows.specs.Hulls.{joined_hull, hull_at, hull_of}
 use Rattle.seg_rows.specs.Versions.{Version, died_out, is_dead_at, is_taken, later_death, rows_of, taken_at, visible_at}
 use Rattle.seg_rows.proofs.DeathLaws.{dead_apart, died_out-append}
 use Rattle.seg_rows.proofs.HullLaws.{joined_hull-assoc, joined_hull-comm}
-use Rattle.chunk_catalog.specs.declared.reach.Reach.{Reach}
-use Rattle.chunk_catalog.specs.Places.{Placed, in_chunk, reached, versions_of}
+use Rattle.chunk_catalog.specs.declared.time_ranges.TimeRange.{TimeRange}
+use Rattle.chunk_catalog.specs.Places.{Placed, in_chunk, versions_in, versions_of}
 use Rattle.chunk_catalog.specs.Reach.{HoldsPassing, in_reach}
 use Rattle.chunk_catalog.proofs.PlaceLaws.{in_joined_first, versions_of-append, versions_of-in_chunk}
 use Rattle.chunk_catalog.proofs.ReachLaws.{not_both}
@@ -37,7 +37,7 @@ within_joined (x ∷ rows) k h e =
     rw here (within_joined rows (joined_hull k (hull_at x.at)) h (e ∙ joined_hull-assoc k (hull_at x.at) (hull_of rows)))
 
 -- where the hull of all times is out of the range of those that pass, nothing is taken
-module _ (r : Reach) (h : HullValue) (low : FitsSigned w64 h.least) (high : FitsSigned w64 h.most) (apart : (t : ℤ) → in_hull h t ≡ true → in_reach r t ≡ false) (tests : List Test) (holds : HoldsPassing tests r) (p : ℕ) where
+module _ (r : TimeRange) (h : HullValue) (low : FitsSigned w64 h.least) (high : FitsSigned w64 h.most) (apart : (t : ℤ) → in_hull h t ≡ true → in_reach r t ≡ false) (tests : List Test) (holds : HoldsPassing tests r) (p : ℕ) where
   none_within : (vs : List Version) → list_all (λ row. in_hull h row.at) (rows_of vs) ≡ true → taken_at p tests vs ≡ []
   none_within [] inside = refl
   none_within (v ∷ vs) inside =
@@ -53,7 +53,7 @@ module _ (r : Reach) (h : HullValue) (low : FitsSigned w64 h.least) (high : Fits
   none_apart vs e = none_within vs (within_joined (rows_of vs) None h e)
 
 -- where all versions have died, nothing is taken from some of them
-pub none_reached : (r : Reach) (p : ℕ) (tests : List Test) (ps : List Placed) → is_dead_at p (died_out (versions_of ps)) ≡ true → taken_at p tests (reached r ps) ≡ []
+pub none_reached : (r : TimeRange) (p : ℕ) (tests : List Test) (ps : List Placed) → is_dead_at p (died_out (versions_of ps)) ≡ true → taken_at p tests (versions_in r ps) ≡ []
 none_reached r p tests [] h = refl
 none_reached r p tests (x ∷ ps) h =
     let parts = dead_apart p x.version.died (died_out (versions_of ps)) h in

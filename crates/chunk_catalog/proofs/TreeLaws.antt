@@ -8,8 +8,8 @@ use Rattle.seg_rows.specs.Hulls.{joined_hull, hull_of}
 use Rattle.seg_rows.specs.Versions.{Version, HasMore, taken_at}
 use Rattle.seg_rows.proofs.HullLaws.{hull_of-append}
 use Rattle.seg_rows.proofs.VersionLaws.{taken_at-append, taken_at-length}
-use Rattle.chunk_catalog.specs.declared.reach.Reach.{Reach}
-use Rattle.chunk_catalog.specs.Places.{Placed, in_chunk, place, reached, after_kill_in}
+use Rattle.chunk_catalog.specs.declared.time_ranges.TimeRange.{TimeRange}
+use Rattle.chunk_catalog.specs.Places.{Placed, in_chunk, place, versions_in, after_kill_in}
 use Rattle.chunk_catalog.proofs.PlaceLaws.{reached-append, reached_few}
 use Rattle.ts_schema.proofs.Cases.{count-append}
 
@@ -31,7 +31,7 @@ more_here s l r vs more test =
 
 -- ---- a delete in three lists of versions of a tree
 
-module _ (r : Reach) (p : ℕ) (tests : List Test) (l c e whole : List Placed) (is : whole ≡ l ++ c ++ e) where
+module _ (r : TimeRange) (p : ℕ) (tests : List Test) (l c e whole : List Placed) (is : whole ≡ l ++ c ++ e) where
   pub killed_over : (l2 c2 e2 : List Placed) → l2 ≡ map (after_kill_in r p tests) l → c2 ≡ map (after_kill_in r p tests) c → e2 ≡ map (after_kill_in r p tests) e
       → l2 ++ c2 ++ e2 ≡ map (after_kill_in r p tests) whole
   killed_over l2 c2 e2 first middle last =
@@ -41,29 +41,29 @@ module _ (r : Reach) (p : ℕ) (tests : List Test) (l c e whole : List Placed) (
       ∙ (ap (λ xs. xs ++ map (after_kill_in r p tests) e) (sym (map-append (after_kill_in r p tests) l c))
       ∙ (sym (map-append (after_kill_in r p tests) (l ++ c) e) ∙ ap (map (after_kill_in r p tests)) (sym is)))))
 
-  taken_over : taken_at p tests (reached r whole) ≡ taken_at p tests (reached r l) ++ taken_at p tests (reached r c) ++ taken_at p tests (reached r e)
+  taken_over : taken_at p tests (versions_in r whole) ≡ taken_at p tests (versions_in r l) ++ taken_at p tests (versions_in r c) ++ taken_at p tests (versions_in r e)
   taken_over =
-      ap (λ ps. taken_at p tests (reached r ps)) is
+      ap (λ ps. taken_at p tests (versions_in r ps)) is
       ∙ (ap (taken_at p tests) (reached-append r (l ++ c) e)
-      ∙ (taken_at-append p tests (reached r (l ++ c)) (reached r e)
-      ∙ ap (λ rs. rs ++ taken_at p tests (reached r e)) (ap (taken_at p tests) (reached-append r l c) ∙ taken_at-append p tests (reached r l) (reached r c))))
+      ∙ (taken_at-append p tests (versions_in r (l ++ c)) (versions_in r e)
+      ∙ ap (λ rs. rs ++ taken_at p tests (versions_in r e)) (ap (taken_at p tests) (reached-append r l c) ∙ taken_at-append p tests (versions_in r l) (versions_in r c))))
 
-  pub counted_over : (i j k : ℕ) → i ≡ length (taken_at p tests (reached r l)) → j ≡ length (taken_at p tests (reached r c)) → k ≡ length (taken_at p tests (reached r e))
-      → i + j + k ≡ length (taken_at p tests (reached r whole))
+  pub counted_over : (i j k : ℕ) → i ≡ length (taken_at p tests (versions_in r l)) → j ≡ length (taken_at p tests (versions_in r c)) → k ≡ length (taken_at p tests (versions_in r e))
+      → i + j + k ≡ length (taken_at p tests (versions_in r whole))
   counted_over i j k first middle last =
-      omega (arith, ap length taken_over, length-append (taken_at p tests (reached r l) ++ taken_at p tests (reached r c)) (taken_at p tests (reached r e)), length-append (taken_at p tests (reached r l)) (taken_at p tests (reached r c)), first, middle, last)
+      omega (arith, ap length taken_over, length-append (taken_at p tests (versions_in r l) ++ taken_at p tests (versions_in r c)) (taken_at p tests (versions_in r e)), length-append (taken_at p tests (versions_in r l)) (taken_at p tests (versions_in r c)), first, middle, last)
 
-  pub hull_over : (f g h : Option HullValue) → f ≡ hull_of (taken_at p tests (reached r l)) → g ≡ hull_of (taken_at p tests (reached r c)) → h ≡ hull_of (taken_at p tests (reached r e))
-      → joined_hull (joined_hull f g) h ≡ hull_of (taken_at p tests (reached r whole))
+  pub hull_over : (f g h : Option HullValue) → f ≡ hull_of (taken_at p tests (versions_in r l)) → g ≡ hull_of (taken_at p tests (versions_in r c)) → h ≡ hull_of (taken_at p tests (versions_in r e))
+      → joined_hull (joined_hull f g) h ≡ hull_of (taken_at p tests (versions_in r whole))
   hull_over f g h first middle last =
       ap (λ x. joined_hull (joined_hull x g) h) first
-      ∙ (ap (λ x. joined_hull (joined_hull (hull_of (taken_at p tests (reached r l))) x) h) middle
-      ∙ (ap (λ x. joined_hull (joined_hull (hull_of (taken_at p tests (reached r l))) (hull_of (taken_at p tests (reached r c)))) x) last
-      ∙ (ap (λ x. joined_hull x (hull_of (taken_at p tests (reached r e)))) (sym (hull_of-append (taken_at p tests (reached r l)) (taken_at p tests (reached r c))))
-      ∙ (sym (hull_of-append (taken_at p tests (reached r l) ++ taken_at p tests (reached r c)) (taken_at p tests (reached r e))) ∙ ap hull_of (sym taken_over)))))
+      ∙ (ap (λ x. joined_hull (joined_hull (hull_of (taken_at p tests (versions_in r l))) x) h) middle
+      ∙ (ap (λ x. joined_hull (joined_hull (hull_of (taken_at p tests (versions_in r l))) (hull_of (taken_at p tests (versions_in r c)))) x) last
+      ∙ (ap (λ x. joined_hull x (hull_of (taken_at p tests (versions_in r e)))) (sym (hull_of-append (taken_at p tests (versions_in r l)) (taken_at p tests (versions_in r c))))
+      ∙ (sym (hull_of-append (taken_at p tests (versions_in r l) ++ taken_at p tests (versions_in r c)) (taken_at p tests (versions_in r e))) ∙ ap hull_of (sym taken_over)))))
 
   -- no more versions are removed than there are
-  pub few_over_all : (i j k : ℕ) → i ≡ length (taken_at p tests (reached r l)) → j ≡ length (taken_at p tests (reached r c)) → k ≡ length (taken_at p tests (reached r e))
+  pub few_over_all : (i j k : ℕ) → i ≡ length (taken_at p tests (versions_in r l)) → j ≡ length (taken_at p tests (versions_in r c)) → k ≡ length (taken_at p tests (versions_in r e))
       → i + j + k ≤ length whole
   few_over_all i j k first middle last =
-      omega (arith, counted_over i j k first middle last, taken_at-length p tests (reached r whole), reached_few r whole)
+      omega (arith, counted_over i j k first middle last, taken_at-length p tests (versions_in r whole), reached_few r whole)

@@ -2,7 +2,7 @@ pub mod Chunks
 pub mod Kept
 pub mod Levels
 pub mod Parts
-pub mod Piles
+pub mod SegmentTrees
 pub mod Places
 pub mod Reach
 pub mod Trees

@@ -9,7 +9,7 @@ use Rattle.ts_schema.specs.Conditions.{passes_all}
 use Rattle.seg_rows.specs.Versions.{Version, after_kill}
 use Rattle.ts_bucket.specs.Chunks.{chunk_start}
 use Rattle.chunk_catalog.specs.Reach.{in_reach}
-use Rattle.chunk_catalog.specs.declared.reach.Reach.{Reach}
+use Rattle.chunk_catalog.specs.declared.time_ranges.TimeRange.{TimeRange}
 
 -- a chunk: its start, the versions that it keeps, and how many levels of segments there are
 pub record Kept : Type 0 where
@@ -36,11 +36,11 @@ abbrev pub versions_of : List Placed → List Version
 versions_of ps = map (λ x. x.version) ps
 
 -- the versions of the chunks whose starts lie in a range
-abbrev pub reached : Reach → List Placed → List Version
-reached r ps = versions_of (filter (λ x. in_reach r x.start) ps)
+abbrev pub versions_in : TimeRange → List Placed → List Version
+versions_in r ps = versions_of (filter (λ x. in_reach r x.start) ps)
 
 -- a version after a delete at p in the chunks whose starts lie in a range
-abbrev pub after_kill_in : Reach → ℕ → List Test → Placed → Placed
+abbrev pub after_kill_in : TimeRange → ℕ → List Test → Placed → Placed
 after_kill_in r p tests x = cond (in_reach r x.start) (place x.start (after_kill p tests x.version)) x
 
 -- every start lies in the hull; without a hull there is no version
@@ -49,7 +49,7 @@ StartsIn None ps = ps ≡ []
 StartsIn (Some h) ps = list_all (λ x. in_hull h x.start) ps ≡ true
 
 -- no start lies in the range
-abbrev pub AreOut : Reach → List Placed → Type 0
+abbrev pub AreOut : TimeRange → List Placed → Type 0
 AreOut r ps = list_all (λ x. not (in_reach r x.start)) ps ≡ true
 
 -- a version is kept by the chunk that holds its time
@@ -61,6 +61,6 @@ abbrev pub ArePlaced : ℤ → List Placed → Type 0
 ArePlaced interval ps = list_all (is_placed interval) ps ≡ true
 
 -- no version that is kept outside of the chunks with these starts passes every test
-abbrev pub NonePassesOutside : ℤ → List Test → Reach → Type 0
+abbrev pub NonePassesOutside : ℤ → List Test → TimeRange → Type 0
 NonePassesOutside interval tests r =
     (x : Placed) → is_placed interval x ≡ true → in_reach r x.start ≡ false → passes_all x.version.row tests ≡ false

@@ -9,7 +9,7 @@ ghost use Rattle.ts_bucket.specs.Chunks.{IsInterval};
 ghost use Rattle.ts_bucket.specs.Spans.{in_span};
 
 use crate::parts::put_rows;
-use crate::reach::{drop_reach, span_reach, start_reach, test_times};
+use crate::time_ranges::{drop_reach, span_reach, start_reach, test_times};
 use crate::trees::Tree;
 use std::alloc::Global;
 use std::marker::Model;

@@ -4,12 +4,12 @@ ghost use Rattle.seg_rows.specs.Hulls.{hull_of};
 ghost use Rattle.seg_rows.specs.Versions.{after_kill, died_out, latest_at, later_time, rows_at, taken_at};
 ghost use Rattle.ts_bucket.specs.Chunks.{IsInterval};
 ghost use Rattle.chunk_catalog.specs.Levels.{AreFew};
-ghost use Rattle.chunk_catalog.specs.Places.{ArePlaced, after_kill_in, reached, placed_in};
+ghost use Rattle.chunk_catalog.specs.Places.{ArePlaced, after_kill_in, versions_in, placed_in};
 ghost use Rattle.chunk_catalog.specs.Reach.{HoldsPassing};
 ghost use Rattle.ts_schema.specs.Counts.{raised_by, RaisedUpTo};
 
-use crate::piles::Pile;
-use crate::reach::{Reach, is_past};
+use crate::segment_trees::SegmentTree;
+use crate::time_ranges::{TimeRange, is_past};
 use seg_rows::Segment;
 use std::alloc::Global;
 use std::marker::Model;
@@ -20,7 +20,7 @@ use ts_schema::{NoMemory, Row, Seq, Steps, Test};
 #[derive(Drop)]
 pub struct Chunk {
     start: i64,
-    pile: Pile,
+    pile: SegmentTree,
 }
 
 impl Model for Chunk {
@@ -50,7 +50,7 @@ impl Chunk {
     {
         Chunk {
             start,
-            pile: Pile::of(segment),
+            pile: SegmentTree::of(segment),
         }
     }
 
@@ -104,7 +104,7 @@ impl Chunk {
     pub fn kill(
         &self,
         alloc: Global,
-        times: Reach,
+        times: TimeRange,
         tests: &Seq<Test>,
         pos: u64,
     ) -> Result<KilledChunk, NoMemory>
@@ -148,8 +148,8 @@ impl Chunk {
     pub fn kill_in(
         &self,
         alloc: Global,
-        reach: Reach,
-        times: Reach,
+        reach: TimeRange,
+        times: TimeRange,
         tests: &Seq<Test>,
         pos: u64,
     ) -> Result<KilledChunk, NoMemory>
@@ -159,9 +159,9 @@ impl Chunk {
         ensures after { IfOk result (λ k.
             placed_in k.chunk ≡ map (after_kill_in reach pos tests.now) (placed_in self.now)) }
         ensures removed { IfOk result (λ k.
-            k.removed ≡ length (taken_at pos tests.now (reached reach (placed_in self.now)))) }
+            k.removed ≡ length (taken_at pos tests.now (versions_in reach (placed_in self.now)))) }
         ensures hull { IfOk result (λ k.
-            k.hull ≡ hull_of (taken_at pos tests.now (reached reach (placed_in self.now)))) }
+            k.hull ≡ hull_of (taken_at pos tests.now (versions_in reach (placed_in self.now)))) }
     {
         if reach.holds(self.start) {
             return self.kill(alloc, times, tests, pos);
@@ -177,15 +177,15 @@ impl Chunk {
     #[tactic(auto, using(crate::proofs::PlaceLaws::reached_in, crate::proofs::PlaceLaws::reached_out, crate::proofs::PlaceLaws::killed_in, crate::proofs::PlaceLaws::killed_out, seg_rows::proofs::VersionLaws::parts))]
     pub fn scan_in<L>(
         &self,
-        reach: Reach,
+        reach: TimeRange,
         pos: u64,
         span: Span,
         out: &mut Seq<Row>,
         steps: &mut Steps<L>,
     ) -> Result<(), NoMemory>
-        ensures rows { OnOk result (out.new ≡ out.old ++ rows_at pos span (reached reach (placed_in self.now))) }
-        ensures ticks { OnOk result (steps.new ≡ raised_by (length (reached reach (placed_in self.now))) steps.old) }
-        ensures at_most { OnErr result (RaisedUpTo (length (reached reach (placed_in self.now))) steps.old steps.new) }
+        ensures rows { OnOk result (out.new ≡ out.old ++ rows_at pos span (versions_in reach (placed_in self.now))) }
+        ensures ticks { OnOk result (steps.new ≡ raised_by (length (versions_in reach (placed_in self.now))) steps.old) }
+        ensures at_most { OnErr result (RaisedUpTo (length (versions_in reach (placed_in self.now))) steps.old steps.new) }
     {
         if reach.holds(self.start) {
             self.scan(pos, span, out, steps)
@@ -197,8 +197,8 @@ impl Chunk {
 
     /// How many versions there are, where the start lies in a range.
     #[tactic(auto, using(crate::proofs::PlaceLaws::reached_in, crate::proofs::PlaceLaws::reached_out, crate::proofs::PlaceLaws::killed_in, crate::proofs::PlaceLaws::killed_out, seg_rows::proofs::VersionLaws::parts))]
-    pub fn count_in(&self, reach: Reach) -> u64
-        ensures held { result ≡ length (reached reach (placed_in self.now)) }
+    pub fn count_in(&self, reach: TimeRange) -> u64
+        ensures held { result ≡ length (versions_in reach (placed_in self.now)) }
     {
         if reach.holds(self.start) {
             self.count()

@@ -8,8 +8,8 @@
 mod catalog;
 mod chunk;
 mod parts;
-mod piles;
-mod reach;
+mod segment_trees;
+mod time_ranges;
 mod trees;
 
 pub use catalog::{Chunks, KilledChunks, passing_span};

@@ -8,10 +8,10 @@ ghost use Rattle.ts_bucket.specs.Chunks.{IsInterval};
 ghost use Rattle.chunk_catalog.specs.Levels.{AreLevel, AreNear, Balances, FewLevels, Grows, no_tree, tree_over};
 ghost use Rattle.chunk_catalog.specs.Reach.{HoldsPassing};
 ghost use Rattle.ts_schema.specs.declared.conditions.Test.{Test};
-ghost use Rattle.chunk_catalog.specs.Places.{AreOut, after_kill_in, in_chunk, reached, versions_of, ArePlaced, StartsIn};
+ghost use Rattle.chunk_catalog.specs.Places.{AreOut, after_kill_in, in_chunk, versions_in, versions_of, ArePlaced, StartsIn};
 
 use crate::chunk::{Chunk, KilledChunk};
-use crate::reach::{Reach, is_past};
+use crate::time_ranges::{TimeRange, is_past};
 use seg_rows::{Segment, both_died, has_died, join_hulls};
 use std::alloc::Global;
 use std::marker::Model;
@@ -91,7 +91,7 @@ impl Tree {
     }
 
     /// Whether no start lies in a range.
-    fn misses(&self, reach: Reach) -> bool
+    fn misses(&self, reach: TimeRange) -> bool
         ensures out { result ≡ true → AreOut reach self.now.0 }
     {
         match &self.node {
@@ -112,8 +112,8 @@ impl Tree {
 
     /// Whether a delete at a position takes nothing from the chunks whose starts lie in a range: no
     /// version lives there, or there is no such chunk.
-    fn is_spared(&self, reach: Reach, pos: u64) -> bool
-        ensures spared { result ≡ true → (tests : List Test) → taken_at pos tests (reached reach self.now.0) ≡ [] }
+    fn is_spared(&self, reach: TimeRange, pos: u64) -> bool
+        ensures spared { result ≡ true → (tests : List Test) → taken_at pos tests (versions_in reach self.now.0) ≡ [] }
     {
         has_died(self.died_out(), pos) || self.misses(reach)
     }
@@ -176,13 +176,13 @@ impl Tree {
                 if start < here {
                     let left = left.with(alloc, start, segment)?;
                     let left = Arc::new(alloc, left)?;
-                    balanced(alloc, &left, chunk, right)
+                    balance(alloc, &left, chunk, right)
                 } else if here < start {
                     let right = right.with(alloc, start, segment)?;
                     let right = Arc::new(alloc, right)?;
-                    balanced(alloc, left, chunk, &right)
+                    balance(alloc, left, chunk, &right)
                 } else {
-                    appended(alloc, left, chunk, right, segment)
+                    fork_with_segment(alloc, left, chunk, right, segment)
                 }
             }
         }
@@ -194,8 +194,8 @@ impl Tree {
     pub fn kill(
         &self,
         alloc: Global,
-        reach: Reach,
-        times: Reach,
+        reach: TimeRange,
+        times: TimeRange,
         tests: &Seq<Test>,
         pos: u64,
     ) -> Result<KilledTree, NoMemory>
@@ -203,14 +203,14 @@ impl Tree {
         requires times { HoldsPassing tests.now times }
         ensures after { IfOk result (λ k. k.tree.0 ≡ map (after_kill_in reach pos tests.now) self.now.0) }
         ensures levels { IfOk result (λ k. k.tree.1 ≡ self.now.1) }
-        ensures removed { IfOk result (λ k. k.removed ≡ length (taken_at pos tests.now (reached reach self.now.0))) }
-        ensures hull { IfOk result (λ k. k.hull ≡ hull_of (taken_at pos tests.now (reached reach self.now.0))) }
+        ensures removed { IfOk result (λ k. k.removed ≡ length (taken_at pos tests.now (versions_in reach self.now.0))) }
+        ensures hull { IfOk result (λ k. k.hull ≡ hull_of (taken_at pos tests.now (versions_in reach self.now.0))) }
     {
         if self.is_spared(reach, pos) {
-            return Ok(untouched(self.copy()?));
+            return Ok(unchanged_tree(self.copy()?));
         }
         match &self.node {
-            Node::Empty => Ok(untouched(Tree::new())),
+            Node::Empty => Ok(unchanged_tree(Tree::new())),
             Node::Fork(left, chunk, right, _, _, _) => {
                 let first = left.kill(alloc, reach, times, tests, pos)?;
                 let middle = chunk.kill_in(alloc, reach, times, tests, pos)?;
@@ -225,15 +225,15 @@ impl Tree {
     #[tactic(auto, using(crate::proofs::PlaceLaws::places, crate::proofs::PlaceLaws::out_reached, seg_rows::proofs::VersionLaws::parts))]
     pub fn scan<L>(
         &self,
-        reach: Reach,
+        reach: TimeRange,
         pos: u64,
         span: Span,
         out: &mut Seq<Row>,
         steps: &mut Steps<L>,
     ) -> Result<(), NoMemory>
-        ensures rows { OnOk result (out.new ≡ out.old ++ rows_at pos span (reached reach self.now.0)) }
-        ensures ticks { OnOk result (steps.new ≡ raised_by (length (reached reach self.now.0)) steps.old) }
-        ensures at_most { OnErr result (RaisedUpTo (length (reached reach self.now.0)) steps.old steps.new) }
+        ensures rows { OnOk result (out.new ≡ out.old ++ rows_at pos span (versions_in reach self.now.0)) }
+        ensures ticks { OnOk result (steps.new ≡ raised_by (length (versions_in reach self.now.0)) steps.old) }
+        ensures at_most { OnErr result (RaisedUpTo (length (versions_in reach self.now.0)) steps.old steps.new) }
     {
         let _so_far = steps.count();
         if self.misses(reach) {
@@ -251,9 +251,9 @@ impl Tree {
 
     /// How many versions the chunks have whose starts lie in a range.
     #[tactic(auto, using(crate::proofs::PlaceLaws::places, crate::proofs::PlaceLaws::out_reached, crate::proofs::PlaceLaws::reached_few, seg_rows::proofs::VersionLaws::parts))]
-    pub fn held(&self, reach: Reach) -> u64
+    pub fn held(&self, reach: TimeRange) -> u64
         requires countable { length self.now.0 < 2 ^ 64 }
-        ensures held { result ≡ length (reached reach self.now.0) }
+        ensures held { result ≡ length (versions_in reach self.now.0) }
     {
         if self.misses(reach) {
             return 0;
@@ -308,7 +308,7 @@ impl Tree {
 }
 
 /// A tree that a delete left alone.
-fn untouched(tree: Tree) -> KilledTree
+fn unchanged_tree(tree: Tree) -> KilledTree
     ensures tree { result.tree ≡ tree }
     ensures removed { result.removed ≡ 0 }
     ensures hull { result.hull ≡ None }
@@ -321,7 +321,12 @@ fn untouched(tree: Tree) -> KilledTree
 }
 
 /// A tree as it became, or the old one where nothing was removed.
-fn changed(alloc: Global, old: &Arc<Tree>, new: Tree, removed: u64) -> Result<Arc<Tree>, NoMemory>
+fn replace_if_changed(
+    alloc: Global,
+    old: &Arc<Tree>,
+    new: Tree,
+    removed: u64,
+) -> Result<Arc<Tree>, NoMemory>
     requires same { removed ≡ 0 → new.0 ≡ (arc_value old.now).0 }
     requires levels { new.1 ≡ (arc_value old.now).1 }
     ensures tree { IfOk result (λ tree. arc_value tree ≡ new) }
@@ -353,8 +358,8 @@ fn after_kills(
     ensures removed { IfOk result (λ k. k.removed ≡ first.removed + middle.removed + second.removed) }
     ensures hull { IfOk result (λ k. k.hull ≡ joined_hull (joined_hull first.hull middle.hull) second.hull) }
 {
-    let left = changed(alloc, left, first.tree, first.removed)?;
-    let right = changed(alloc, right, second.tree, second.removed)?;
+    let left = replace_if_changed(alloc, left, first.tree, first.removed)?;
+    let right = replace_if_changed(alloc, right, second.tree, second.removed)?;
     Ok(KilledTree {
         tree: fork(left, middle.chunk, right),
         removed: first.removed + middle.removed + second.removed,
@@ -399,7 +404,7 @@ fn hull_with(chunk: &Chunk, others: Option<Hull>) -> Hull
 }
 
 /// The same as `fork`, of copies.
-fn joined(left: &Arc<Tree>, chunk: &Chunk, right: &Arc<Tree>) -> Result<Tree, NoMemory>
+fn fork_of_copies(left: &Arc<Tree>, chunk: &Chunk, right: &Arc<Tree>) -> Result<Tree, NoMemory>
     requires even { AreLevel (arc_value left.now).1 (arc_value right.now).1 }
     requires countable { length (tree_over (arc_value left.now) chunk.now (arc_value right.now)).0 < 2 ^ 64 }
     ensures tree { IfOk result (λ tree. tree ≡ tree_over (arc_value left.now) chunk.now (arc_value right.now)) }
@@ -408,7 +413,7 @@ fn joined(left: &Arc<Tree>, chunk: &Chunk, right: &Arc<Tree>) -> Result<Tree, No
 }
 
 /// The same with one more segment in the chunk, which has a version.
-fn appended(
+fn fork_with_segment(
     alloc: Global,
     left: &Arc<Tree>,
     chunk: &Chunk,
@@ -428,8 +433,8 @@ fn appended(
     Ok(fork(Arc::try_clone(left)?, chunk, Arc::try_clone(right)?))
 }
 
-/// The same as `joined`, to be a part of another tree.
-fn shared(
+/// The same as `join_segments`, to be a part of another tree.
+fn share_fork(
     alloc: Global,
     left: &Arc<Tree>,
     chunk: &Chunk,
@@ -440,11 +445,11 @@ fn shared(
     ensures tree { IfOk result (λ tree.
         arc_value tree ≡ tree_over (arc_value left.now) chunk.now (arc_value right.now)) }
 {
-    Ok(Arc::new(alloc, joined(left, chunk, right)?)?)
+    Ok(Arc::new(alloc, fork_of_copies(left, chunk, right)?)?)
 }
 
-/// The same as `joined`, where one side may have two levels more than the other.
-fn balanced(
+/// The same as `join_segments`, where one side may have two levels more than the other.
+fn balance(
     alloc: Global,
     left: &Arc<Tree>,
     chunk: &Chunk,
@@ -461,11 +466,11 @@ fn balanced(
     } else if right.height().saturating_sub(left.height()) > 1 {
         lean_left(alloc, left, chunk, right)
     } else {
-        joined(left, chunk, right)
+        fork_of_copies(left, chunk, right)
     }
 }
 
-/// The same as `joined`, where the left side is the higher: a part of it moves to the right.
+/// The same as `join_segments`, where the left side is the higher: a part of it moves to the right.
 fn lean_right(
     alloc: Global,
     left: &Arc<Tree>,
@@ -479,13 +484,13 @@ fn lean_right(
     ensures levels { IfOk result (λ tree. Balances (arc_value left.now).1 (arc_value right.now).1 tree.1) }
 {
     match &left.node {
-        Node::Empty => joined(left, chunk, right),
+        Node::Empty => fork_of_copies(left, chunk, right),
         Node::Fork(first, before, second, _, _, _) => {
             if second.height() > first.height() {
                 return spread_left(alloc, first, before, second, chunk, right);
             }
-            let lower = shared(alloc, second, chunk, right)?;
-            joined(first, before, &lower)
+            let lower = share_fork(alloc, second, chunk, right)?;
+            fork_of_copies(first, before, &lower)
         }
     }
 }
@@ -509,18 +514,18 @@ fn spread_left(
 {
     match &second.node {
         Node::Empty => {
-            let lower = shared(alloc, second, chunk, third)?;
-            joined(first, before, &lower)
+            let lower = share_fork(alloc, second, chunk, third)?;
+            fork_of_copies(first, before, &lower)
         }
         Node::Fork(near, middle, far, _, _, _) => {
-            let left = shared(alloc, first, before, near)?;
-            let right = shared(alloc, far, chunk, third)?;
-            joined(&left, middle, &right)
+            let left = share_fork(alloc, first, before, near)?;
+            let right = share_fork(alloc, far, chunk, third)?;
+            fork_of_copies(&left, middle, &right)
         }
     }
 }
 
-/// The same as `joined`, where the right side is the higher: a part of it moves to the left.
+/// The same as `join_segments`, where the right side is the higher: a part of it moves to the left.
 fn lean_left(
     alloc: Global,
     left: &Arc<Tree>,
@@ -534,13 +539,13 @@ fn lean_left(
     ensures levels { IfOk result (λ tree. Balances (arc_value left.now).1 (arc_value right.now).1 tree.1) }
 {
     match &right.node {
-        Node::Empty => joined(left, chunk, right),
+        Node::Empty => fork_of_copies(left, chunk, right),
         Node::Fork(first, after, second, _, _, _) => {
             if first.height() > second.height() {
                 return spread_right(alloc, left, chunk, first, after, second);
             }
-            let lower = shared(alloc, left, chunk, first)?;
-            joined(&lower, after, second)
+            let lower = share_fork(alloc, left, chunk, first)?;
+            fork_of_copies(&lower, after, second)
         }
     }
 }
@@ -564,13 +569,13 @@ fn spread_right(
 {
     match &second.node {
         Node::Empty => {
-            let lower = shared(alloc, first, chunk, second)?;
-            joined(&lower, after, third)
+            let lower = share_fork(alloc, first, chunk, second)?;
+            fork_of_copies(&lower, after, third)
         }
         Node::Fork(near, middle, far, _, _, _) => {
-            let left = shared(alloc, first, chunk, near)?;
-            let right = shared(alloc, far, after, third)?;
-            joined(&left, middle, &right)
+            let left = share_fork(alloc, first, chunk, near)?;
+            let right = share_fork(alloc, far, after, third)?;
+            fork_of_copies(&left, middle, &right)
         }
     }
 }

@@ -20,7 +20,7 @@ use Rattle.ts_model.specs.declared.refreshes.Waiting.{Waiting as WaitingRefresh}
 use Rattle.ts_model.specs.declared.rosters.Roster.{Roster}
 use Rattle.ts_model.specs.declared.views.ViewDef.{ViewDef}
 use Rattle.ts_model.specs.History.{resumed}
-use Rattle.ts_model.specs.Saved.{saved, nothing_saved, saved_last, is_dirty, pos_in, last_hi}
+use Rattle.ts_model.specs.Saved.{saved_view, nothing_saved, saved_last, is_dirty, pos_in, last_hi}
 use Rattle.ts_model.specs.Roster.{IsOf, view_of}
 use Rattle.ts_model.specs.Refreshes.{is_by, waits_over, is_over, lasts_end, waiting_end, threshold, was_cut}
 use Rattle.ts_model.specs.Sound.{span_fits}
@@ -101,7 +101,7 @@ span_whole def span fits =
 cut_below : (n : ℕ) (found : ViewDef) (i : Image) → valid i ≡ true → view_of (image_roster i) n ≡ Some found → (b : ℤ) (s : ℕ) → is_bucket found.fold.width b ≡ true → was_cut n (resumed i) b s ≡ true → (b +ℤ found.fold.width.step) ≤ℤ number_of (threshold found.table (resumed i))
 cut_below n found i ok there b s bucket cut = by_last (saved_last n i b) refl cut
   where
-    facts : KeptFacts found i (saved n i)
+    facts : KeptFacts found i (saved_view n i)
     facts = kept_facts n found i ok (let P : Option ViewDef → Type 0 = λ o. IsOf found o in subst P (sym there) (refl, refl))
 
     over : (found.table == found.table) ≡ true

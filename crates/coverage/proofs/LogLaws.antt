@@ -13,7 +13,7 @@ use Rattle.ts_bucket.proofs.PositionLaws.{later-none, later-assoc, above-later, 
 use Rattle.ts_bucket.proofs.TouchLaws.{log_touch-append}
 use Rattle.ts_bucket.specs.Touches.{Noted, log_touch}
 use Rattle.ts_model.specs.Refreshes.{is_met}
-use Rattle.coverage.specs.Notes.{logged, fed_one, fed}
+use Rattle.coverage.specs.Notes.{log_after, fed_one, pending_after}
 use Rattle.coverage.specs.Coverage.{RisesFrom, is_upto}
 
 -- ---- what a log touches
@@ -22,7 +22,7 @@ missed : (w : Width) (b threshold : ℤ) (hull : Hull) → (b +ℤ w.step) ≤�
 missed w b threshold hull below above = grind (arith, ints)
 
 -- in a bucket that ends at or below the threshold, a commit's hull is logged where it meets the bucket
-pub log_touch-logged : (w : Width) (b : ℤ) (hull : Option Hull) (k : ℕ) (threshold : ℤ) (log : List Noted) → (b +ℤ w.step) ≤ℤ threshold → log_touch w b (logged hull k threshold log) ≡ later (log_touch w b log) (cond (is_met w b hull) (Some k) None)
+pub log_touch-logged : (w : Width) (b : ℤ) (hull : Option Hull) (k : ℕ) (threshold : ℤ) (log : List Noted) → (b +ℤ w.step) ≤ℤ threshold → log_touch w b (log_after hull k threshold log) ≡ later (log_touch w b log) (cond (is_met w b hull) (Some k) None)
 log_touch-logged w b None k threshold log below = sym (later-none (log_touch w b log))
 log_touch-logged w b (Some hull) k threshold log below =
     elim (int_lt hull.least threshold) as (λ t. int_lt hull.least threshold ≡ t → log_touch w b (cond t (log ++ (record { hull = hull; at = k } ∷ [])) log) ≡ later (log_touch w b log) (cond (meets w b hull) (Some k) None)) [
@@ -55,7 +55,7 @@ rises_further m p (entry ∷ log) hull past upto r =
     let parts = and_parts (nat_le entry.at m) (is_upto m log) upto in
     (r.0, rises_further m (Some entry.at) log hull (upto_is m entry.at parts.0) parts.1 r.1)
 
-pub rises-logged : (m : ℕ) (p : Option ℕ) (log : List Noted) (hull : Option Hull) (threshold : ℤ) → is_above m p ≡ false → is_upto m log ≡ true → RisesFrom p log → RisesFrom p (logged hull (suc m) threshold log)
+pub rises-logged : (m : ℕ) (p : Option ℕ) (log : List Noted) (hull : Option Hull) (threshold : ℤ) → is_above m p ≡ false → is_upto m log ≡ true → RisesFrom p log → RisesFrom p (log_after hull (suc m) threshold log)
 rises-logged m p log None threshold past upto r = r
 rises-logged m p log (Some hull) threshold past upto r =
     elim (int_lt hull.least threshold) as (λ t. RisesFrom p (cond t (log ++ (record { hull = hull; at = suc m } ∷ [])) log)) [ true ↦ rises_further m p log hull past upto r | false ↦ r ]
@@ -80,7 +80,7 @@ upto_further m (entry ∷ log) hull e =
     let parts = and_parts (nat_le entry.at m) (is_upto m log) e in
     and_from _ _ (le_next entry.at m parts.0) (upto_further m log hull parts.1)
 
-pub upto-logged : (m : ℕ) (log : List Noted) (hull : Option Hull) (threshold : ℤ) → is_upto m log ≡ true → is_upto (suc m) (logged hull (suc m) threshold log) ≡ true
+pub upto-logged : (m : ℕ) (log : List Noted) (hull : Option Hull) (threshold : ℤ) → is_upto m log ≡ true → is_upto (suc m) (log_after hull (suc m) threshold log) ≡ true
 upto-logged m log None threshold e = upto_next m log e
 upto-logged m log (Some hull) threshold e =
     elim (int_lt hull.least threshold) as (λ t. is_upto (suc m) (cond t (log ++ (record { hull = hull; at = suc m } ∷ [])) log) ≡ true) [ true ↦ upto_further m log hull e | false ↦ upto_next m log e ]
@@ -96,12 +96,12 @@ not_before_at s q None e f = absurd (true≢false e)
 not_before_at s q (Some r) e f = grind (arith, nat_tests)
 
 -- above a position that the last refresh isn't above, what is pending after a log that rises was fed is the greatest of what was pending and what the log touches
-pub above-fed : (w : Width) (b : ℤ) (s : ℕ) (last p : Option ℕ) (log : List Noted) → is_above s last ≡ false → RisesFrom p log → above s (fed w b last log p) ≡ above s (later p (log_touch w b log))
+pub above-fed : (w : Width) (b : ℤ) (s : ℕ) (last p : Option ℕ) (log : List Noted) → is_above s last ≡ false → RisesFrom p log → above s (pending_after w b last log p) ≡ above s (later p (log_touch w b log))
 above-fed w b s last p [] low r = ap (above s) (sym (later-none p))
 above-fed w b s last p (entry ∷ log) low r =
-    elim (meets w b entry.hull) as (λ m. above s (fed w b last log (cond (m && is_before entry.at last) (Some entry.at) p)) ≡ above s (later p (later (cond m (Some entry.at) None) (log_touch w b log)))) [
+    elim (meets w b entry.hull) as (λ m. above s (pending_after w b last log (cond (m && is_before entry.at last) (Some entry.at) p)) ≡ above s (later p (later (cond m (Some entry.at) None) (log_touch w b log)))) [
       | true ↦
-          elim (is_before entry.at last) as (λ t. is_before entry.at last ≡ t → above s (fed w b last log (cond t (Some entry.at) p)) ≡ above s (later p (later (Some entry.at) (log_touch w b log)))) [
+          elim (is_before entry.at last) as (λ t. is_before entry.at last ≡ t → above s (pending_after w b last log (cond t (Some entry.at) p)) ≡ above s (later p (later (Some entry.at) (log_touch w b log)))) [
             | true ↦ λ _.
                 above-fed w b s last (Some entry.at) log low r.1
                 ∙ ap (above s) (ap (λ q. later q (log_touch w b log)) (sym (later_greater p entry.at r.0)) ∙ later-assoc p (Some entry.at) (log_touch w b log))
@@ -115,7 +115,7 @@ above-fed w b s last p (entry ∷ log) low r =
     ]
 
 -- what is fed is pending
-pub is_some-fed : (w : Width) (b : ℤ) (last p : Option ℕ) (log : List Noted) → is_some p ≡ true → is_some (fed w b last log p) ≡ true
+pub is_some-fed : (w : Width) (b : ℤ) (last p : Option ℕ) (log : List Noted) → is_some p ≡ true → is_some (pending_after w b last log p) ≡ true
 is_some-fed w b last p [] e = e
 is_some-fed w b last p (entry ∷ log) e =
     is_some-fed w b last (fed_one w b last entry p) log (elim (meets w b entry.hull && is_before entry.at last) as (λ t. is_some (cond t (Some entry.at) p) ≡ true) [ true ↦ refl | false ↦ e ])
@@ -139,7 +139,7 @@ some_one w b last p entry =
     choice false (Some q) = refl
 
 -- something is pending after a log was fed exactly where something was pending, or the log touches the bucket above the last refresh
-pub some-fed : (w : Width) (b : ℤ) (last p : Option ℕ) (log : List Noted) → is_some (fed w b last log p) ≡ (is_some p || is_some (above_last last (log_touch w b log)))
+pub some-fed : (w : Width) (b : ℤ) (last p : Option ℕ) (log : List Noted) → is_some (pending_after w b last log p) ≡ (is_some p || is_some (above_last last (log_touch w b log)))
 some-fed w b last p [] = sym (ap (λ q. is_some p || is_some q) (above_last-nothing last) ∙ or-false (is_some p))
 some-fed w b last p (entry ∷ log) =
     let here : Option ℕ = cond (meets w b entry.hull) (Some entry.at) None in
@@ -161,12 +161,12 @@ fresh_one w b last p entry e =
       | false ↦ e
     ]
 
-pub fresh-fed : (w : Width) (b : ℤ) (last p : Option ℕ) (log : List Noted) → above_last last p ≡ p → above_last last (fed w b last log p) ≡ fed w b last log p
+pub fresh-fed : (w : Width) (b : ℤ) (last p : Option ℕ) (log : List Noted) → above_last last p ≡ p → above_last last (pending_after w b last log p) ≡ pending_after w b last log p
 fresh-fed w b last p [] e = e
 fresh-fed w b last p (entry ∷ log) e = fresh-fed w b last (fed_one w b last entry p) log (fresh_one w b last p entry e)
 
 -- and not after what the log reaches
-pub past-fed : (m : ℕ) (w : Width) (b : ℤ) (last p : Option ℕ) (log : List Noted) → is_above m p ≡ false → is_upto m log ≡ true → is_above m (fed w b last log p) ≡ false
+pub past-fed : (m : ℕ) (w : Width) (b : ℤ) (last p : Option ℕ) (log : List Noted) → is_above m p ≡ false → is_upto m log ≡ true → is_above m (pending_after w b last log p) ≡ false
 past-fed m w b last p [] past upto = past
 past-fed m w b last p (entry ∷ log) past upto =
     let parts = and_parts (nat_le entry.at m) (is_upto m log) upto in

@@ -24,7 +24,7 @@ use Rattle.ts_model.specs.Roster.{roster, view_of, change_at, set_only}
 use Rattle.ts_model.specs.Rows.{rows}
 use Rattle.ts_model.specs.Effect.{hull_of_ops}
 use Rattle.ts_model.specs.Refreshes.{span_of_cut, is_covered, was_cut, last, touches, last_touch}
-use Rattle.coverage.specs.Notes.{Notes, fed_at, settled}
+use Rattle.coverage.specs.Notes.{Notes, fed_at, notes_after_refresh}
 use Rattle.coverage.specs.Coverage.{pending_position, RisesFrom, is_upto, IsCovered}
 use Rattle.coverage.specs.Laws.{EndsWhole, CommitsKeep, CutsKeep, FinishesKeep, QuietKeeps, FeedsKeep, ModesKeep, BeginningsCover, SameCover, FinishesClear}
 use Rattle.coverage.proofs.LogLaws.{log_touch-logged, rises-logged, upto-logged, upto_next, above-fed, is_some-fed, fresh-fed, past-fed, above-pending, pending-alone, fresh-pending}
@@ -173,7 +173,7 @@ past_settled false m snap p e = e
 pub low_before : (s : ℕ) (last x : Option ℕ) → is_above s (later last x) ≡ false → is_above s last ≡ false
 low_before s last x low = (or_parts _ _ (sym (is_above-later s last x) ∙ low)).0
 
-settled_exact : (n : ℕ) (def : ViewDef) (h : History) (cut snap : ℕ) (notes : Notes) (b : ℤ) (s : ℕ) → IsCovered n def h notes → is_bucket def.fold.width b ≡ true → was_cut n h b s ≡ true → is_above s (last n (h ▸ Built cut snap) b) ≡ false → above s (pending_position def.fold.width (settled (span_of_cut n h cut) snap notes) b) ≡ above s (last_touch n def h b)
+settled_exact : (n : ℕ) (def : ViewDef) (h : History) (cut snap : ℕ) (notes : Notes) (b : ℤ) (s : ℕ) → IsCovered n def h notes → is_bucket def.fold.width b ≡ true → was_cut n h b s ≡ true → is_above s (last n (h ▸ Built cut snap) b) ≡ false → above s (pending_position def.fold.width (notes_after_refresh (span_of_cut n h cut) snap notes) b) ≡ above s (last_touch n def h b)
 settled_exact n def h cut snap notes b s covered bucket was low =
     let covers : Bool = is_covered b (span_of_cut n h cut) in
     let same_last : notes.refreshed b ≡ last n h b = covered.refreshed b bucket in

@@ -11,7 +11,7 @@ use Rattle.ts_model.specs.declared.events.Event.TheVariants.{Commit}
 use Rattle.ts_model.specs.History.{◌▸◌}
 use Rattle.ts_model.specs.Rows.{rows}
 use Rattle.ts_model.specs.Effect.{all_appended, all_taken, hull_with, hull_of}
-use Rattle.ts_model.specs.Reads.{inserted}
+use Rattle.ts_model.specs.Reads.{rows_inserted}
 use Rattle.ts_model.specs.Allowed.{consistent, all_consistent}
 use Rattle.ts_model.proofs.FitLaws.{all_joined, all_parted, moved_hold, rows_hold, rows_are_times}
 use Rattle.coverage.specs.Laws.{HullsAreOfTimes}
@@ -43,6 +43,6 @@ hull_of_timed (row ∷ xs) hull e f =
 pub hulls_are_of_times : HullsAreOfTimes
 hulls_are_of_times t h ops hull ok e =
     let before = (and_parts (all_consistent h) (consistent h (Commit ops)) ok).0 in
-    let all = all_parted timed (inserted t h) (all_appended t ops) (rows_are_times.inserted t (h ▸ Commit ops) ok) in
+    let all = all_parted timed (rows_inserted t h) (all_appended t ops) (rows_are_times.inserted t (h ▸ Commit ops) ok) in
     let moved = moved_hold timed t ops (rows t h) all.1 (rows_hold timed t h all.0) in
     hull_of_timed (all_appended t ops ++ all_taken t ops (rows t h)) hull (all_joined timed (all_appended t ops) (all_taken t ops (rows t h)) all.1 moved.0) e

@@ -25,7 +25,7 @@ use Rattle.ts_model.specs.Limits.{is_word}
 use Rattle.ts_model.proofs.SoundLaws.{view_width}
 use Rattle.ts_model.proofs.CutLaws.{cuts_fit, span_was_cut}
 use Rattle.ts_model.specs.Sound.{span_fits}
-use Rattle.coverage.specs.Notes.{Notes, number_of, no_notes, begun, cut_to, notes_after, notes_of}
+use Rattle.coverage.specs.Notes.{Notes, number_of, no_notes, notes_of_new, cut_to, notes_after, notes_of}
 use Rattle.coverage.specs.Coverage.{IsCovered}
 use Rattle.coverage.specs.Laws.{EndsWhole, EventsKeep, HistoriesCovered, HistoriesTell, ThresholdsAre, ThresholdsReach, AllBucketsAre}
 use Rattle.coverage.proofs.ModelLaws.{cut_view}
@@ -40,7 +40,7 @@ use Rattle.ts_num.proofs.EndLaws.{int_max_assoc}
 
 view_keeps : (n : ℕ) (def : ViewDef) (h : History) (made : ViewDef) (notes : Notes) → all_consistent h ≡ true → IsCovered n def h notes → IsCovered n def (h ▸ View made) (notes_after n def h (View made) notes)
 view_keeps n def h made notes ok covered =
-    elim (length (roster h).views == n) as (λ t. (length (roster h).views == n) ≡ t → IsCovered n def (h ▸ View made) (cond t (begun def.fold.width (suc (position h)) notes) notes)) [
+    elim (length (roster h).views == n) as (λ t. (length (roster h).views == n) ≡ t → IsCovered n def (h ▸ View made) (cond t (notes_of_new def.fold.width (suc (position h)) notes) notes)) [
       | true ↦ λ this.
           let at : length (roster h).views ≡ n = eqb-true (length (roster h).views) n this in
           let l : length (roster h).views ≤ n = omega arith in
@@ -137,7 +137,7 @@ pub thresholds_are : ThresholdsAre
 thresholds_are n def start = refl
 thresholds_are n def (resumed i) = refl
 thresholds_are n def (h ▸ View made) =
-    elim (length (roster h).views == n) as (λ t. (cond t (begun def.fold.width (suc (position h)) (notes_of n def h)) (notes_of n def h)).threshold ≡ number_of (threshold def.table h)) [ true ↦ thresholds_are n def h | false ↦ thresholds_are n def h ]
+    elim (length (roster h).views == n) as (λ t. (cond t (notes_of_new def.fold.width (suc (position h)) (notes_of n def h)) (notes_of n def h)).threshold ≡ number_of (threshold def.table h)) [ true ↦ thresholds_are n def h | false ↦ thresholds_are n def h ]
 thresholds_are n def (h ▸ Cut v span) =
     elim (is_over def.table (view_of (roster h) v)) as (λ t. (cond t (cut_to def.fold.width span.hi (notes_of n def h)) (notes_of n def h)).threshold ≡ number_of (greater (threshold def.table h) (cond t (Some span.hi) None))) [
       | true ↦ ap (λ x. int_max x span.hi) (thresholds_are n def h) ∙ number_raised (threshold def.table h) true span.hi

@@ -19,7 +19,7 @@ use Rattle.ts_model.specs.Rows.{rows}
 use Rattle.ts_model.specs.Effect.{hull_of_ops}
 use Rattle.ts_model.specs.Refreshes.{span_of_cut, last, last_touch, watermark, invalid, stale, threshold}
 use Rattle.ts_model.specs.Allowed.{all_consistent}
-use Rattle.coverage.specs.Notes.{Notes, number_of, begun, noted, fed_at, all_fed, cut_to, settled, notes_after, notes_of, AreSame}
+use Rattle.coverage.specs.Notes.{Notes, number_of, notes_of_new, notes_after_hull, fed_at, all_fed, cut_to, notes_after_refresh, notes_after, notes_of, AreSame}
 use Rattle.coverage.specs.Coverage.{is_upto, pending_position, IsCovered}
 
 -- ---- one step for each kind of event
@@ -28,7 +28,7 @@ use Rattle.coverage.specs.Coverage.{is_upto, pending_position, IsCovered}
 abbrev pub CommitsKeep : Type 0
 CommitsKeep =
     (n : ℕ) (def : ViewDef) (h : History) (ops : List Op) (notes : Notes) → IsCovered n def h notes
-    → IsCovered n def (h ▸ Commit ops) (noted (hull_of_ops def.table ops (rows def.table h)) (suc (position h)) notes)
+    → IsCovered n def (h ▸ Commit ops) (notes_after_hull (hull_of_ops def.table ops (rows def.table h)) (suc (position h)) notes)
 
 -- a span ends where a bucket does
 pub record EndsWhole (w : Width) (span : Span) : Type 0 where
@@ -46,7 +46,7 @@ CutsKeep =
 abbrev pub FinishesKeep : Type 0
 FinishesKeep =
     (n : ℕ) (def : ViewDef) (h : History) (cut snap : ℕ) (notes : Notes) → IsCovered n def h notes
-    → IsCovered n def (h ▸ Built cut snap) (settled (span_of_cut n h cut) snap notes)
+    → IsCovered n def (h ▸ Built cut snap) (notes_after_refresh (span_of_cut n h cut) snap notes)
 
 -- an event of which the notes of aggregate n hear nothing: a new table or mode, another aggregate, and a cut of
 -- another aggregate
@@ -68,7 +68,7 @@ abbrev pub BeginningsCover : Type 0
 BeginningsCover =
     (n : ℕ) (def : ViewDef) (h : History) (made : ViewDef) (notes : Notes) → all_consistent h ≡ true
     → view_of (roster h) n ≡ None → is_upto (position h) notes.log ≡ true
-    → IsCovered n def (h ▸ View made) (begun def.fold.width (suc (position h)) notes)
+    → IsCovered n def (h ▸ View made) (notes_of_new def.fold.width (suc (position h)) notes)
 
 -- any consistent event
 abbrev pub EventsKeep : Type 0
@@ -169,8 +169,8 @@ FinishesClear =
     (n : ℕ) (def : ViewDef) (h : History) (cut snap : ℕ) (span : Span) (b : ℤ) (notes : Notes)
     → IsCovered n def h notes → is_bucket def.fold.width b ≡ true → span_of_cut n h cut ≡ Some span
     → in_span span b ≡ true
-    → above snap (pending_position def.fold.width (settled (span_of_cut n h cut) snap notes) b) ≡ pending_position
-    def.fold.width (settled (span_of_cut n h cut) snap notes) b
+    → above snap (pending_position def.fold.width (notes_after_refresh (span_of_cut n h cut) snap notes) b) ≡ pending_position
+    def.fold.width (notes_after_refresh (span_of_cut n h cut) snap notes) b
 
 -- the buckets that are marked when an aggregate is made are those from the first on that end at or below the greatest
 -- number

@@ -55,8 +55,8 @@ notes_from n def i = record {
 -- ---- what events do
 
 -- an aggregate that was made by event number k has each of its buckets pending there, and none refreshed
-abbrev pub begun : Width → ℕ → Notes → Notes
-begun w k notes =
+abbrev pub notes_of_new : Width → ℕ → Notes → Notes
+notes_of_new w k notes =
     record {
       threshold = notes.threshold;
       log = notes.log;
@@ -65,17 +65,17 @@ begun w k notes =
     }
 
 -- the log after a commit with number k: its hull, if it has one, is logged exactly where it begins below the threshold
-abbrev pub logged : Option Hull → ℕ → ℤ → List Noted → List Noted
-logged None k threshold log = log
-logged (Some hull) k threshold log =
+abbrev pub log_after : Option Hull → ℕ → ℤ → List Noted → List Noted
+log_after None k threshold log = log
+log_after (Some hull) k threshold log =
     cond (int_lt hull.least threshold) (log ++ (record { hull = hull; at = k } ∷ [])) log
 
 -- a commit with number k notes its hull
-abbrev pub noted : Option Hull → ℕ → Notes → Notes
-noted hull k notes =
+abbrev pub notes_after_hull : Option Hull → ℕ → Notes → Notes
+notes_after_hull hull k notes =
     record {
       threshold = notes.threshold;
-      log = logged hull k notes.threshold notes.log;
+      log = log_after hull k notes.threshold notes.log;
       pending = notes.pending;
       refreshed = notes.refreshed;
     }
@@ -87,13 +87,13 @@ fed_one w b refreshed entry pending =
     cond (meets w b entry.hull && is_before entry.at refreshed) (Some entry.at) pending
 
 -- what is pending at b after these were fed, in order
-abbrev pub fed : Width → ℤ → Option ℕ → List Noted → Option ℕ → Option ℕ
-fed w b refreshed [] pending = pending
-fed w b refreshed (entry ∷ entries) pending = fed w b refreshed entries (fed_one w b refreshed entry pending)
+abbrev pub pending_after : Width → ℤ → Option ℕ → List Noted → Option ℕ → Option ℕ
+pending_after w b refreshed [] pending = pending
+pending_after w b refreshed (entry ∷ entries) pending = pending_after w b refreshed entries (fed_one w b refreshed entry pending)
 
 -- what is pending at b after all that is logged was fed
 abbrev pub fed_at : Width → Notes → ℤ → Option ℕ
-fed_at w notes b = fed w b (notes.refreshed b) notes.log (notes.pending b)
+fed_at w notes b = pending_after w b (notes.refreshed b) notes.log (notes.pending b)
 
 -- all that is logged is fed, and the log is empty
 abbrev pub all_fed : Width → Notes → Notes
@@ -108,8 +108,8 @@ cut_to w hi notes =
 
 -- a finish with a snapshot settles the span of its cut, where that is a cut of the aggregate: what is pending up to
 -- the snapshot goes, and the last refresh is raised to it
-abbrev pub settled : Option Span → ℕ → Notes → Notes
-settled span snap notes = record {
+abbrev pub notes_after_refresh : Option Span → ℕ → Notes → Notes
+notes_after_refresh span snap notes = record {
   threshold = notes.threshold;
   log = notes.log;
   pending = λ b. cond (is_covered b span) (above snap (notes.pending b)) (notes.pending b);
@@ -119,11 +119,11 @@ settled span snap notes = record {
 -- what an event after h does to the notes of aggregate n
 abbrev pub notes_after : ℕ → ViewDef → History → Event → Notes → Notes
 notes_after n def h (View made) notes =
-    cond (length (roster h).views == n) (begun def.fold.width (suc (position h)) notes) notes
-notes_after n def h (Commit ops) notes = noted (hull_of_ops def.table ops (rows def.table h)) (suc (position h)) notes
+    cond (length (roster h).views == n) (notes_of_new def.fold.width (suc (position h)) notes) notes
+notes_after n def h (Commit ops) notes = notes_after_hull (hull_of_ops def.table ops (rows def.table h)) (suc (position h)) notes
 notes_after n def h (Cut v span) notes =
     cond (is_over def.table (view_of (roster h) v)) (cut_to def.fold.width span.hi notes) notes
-notes_after n def h (Built cut snap) notes = settled (span_of_cut n h cut) snap notes
+notes_after n def h (Built cut snap) notes = notes_after_refresh (span_of_cut n h cut) snap notes
 notes_after n def h e notes = notes
 
 -- the notes of aggregate n, event by event

@@ -1,6 +1,6 @@
 -- The lines without a number in them are read as their statements: that is computed.
 use Rattle.std.proofs.Common.{◌≡◌, ℕ, List, refl, Ok}
-use Rattle.stmt_reader.specs.Reading.{aggregate, aggregate_rest, aggregates, alias, affirmed, argument, bind, bucket, choose, column, create_rest, end, filling, filters, fold_behind, fold_rest, form, grouping, hyper_rest, items, keys_and_function, listed, mode, more, not_null, number, offset, one, options, rows_rest, select_list, select_rest, semicolon, setting, source, statement, table_rest, takes, view_rest, wanted}
+use Rattle.stmt_reader.specs.Reading.{aggregate, aggregate_rest, aggregates, alias, equals_true, argument, bind, bucket, choose, column, create_rest, end, with_data, filters, fold_behind, fold_rest, form, group_by, hyper_rest, items, keys_and_function, list_parser, mode, more, not_null, number, offset, one, options, rows_rest, select_list, select_rest, semicolon, mode_setting, source, statement, table_rest, takes, view_rest, token_parser}
 use Rattle.stmt_tokens.specs.Streams.{Stream, ends, stream}
 use Rattle.stmt_syntax.specs.declared.statements.Stmt.{Stmt}
 use Rattle.demo_script.specs.Demo.{aggregate_line, answer_line, hypertable_line, table_line}
@@ -14,17 +14,17 @@ pub record Reads (line : List ℕ) (s : Stmt) : Type 0 where
 
 module _ (demo : ℕ) where
   pub table_reads : Reads table_line (stmt_of demo lines.Table)
-  unfolding statement form bind takes choose one wanted number more listed not_null column create_rest table_rest semicolon end stream table_line
+  unfolding statement form bind takes choose one token_parser number more list_parser not_null column create_rest table_rest semicolon end stream table_line
   table_reads = record { left = ends 65; is = refl }
 
   pub hypertable_reads : Reads hypertable_line (stmt_of demo lines.Hypertable)
-  unfolding statement form bind takes choose one wanted number filters select_rest hyper_rest source rows_rest semicolon end stream hypertable_line
+  unfolding statement form bind takes choose one token_parser number filters select_rest hyper_rest source rows_rest semicolon end stream hypertable_line
   hypertable_reads = record { left = ends 70; is = refl }
 
   pub aggregate_reads : Reads aggregate_line (stmt_of demo lines.Aggregate)
-  unfolding statement form bind takes choose one wanted number more listed alias affirmed aggregate aggregate_rest aggregates argument bucket fold_behind fold_rest grouping items keys_and_function mode offset options select_list setting filling filters create_rest view_rest source semicolon end stream aggregate_line
+  unfolding statement form bind takes choose one token_parser number more list_parser alias equals_true aggregate aggregate_rest aggregates argument bucket fold_behind fold_rest group_by items keys_and_function mode offset options select_list mode_setting with_data filters create_rest view_rest source semicolon end stream aggregate_line
   aggregate_reads = record { left = ends 211; is = refl }
 
   pub answer_reads : Reads answer_line (stmt_of demo lines.Answer)
-  unfolding statement form bind takes choose one wanted number filters select_rest source rows_rest semicolon end stream answer_line
+  unfolding statement form bind takes choose one token_parser number filters select_rest source rows_rest semicolon end stream answer_line
   answer_reads = record { left = ends 22; is = refl }

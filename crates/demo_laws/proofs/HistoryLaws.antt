@@ -6,11 +6,11 @@ use Rattle.ts_schema.specs.declared.rows.Row.{Row}
 use Rattle.ts_model.specs.declared.events.Event.{Event}
 use Rattle.ts_model.specs.declared.events.Event.TheVariants.{Commit}
 use Rattle.ts_model.specs.declared.events.Op.TheVariants.{Insert}
-use Rattle.ts_model.specs.Calls.{makes, making, refuses, refusal}
+use Rattle.ts_model.specs.Calls.{makes, act_of_event, refuses, refusal}
 use Rattle.ts_model.specs.Numbers.{history_full}
 use Rattle.ts_model.specs.History.{History, ◌▸◌, position}
 use Rattle.ts_model.specs.Limits.{last_position}
-use Rattle.ts_model.specs.Reads.{inserted}
+use Rattle.ts_model.specs.Reads.{rows_inserted}
 use Rattle.ts_model.specs.Roster.{roster}
 use Rattle.ts_model.specs.Timely.{has_room}
 use Rattle.demo_laws.specs.Acts.{demo_roster}
@@ -40,19 +40,19 @@ position_of_rounds demo zero = refl
 position_of_rounds demo (suc round) = omega (arith, position_of_rounds demo round)
 
 -- a call makes its event where there is room for it
-pub made_below_end : {A : Type 0} (h : History) (e : Event) (a : A) → position h < last_position → making h e a ≡ makes e a
+pub made_below_end : {A : Type 0} (h : History) (e : Event) (a : A) → position h < last_position → act_of_event h e a ≡ makes e a
 made_below_end h e a below = cond-true (has_room h) (makes e a) (refuses (refusal history_full h 0)) (lt-ltb (position h) last_position below)
 
 -- nothing was inserted before the first round
-pub nothing_inserted : (demo : ℕ) → inserted 0 (history_after_rounds demo 0) ≡ []
+pub nothing_inserted : (demo : ℕ) → rows_inserted 0 (history_after_rounds demo 0) ≡ []
 unfolding history_after_rounds
 nothing_inserted demo = refl
 
 -- a commit's rows come to those that were inserted before
-pub count-insert : (test : Row → Bool) (h : History) (new : List Row) → count_by test (inserted 0 (h ▸ Commit (Insert 0 new ∷ []))) ≡ count_by test (inserted 0 h) + count_by test new
+pub count-insert : (test : Row → Bool) (h : History) (new : List Row) → count_by test (rows_inserted 0 (h ▸ Commit (Insert 0 new ∷ []))) ≡ count_by test (rows_inserted 0 h) + count_by test new
 count-insert test h new =
-    count-append test (inserted 0 h) (new ++ [])
-    ∙ ap (λ c. count_by test (inserted 0 h) + c) (count-append test new [] ∙ plus_none (count_by test new))
+    count-append test (rows_inserted 0 h) (new ++ [])
+    ∙ ap (λ c. count_by test (rows_inserted 0 h) + c) (count-append test new [] ∙ plus_none (count_by test new))
   where
     plus_none : (n : ℕ) → n + 0 ≡ n
     plus_none n = omega arith

@@ -17,7 +17,7 @@ use Rattle.stmt_syntax.specs.Limits.{longest_line}
 use Rattle.ts_sessions.specs.Places.{Places, Turn, none}
 use Rattle.ts_sessions.specs.Procedures.{Procedure, looks}
 use Rattle.ts_sessions.specs.Script.{LineResult, ScriptState, executes, executes_as, executes_kind, places_of, refused_line, session_semantics, takes_turn}
-use Rattle.ts_sessions.specs.Step.{acts, block_refusal, kind_of, named, named_as, named_first, named_here, read_at, refusal_outside, step, as_read, passes_block, performs, unless}
+use Rattle.ts_sessions.specs.Step.{acts, block_refusal, kind_of, turn_of_names, named_as, named_first, named_here, read_at, refusal_outside, step, as_read, passes_block, performs, unless}
 use Rattle.ts_sessions.proofs.NamedLaws.{performs_holds}
 use Rattle.demo_laws.specs.ActLaws.{HasPlaces, IsItsStatement, LinesAct, LinesAreStatements, demo_session}
 use Rattle.demo_laws.specs.Statements.{act_of, roster_before, stmt_of}
@@ -51,7 +51,7 @@ module _ (s : ScriptState Places) (p : Places) (bytes : ℕ) (stmt : Stmt) (acti
 
   here_turn : p.block ≡ none → turn_of s (named_here p bytes stmt) ≡ turn_of s (acts p bytes s.history action)
   here_turn outside =
-      ap (λ b. turn_of s (named p bytes stmt (read_at b s.history))) outside
+      ap (λ b. turn_of s (turn_of_names p bytes stmt (read_at b s.history))) outside
       ∙ ap (λ u. turn_of s (named_as p bytes s.history stmt u)) (asks.checked (position s.history))
       ∙ ap (λ r. turn_of s (unless p r (acts p bytes s.history (action_of (roster s.history) stmt)))) (asks.passes (position s.history))
       ∙ ap (λ a. turn_of s (acts p bytes s.history a)) asks.asks

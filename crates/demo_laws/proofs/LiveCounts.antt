@@ -12,7 +12,7 @@ use Rattle.ts_bucket.specs.declared.spans.Span.{Span}
 use Rattle.ts_bucket.proofs.SpanLaws.{in_span-from_ends}
 use Rattle.ts_model.specs.Answers.{buckets_in}
 use Rattle.ts_model.specs.History.{History}
-use Rattle.ts_model.specs.Reads.{inserted, live_buckets, reads_of_view, rows_near, rows_near_in, spans_meet}
+use Rattle.ts_model.specs.Reads.{rows_inserted, live_buckets, reads_of_view, rows_near, rows_near_in, spans_meet}
 use Rattle.ts_model.specs.Refreshes.{watermark}
 use Rattle.ts_model.specs.Roster.{roster, hyper_of, view_of}
 use Rattle.ts_model.proofs.RangeLaws.{among, among-buckets_in}
@@ -88,9 +88,9 @@ module _ (h : History) (round : ℕ) (starts : Span) (marked : (b : ℤ) → is_
 -- ---- the rows near them
 
 -- where the chunk of the last round passes, and none of those before, the rows of that round that came in time do
-last_round_count : (near : Span → Bool) (demo round : ℕ) → ((c : ℕ) → c ≤ round → near (chunk_at (start_before c)) ≡ false) → near (chunk_at (start_of round)) ≡ true → count_by (is_near near) (inserted 0 (history_after_rounds demo (suc round))) ≡ 490
+last_round_count : (near : Span → Bool) (demo round : ℕ) → ((c : ℕ) → c ≤ round → near (chunk_at (start_before c)) ≡ false) → near (chunk_at (start_of round)) ≡ true → count_by (is_near near) (rows_inserted 0 (history_after_rounds demo (suc round))) ≡ 490
 last_round_count near demo round none some =
-    ap (λ h. count_by (is_near near) (inserted 0 h)) (rounds_next demo round)
+    ap (λ h. count_by (is_near near) (rows_inserted 0 h)) (rounds_next demo round)
     ∙ round_count near demo round (history_after_rounds demo round)
     ∙ sums (near (chunk_at (start_of round))) (near (chunk_at (start_before round))) (none_of_rounds near demo round none) some (none round (omega arith))
   where
@@ -98,10 +98,10 @@ last_round_count near demo round none some =
     sums a b p q r = rw (q, r) (ap (λ m. m + 490 + 0) p)
 
 -- a query of the aggregate reads the rows in chunks that meet a live bucket
-reads_live : (h : History) (starts : Span) → roster h ≡ demo_roster → reads_of_view 0 h starts (view_of (roster h) 0) ≡ rows_near (pos 5000) (inserted 0 h) (map (bucket_span demo_width) (live_buckets 0 demo_view h starts))
+reads_live : (h : History) (starts : Span) → roster h ≡ demo_roster → reads_of_view 0 h starts (view_of (roster h) 0) ≡ rows_near (pos 5000) (rows_inserted 0 h) (map (bucket_span demo_width) (live_buckets 0 demo_view h starts))
 reads_live h starts e =
     ap (λ r. reads_of_view 0 h starts (view_of r 0)) e
-    ∙ ap (λ r. rows_near_in (hyper_of r 0) (inserted 0 h) (map (bucket_span demo_width) (live_buckets 0 demo_view h starts))) e
+    ∙ ap (λ r. rows_near_in (hyper_of r 0) (rows_inserted 0 h) (map (bucket_span demo_width) (live_buckets 0 demo_view h starts))) e
 
 -- after a round
 pub round_query_reads : (demo round : ℕ) (starts : Span) → starts.lo ≤ℤ start_of round → start_of round <ℤ starts.hi → reads_of_view 0 (history_after_rounds demo (suc round)) starts (view_of (roster (history_after_rounds demo (suc round))) 0) ≡ 490

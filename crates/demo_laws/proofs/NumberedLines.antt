@@ -4,7 +4,7 @@ use Rattle.std.proofs.Common.{◌≡◌, ◌∙◌, refl, sym, ap, ℕ, suc, ◌
 use Rattle.std.specs.Fmt.{signed_decimal}
 use Rattle.std.specs.List.{flat_map, range_with_len}
 use Rattle.std.proofs.lemmas.List.{append_assoc, append-nil}
-use Rattle.stmt_reader.specs.Reading.{bind, column_list, end, form, insert_rest, listed, one, row, semicolon, statement, takes, wanted, call_rest, window, value, number}
+use Rattle.stmt_reader.specs.Reading.{bind, column_list, end, form, insert_rest, list_parser, one, row, semicolon, statement, takes, token_parser, call_rest, window, value, number}
 use Rattle.stmt_tokens.specs.Streams.{Stream, ends, ◌then◌, stream}
 use Rattle.stmt_tokens.specs.Tokens.{word, number as number_at, mark, quoted}
 use Rattle.stmt_syntax.specs.Limits.{is_i64}
@@ -26,9 +26,9 @@ insert_stream a b c d s =
     (record { at = a; token = word (codes "insert") }) then ((record { at = b; token = word (codes "into") })
     then ((record { at = c; token = word (codes "m") }) then ((record { at = d; token = word (codes "values") }) then s)))
 
-insert_is_read : (a b c d e : ℕ) (s : Stream) (rows : List (List (Option ℤ))) → listed CommaBetween row s ≡ Ok (rows, ends e)
+insert_is_read : (a b c d e : ℕ) (s : Stream) (rows : List (List (Option ℤ))) → list_parser CommaBetween row s ≡ Ok (rows, ends e)
     → statement (insert_stream a b c d s) ≡ Ok (stmts.Insert (codes "m") None rows, ends e)
-unfolding statement form bind takes wanted one insert_rest column_list semicolon end
+unfolding statement form bind takes token_parser one insert_rest column_list semicolon end
 insert_is_read a b c d e s rows rows-are = rw rows-are refl
 
 abbrev insert_text : List ℕ → List ℕ
@@ -60,8 +60,8 @@ words_come rest =
 
 -- a first row, and others behind it
 rows_are_read : (text rest : List ℕ) (skip : ℕ) (values : List (Option ℤ)) (rows : List (List (Option ℤ))) (one : RowComes text skip values rest) (others : RowsCome (values ∷ []) text one.end rows)
-    → listed CommaBetween row (stream text skip) ≡ Ok (values ∷ rows, ends others.end)
-unfolding listed bind
+    → list_parser CommaBetween row (stream text skip) ≡ Ok (values ∷ rows, ends others.end)
+unfolding list_parser bind
 rows_are_read text rest skip values rows one others = rw (one.is, others.is) refl
 
 insert_reads : (rest last : List ℕ) (values : List (Option ℤ)) (rows : List (List (Option ℤ))) (words : WordsCome (insert_text rest) rest) (one : RowComes (insert_text rest) words.end values last)
@@ -110,7 +110,7 @@ range_stream a start end_of b s = (record { at = a; token = number_at start }) t
 
 refresh_is_read : (a b c d e f g h i p : ℕ) (start : ℤ) (end_at : ℕ) → is_i64 start ≡ true → is_i64 (pos end_at) ≡ true
     → statement (call_stream a b c d e (range_stream f start (value_stream g h end_at) i (ends p))) ≡ Ok (stmts.Refresh (codes "m100") (Some start) (Some (pos end_at)), ends p)
-unfolding statement form bind takes wanted one call_rest window value number semicolon end
+unfolding statement form bind takes token_parser one call_rest window value number semicolon end
 refresh_is_read a b c d e f g h i p start end_at s t = rw (s, t) refl
 
 -- the words come first, and then what is left

@@ -3,7 +3,7 @@ use Rattle.std.proofs.Common.{◌≡◌, ℕ, zero, suc, ◌+◌, ◌<◌, Bool,
 use Rattle.std.specs.List.{count_by}
 use Rattle.std.proofs.lemmas.Int.{ints}
 use Rattle.ts_bucket.specs.declared.spans.Span.{Span}
-use Rattle.ts_model.specs.Reads.{inserted, rows_near, spans_meet}
+use Rattle.ts_model.specs.Reads.{rows_inserted, rows_near, spans_meet}
 use Rattle.ts_model.proofs.ReadLaws.{meet_from}
 use Rattle.demo_laws.specs.Histories.{after_parts, history_after_rounds, span_before}
 use Rattle.demo_laws.specs.Turns.{refresh_reads}
@@ -28,7 +28,7 @@ meets_none_above : (round : ℕ) → meets_before round (chunk_at (start_of roun
 meets_none_above round = ap (λ b. b || false) (apart_above (chunk_at (start_of round)) (span_before round) (omega (arith, ints)))
 
 -- the ten late rows of the round, and those of the round before that came in time
-pub refresh_count : (demo round : ℕ) → rows_near (pos 5000) (inserted 0 (after_parts demo round (history_after_rounds demo round))) (span_before round ∷ []) ≡ refresh_reads round
+pub refresh_count : (demo round : ℕ) → rows_near (pos 5000) (rows_inserted 0 (after_parts demo round (history_after_rounds demo round))) (span_before round ∷ []) ≡ refresh_reads round
 refresh_count demo zero =
     round_count (meets_before 0) demo 0 (history_after_rounds demo 0)
     ∙ ap (λ n. n + cond (meets_before 0 (chunk_at (start_of 0))) 490 0 + cond (meets_before 0 (chunk_at (start_before 0))) 10 0) (ap (count_by (is_near (meets_before 0))) (nothing_inserted demo))
@@ -37,7 +37,7 @@ refresh_count demo (suc before) =
     let near = meets_before round in
     let next : start_of before ≡ start_before round = omega (arith, ints) in
     round_count near demo round (history_after_rounds demo round)
-    ∙ ap (λ h. count_by (is_near near) (inserted 0 h) + cond (near (chunk_at (start_of round))) 490 0 + cond (near (chunk_at (start_before round))) 10 0) (rounds_next demo before)
+    ∙ ap (λ h. count_by (is_near near) (rows_inserted 0 h) + cond (near (chunk_at (start_of round))) 490 0 + cond (near (chunk_at (start_before round))) 10 0) (rounds_next demo before)
     ∙ ap (λ n. n + cond (near (chunk_at (start_of round))) 490 0 + cond (near (chunk_at (start_before round))) 10 0) (round_count near demo before (history_after_rounds demo before))
     ∙ sums (near (chunk_at (start_of before))) (near (chunk_at (start_before before))) (near (chunk_at (start_of round))) (near (chunk_at (start_before round)))
     (none_of_rounds near demo before (λ c l. meets_none_below round c (omega arith)))

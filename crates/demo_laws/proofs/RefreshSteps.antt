@@ -10,13 +10,13 @@ use Rattle.ts_model.specs.declared.outcomes.Refusal.{Refusal}
 use Rattle.ts_model.specs.declared.refreshes.Window.TheVariants.{NoBucket}
 use Rattle.ts_model.specs.History.{History, ◌▸◌, position}
 use Rattle.ts_model.specs.Limits.{last_position}
-use Rattle.ts_model.specs.Calls.{Act, makes, cut_of_view, cut_over, cutting, finish_of, finishing}
-use Rattle.ts_model.specs.Reads.{inserted, job_reads, job_reads_of, reads_of_snapshot, rows_near_in}
+use Rattle.ts_model.specs.Calls.{Act, makes, cut_of_view, cut_over, act_of_cut, finish_of, act_of_finish}
+use Rattle.ts_model.specs.Reads.{rows_inserted, job_reads, job_reads_of, reads_of_snapshot, rows_near_in}
 use Rattle.ts_model.specs.Roster.{roster, hyper_of, view_of}
 use Rattle.ts_model.specs.Windows.{whole_or}
 use Rattle.ts_sessions.specs.Places.{none, Places, Turn, cuts}
 use Rattle.ts_sessions.specs.Procedures.{followed_by, ending_as, tries_at}
-use Rattle.ts_sessions.specs.Step.{Taken, after_cut as goes_on, after_snapshot, least_start, refreshed, taken, taken_of}
+use Rattle.ts_sessions.specs.Step.{Taken, after_cut as goes_on, after_snapshot, least_start, turn_of_refresh, snapshot_taken, taken_of}
 use Rattle.demo_laws.specs.Acts.{refresh_act}
 use Rattle.demo_laws.specs.Histories.{after_cut, before_refresh, history_after_rounds, span_before}
 use Rattle.demo_laws.specs.Turns.{Passes, PerformsAction, refresh_reads}
@@ -33,18 +33,18 @@ module _ (p : Places) (h : History) (span : Span) (min : ℤ) (outside : p.block
   cut = h ▸ Cut 0 span
 
   -- from its snapshot on
-  finish_passes : (t : Taken) → finishing (position cut) t.at cut ≡ makes (Built (position cut) t.at) (suc (position cut)) → Passes (after_snapshot (cuts (position cut) p) (position cut) span min (Ok t)) cut (cut ▸ Built (position cut) t.at) t.reads
+  finish_passes : (t : Taken) → act_of_finish (position cut) t.at cut ≡ makes (Built (position cut) t.at) (suc (position cut)) → Passes (after_snapshot (cuts (position cut) p) (position cut) span min (Ok t)) cut (cut ▸ Built (position cut) t.at) t.reads
   finish_passes t finishes =
-      let says : Result ℕ Refusal → Turn Places = refreshed (cuts (position cut) p) (position cut) span min t in
+      let says : Result ℕ Refusal → Turn Places = turn_of_refresh (cuts (position cut) p) (position cut) span min t in
       let Goal : Act ℕ → Type 0 = λ act. Passes (ending_as says (tries_at cut act)) cut (cut ▸ Built (position cut) t.at) t.reads in
-      let passes : Goal (finishing (position cut) t.at cut) = subst Goal (sym finishes) (record { after = refl; reads = refl; fault = refl; outside = outside }) in
+      let passes : Goal (act_of_finish (position cut) t.at cut) = subst Goal (sym finishes) (record { after = refl; reads = refl; fault = refl; outside = outside }) in
       record { after = passes.after; reads = passes.reads; fault = passes.fault; outside = passes.outside }
 
   -- and from its cut on
-  refresh_passes : (act : Act CutDone) (t : Taken) → act ≡ makes (Cut 0 span) (CutMade (position cut) span) → taken (position cut) cut ≡ Ok t → finishing (position cut) t.at cut ≡ makes (Built (position cut) t.at) (suc (position cut)) → Passes (followed_by (tries_at h act) (goes_on p min)) h (cut ▸ Built (position cut) t.at) t.reads
+  refresh_passes : (act : Act CutDone) (t : Taken) → act ≡ makes (Cut 0 span) (CutMade (position cut) span) → snapshot_taken (position cut) cut ≡ Ok t → act_of_finish (position cut) t.at cut ≡ makes (Built (position cut) t.at) (suc (position cut)) → Passes (followed_by (tries_at h act) (goes_on p min)) h (cut ▸ Built (position cut) t.at) t.reads
   refresh_passes act t cuts_it takes finishes =
       let After : Result Taken Refusal → Type 0 = λ r. Passes (after_snapshot (cuts (position cut) p) (position cut) span min r) cut (cut ▸ Built (position cut) t.at) t.reads in
-      let passes : After (taken (position cut) cut) = subst After (sym takes) (finish_passes t finishes) in
+      let passes : After (snapshot_taken (position cut) cut) = subst After (sym takes) (finish_passes t finishes) in
       let Goal : Act CutDone → Type 0 = λ a. Passes (followed_by (tries_at h a) (goes_on p min)) h (cut ▸ Built (position cut) t.at) t.reads in
       subst Goal (sym cuts_it) (record { after = passes.after; reads = passes.reads; fault = passes.fault; outside = passes.outside })
 
@@ -62,7 +62,7 @@ module _ (demo round : ℕ) (room : position (history_after_rounds demo (suc rou
   room_left = omega (arith, room, ap position (rounds_next demo round))
 
   -- the cut is made over the times of the round before
-  cutting_is : cutting 0 (Some (start_before round)) (Some (start_of round)) before ≡ makes (Cut 0 (span_before round)) (CutMade (position at_cut) (span_before round))
+  cutting_is : act_of_cut 0 (Some (start_before round)) (Some (start_of round)) before ≡ makes (Cut 0 (span_before round)) (CutMade (position at_cut) (span_before round))
   cutting_is =
       ap (λ r. cut_of_view 0 (Some (start_before round)) (Some (start_of round)) before (view_of r 0)) (roster_of_rounds demo round)
       ∙ ap (λ s. cut_over 0 before (whole_or NoBucket s)) (window_is round)
@@ -74,15 +74,15 @@ module _ (demo round : ℕ) (room : position (history_after_rounds demo (suc rou
       ap (job_reads_of at_cut (position at_cut)) (cut_waits round before)
       ∙ ap (reads_of_snapshot 0 at_cut (view_of (roster at_cut) 0)) (span_of_cut_is round before)
       ∙ ap (λ r. reads_of_snapshot 0 at_cut (view_of r 0) (Some (span_before round))) (roster_of_rounds demo round)
-      ∙ ap (λ ranges. sum_by (λ range. rows_near_in (hyper_of (roster at_cut) 0) (inserted 0 at_cut) (range ∷ [])) ranges) (one_dirty_range demo round)
-      ∙ ap (λ r. 0 + rows_near_in (hyper_of r 0) (inserted 0 at_cut) (span_before round ∷ [])) (roster_of_rounds demo round)
+      ∙ ap (λ ranges. sum_by (λ range. rows_near_in (hyper_of (roster at_cut) 0) (rows_inserted 0 at_cut) (range ∷ [])) ranges) (one_dirty_range demo round)
+      ∙ ap (λ r. 0 + rows_near_in (hyper_of r 0) (rows_inserted 0 at_cut) (span_before round ∷ [])) (roster_of_rounds demo round)
       ∙ ap (λ n. 0 + n) (refresh_count demo round)
       ∙ zero-add (refresh_reads round)
 
   pub round_refresh : PerformsAction before (refresh_act round) (history_after_rounds demo (suc round)) (refresh_reads round)
   round_refresh p bytes outside =
       let t : Taken = record { at = position at_cut; reads = job_reads at_cut (position at_cut) } in
-      let passes = refresh_passes p before (span_before round) (least_start (view_of (roster before) 0)) outside (cutting 0 (Some (start_before round)) (Some (start_of round)) before) t cutting_is
+      let passes = refresh_passes p before (span_before round) (least_start (view_of (roster before) 0)) outside (act_of_cut 0 (Some (start_before round)) (Some (start_of round)) before) t cutting_is
       (ap (taken_of at_cut (position at_cut)) (cut_waits round before))
       (ap (finish_of (position at_cut) (position at_cut) at_cut) (cut_waits round before)
       ∙ made_below_end at_cut (Built (position at_cut) (position at_cut)) (suc (position at_cut)) room_left) in

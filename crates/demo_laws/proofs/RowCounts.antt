@@ -6,7 +6,7 @@ use Rattle.ts_bucket.specs.Chunks.{chunk_of}
 use Rattle.ts_bucket.specs.declared.spans.Span.{Span}
 use Rattle.ts_schema.specs.declared.rows.Row.{Row}
 use Rattle.ts_model.specs.History.{History}
-use Rattle.ts_model.specs.Reads.{inserted}
+use Rattle.ts_model.specs.Reads.{rows_inserted}
 use Rattle.demo_laws.specs.Acts.{row_of, rows_of}
 use Rattle.demo_laws.specs.Histories.{after_part, after_parts, history_after_rounds}
 use Rattle.demo_laws.proofs.CountLaws.{count-range, count-parts}
@@ -33,18 +33,18 @@ module _ (near : Span → Bool) where
       (λ k l h. ap near (chunk_late demo round k (omega arith) (omega arith)))
 
   -- the rows of a round: 490 in time, and ten late
-  pub round_count : (demo round : ℕ) (h : History) → count_by is_near (inserted 0 (after_parts demo round h)) ≡ count_by is_near (inserted 0 h) + cond (near (chunk_at (start_of round))) 490 0 + cond (near (chunk_at (start_before round))) 10 0
+  pub round_count : (demo round : ℕ) (h : History) → count_by is_near (rows_inserted 0 (after_parts demo round h)) ≡ count_by is_near (rows_inserted 0 h) + cond (near (chunk_at (start_of round))) 490 0 + cond (near (chunk_at (start_before round))) 10 0
   round_count demo round h =
       let first = after_part demo round 0 h in
       let second = after_part demo round 1 first in
       let third = after_part demo round 2 second in
       let fourth = after_part demo round 3 third in
       added _ _ _ _ _ _ (near (chunk_at (start_of round))) (near (chunk_at (start_before round)))
-      (count-insert is_near h (rows_of demo round 0 100) ∙ ap (λ n. count_by is_near (inserted 0 h) + n) (part_in_time demo round 0 (omega arith)))
-      (count-insert is_near first (rows_of demo round 100 100) ∙ ap (λ n. count_by is_near (inserted 0 first) + n) (part_in_time demo round 100 (omega arith)))
-      (count-insert is_near second (rows_of demo round 200 100) ∙ ap (λ n. count_by is_near (inserted 0 second) + n) (part_in_time demo round 200 (omega arith)))
-      (count-insert is_near third (rows_of demo round 300 100) ∙ ap (λ n. count_by is_near (inserted 0 third) + n) (part_in_time demo round 300 (omega arith)))
-      (count-insert is_near fourth (rows_of demo round 400 100) ∙ ap (λ n. count_by is_near (inserted 0 fourth) + n) (part_with_late demo round))
+      (count-insert is_near h (rows_of demo round 0 100) ∙ ap (λ n. count_by is_near (rows_inserted 0 h) + n) (part_in_time demo round 0 (omega arith)))
+      (count-insert is_near first (rows_of demo round 100 100) ∙ ap (λ n. count_by is_near (rows_inserted 0 first) + n) (part_in_time demo round 100 (omega arith)))
+      (count-insert is_near second (rows_of demo round 200 100) ∙ ap (λ n. count_by is_near (rows_inserted 0 second) + n) (part_in_time demo round 200 (omega arith)))
+      (count-insert is_near third (rows_of demo round 300 100) ∙ ap (λ n. count_by is_near (rows_inserted 0 third) + n) (part_in_time demo round 300 (omega arith)))
+      (count-insert is_near fourth (rows_of demo round 400 100) ∙ ap (λ n. count_by is_near (rows_inserted 0 fourth) + n) (part_with_late demo round))
     where
       added : (k l m n o all : ℕ) (a b : Bool) → l ≡ k + cond a 100 0 → m ≡ l + cond a 100 0 → n ≡ m + cond a 100 0 → o ≡ n + cond a 100 0 → all ≡ o + (cond a 90 0 + cond b 10 0) → all ≡ k + cond a 490 0 + cond b 10 0
       added k l m n o all true true p q r s t = omega arith
@@ -53,11 +53,11 @@ module _ (near : Span → Bool) where
       added k l m n o all false false p q r s t = omega arith
 
   -- where no chunk of the rounds before passes, none of their rows does
-  pub none_of_rounds : (demo round : ℕ) → ((c : ℕ) → c ≤ round → near (chunk_at (start_before c)) ≡ false) → count_by is_near (inserted 0 (history_after_rounds demo round)) ≡ 0
+  pub none_of_rounds : (demo round : ℕ) → ((c : ℕ) → c ≤ round → near (chunk_at (start_before c)) ≡ false) → count_by is_near (rows_inserted 0 (history_after_rounds demo round)) ≡ 0
   none_of_rounds demo zero none = ap (count_by is_near) (nothing_inserted demo)
   none_of_rounds demo (suc round) none =
       let next : start_of round ≡ start_before (suc round) = omega (arith, ints) in
-      ap (λ h. count_by is_near (inserted 0 h)) (rounds_next demo round)
+      ap (λ h. count_by is_near (rows_inserted 0 h)) (rounds_next demo round)
       ∙ round_count demo round (history_after_rounds demo round)
       ∙ ap (λ n. n + cond (near (chunk_at (start_of round))) 490 0 + cond (near (chunk_at (start_before round))) 10 0) (none_of_rounds demo round (λ c l. none c (omega arith)))
       ∙ ap (λ b. 0 + cond b 490 0 + cond (near (chunk_at (start_before round))) 10 0) (ap (λ z. near (chunk_at z)) next ∙ none (suc round) (omega arith))

@@ -7,7 +7,7 @@ use Rattle.std.specs.Fmt.{signed_decimal}
 use Rattle.std.specs.List.{flat_map, prefix_len, range_with_len}
 use Rattle.std.proofs.lemmas.List.{append_assoc, append-nil}
 use Rattle.stmt_reader.specs.Forward.{forward-row}
-use Rattle.stmt_reader.specs.Reading.{bind, go_on, listed, more, number, parts, row, takes, value, wanted}
+use Rattle.stmt_reader.specs.Reading.{bind, go_on, list_parser, more, number, parts, row, takes, value, token_parser}
 use Rattle.stmt_tokens.specs.Streams.{Stream, ends, ◌then◌, stream}
 use Rattle.stmt_syntax.specs.Limits.{is_i64}
 use Rattle.stmt_tokens.specs.Tokens.{number as number_at, mark}
@@ -62,7 +62,7 @@ row_stream open_at time_at close_at time first second s =
 
 row_reads : (a b c d e f g : ℕ) (time : ℤ) (device amount : ℕ) (s : Stream) → is_i64 time ≡ true → is_i64 (pos device) ≡ true → is_i64 (pos amount) ≡ true
     → row (row_stream a b c time (value_stream d e device) (value_stream f g amount) s) ≡ Ok (values_with time device amount, s)
-unfolding row listed more takes bind value number wanted
+unfolding row list_parser more takes bind value number token_parser
 row_reads a b c d e f g time device amount s t v w = rw (t, v, w) refl
 
 -- a row comes next, and these bytes are left behind it

@@ -8,7 +8,7 @@ use Rattle.ts_model.specs.Roster.{roster}
 use Rattle.ts_sessions.specs.Places.{none, no_places, Places}
 use Rattle.ts_sessions.specs.Script.{ScriptState, executes, final_script_state, is_refused, reads_in, session_semantics, takes_turn, with_places}
 use Rattle.ts_sessions.specs.Step.{acts}
-use Rattle.ts_sessions.specs.Walks.{ending}
+use Rattle.ts_sessions.specs.Walks.{end_of_walk}
 use Rattle.demo_script.specs.Demo.{answer_line, demo_lines, insert_line, late_line, round_lines}
 use Rattle.demo_laws.specs.Acts.{demo_roster}
 use Rattle.demo_laws.specs.ActLaws.{HasPlaces, demo_session}
@@ -64,7 +64,7 @@ module _ (demo : ℕ) where
   line_first line h mid new lines read more within found does rest n sessions p has outside =
       let s = state_at h sessions in
       let procedure = acts p (length (text_of demo line)) h (act_of demo line) in
-      let turn = ending procedure h in
+      let turn = end_of_walk procedure h in
       let passes = does p (length (text_of demo line)) outside in
       let later = with_places demo_session turn.places sessions in
       let executed : executes session_semantics s n (text_of demo line) ≡ takes_turn s demo_session procedure = lines_act demo n line s p within found has outside in

@@ -4,7 +4,7 @@ use Rattle.std.proofs.lemmas.Int.{ints}
 use Rattle.ts_model.specs.declared.events.Event.TheVariants.{Commit}
 use Rattle.ts_model.specs.declared.events.Op.{Op}
 use Rattle.ts_model.specs.declared.outcomes.Committed.{Committed}
-use Rattle.ts_model.specs.Calls.{Act, committed, committing}
+use Rattle.ts_model.specs.Calls.{Act, commit_result, act_of_commit}
 use Rattle.ts_model.specs.History.{History, ◌▸◌, position}
 use Rattle.ts_model.specs.Limits.{last_position}
 use Rattle.ts_model.specs.Reads.{reads_of_view}
@@ -13,7 +13,7 @@ use Rattle.stmt_check.specs.Queries.{starts_of}
 use Rattle.stmt_check.specs.declared.actions.Action.TheVariants as actions
 use Rattle.ts_sessions.specs.Places.{Block}
 use Rattle.ts_sessions.specs.Procedures.{ending_as, tries_at}
-use Rattle.ts_sessions.specs.Step.{changes, committed as said_committed, shown_in}
+use Rattle.ts_sessions.specs.Step.{changes, turn_of_commit as said_committed, shown_in}
 use Rattle.demo_laws.specs.Acts.{answer_act}
 use Rattle.demo_laws.specs.Histories.{demo_history, history_after_rounds}
 use Rattle.demo_laws.specs.ReadLaws.{DefinitionsReadNothing, InsertsReadNothing, QueriesReadARound}
@@ -33,7 +33,7 @@ definitions_read_nothing = record {
 changes_commit : (op : Op) (h : History) → position h < last_position → PerformsAction h (actions.Change op) (h ▸ Commit (op ∷ [])) 0
 changes_commit op h below p bytes outside =
     let Ends : Act Committed → Type 0 = λ act. Passes (ending_as (said_committed p p) (tries_at h act)) h (h ▸ Commit (op ∷ [])) 0 in
-    let ends : Ends (committing (op ∷ []) h) = subst Ends (sym (made_below_end h (Commit (op ∷ [])) (committed (op ∷ []) h) below)) (record { after = refl; reads = refl; fault = refl; outside = outside }) in
+    let ends : Ends (act_of_commit (op ∷ []) h) = subst Ends (sym (made_below_end h (Commit (op ∷ [])) (commit_result (op ∷ []) h) below)) (record { after = refl; reads = refl; fault = refl; outside = outside }) in
     let Goal : Block → Type 0 = λ block. Passes (changes p bytes h op block) h (h ▸ Commit (op ∷ [])) 0 in
     subst Goal (sym outside) (record { after = ends.after; reads = ends.reads; fault = ends.fault; outside = ends.outside })
 

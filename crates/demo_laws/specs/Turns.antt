@@ -6,15 +6,15 @@ use Rattle.ts_sessions.specs.Places.{none, Places, Turn}
 use Rattle.ts_sessions.specs.Procedures.{Procedure}
 use Rattle.ts_sessions.specs.Script.{has_fault}
 use Rattle.ts_sessions.specs.Step.{acts}
-use Rattle.ts_sessions.specs.Walks.{history_after, ending}
+use Rattle.ts_sessions.specs.Walks.{history_after, end_of_walk}
 
 -- over a history that nobody else changes, a procedure leaves this one, looks at so many stored rows and says no FAULT,
 -- and its session is outside a block
 pub record Passes (procedure : Procedure (Turn Places)) (h new : History) (read : ℕ) : Type 0 where
   pub after : history_after procedure h ≡ new
-  pub reads : (ending procedure h).reads ≡ read
-  pub fault : has_fault (ending procedure h).said ≡ false
-  pub outside : (ending procedure h).places.block ≡ none
+  pub reads : (end_of_walk procedure h).reads ≡ read
+  pub fault : has_fault (end_of_walk procedure h).said ≡ false
+  pub outside : (end_of_walk procedure h).places.block ≡ none
 
 -- so does an action of a session outside a block, whatever else the session carries, and from a text of whatever length
 abbrev pub PerformsAction : History → Action → History → ℕ → Type 0

@@ -6,7 +6,7 @@ use Rattle.ts_io.specs.declared.limits.TheConstants.{INPUT_LIMIT}
 use Rattle.ts_model.specs.History.{History, start}
 use Rattle.ts_sessions.specs.Script.{session_semantics}
 use Rattle.ts_store.specs.Stands.{Stands}
-use Rattle.script_run.specs.Runs.{Left, Ran, executed, reads_of}
+use Rattle.script_run.specs.Runs.{Left, Ran, executed_lines, reads_of}
 use Rattle.script_run.specs.declared.ends.RunEnd.{RunEnd}
 use Rattle.script_run.specs.declared.ends.RunEnd.TheVariants.{Done, Refused, ReadFault, WriteFault, DiskFault, NoMemory, InputLong}
 use Rattle.demo_run.specs.Runs.{RanLines, is_whole}
@@ -27,14 +27,14 @@ not_long end h (Some text) rest left within ran is = long_input end h text rest 
 
 -- a script that was run to its end led from the first history to the last
 led : (end : RunEnd) (h : History) (input : List ℕ) (rest : Option (List ℕ)) (left : Left) → left.read_before ≡ 0 → is_whole end ≡ true → Ran end session_semantics h input rest left
-    → RanLines h (executed input) left.read left.store.history
+    → RanLines h (executed_lines input) left.read left.store.history
 led Done h input rest left zeroth whole ran = record {
   history = ran.1.history;
-  reads = ran.1.counted ∙ ap (λ n. raised_by (reads_of session_semantics h (executed input)) n) zeroth;
+  reads = ran.1.counted ∙ ap (λ n. raised_by (reads_of session_semantics h (executed_lines input)) n) zeroth;
 }
 led Refused h input rest left zeroth whole ran = record {
   history = ran.1.history;
-  reads = ran.1.counted ∙ ap (λ n. raised_by (reads_of session_semantics h (executed input)) n) zeroth;
+  reads = ran.1.counted ∙ ap (λ n. raised_by (reads_of session_semantics h (executed_lines input)) n) zeroth;
 }
 led ReadFault h input rest left zeroth whole ran = absurd (cc whole)
 led WriteFault h input rest left zeroth whole ran = absurd (cc whole)
@@ -43,6 +43,6 @@ led NoMemory h input rest left zeroth whole ran = absurd (cc whole)
 led InputLong h input rest left zeroth whole ran = absurd (cc whole)
 
 pub ran_lines : (end : RunEnd) (h : History) (input rest : Option (List ℕ)) (left : Left) → left.read_before ≡ 0 → is_whole end ≡ true → IfSome input (λ text. Ran end session_semantics h text rest left)
-    → IfSome input (λ text. RanLines h (executed text) left.read left.store.history)
+    → IfSome input (λ text. RanLines h (executed_lines text) left.read left.store.history)
 ran_lines end h None rest left zeroth whole ran = tt
 ran_lines end h (Some text) rest left zeroth whole ran = led end h text rest left zeroth whole ran

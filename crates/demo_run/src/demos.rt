@@ -1,7 +1,7 @@
 //! A demonstration and its summary.
 ghost use Rattle.std.specs.Prelude.{◌≡◌, IfOk};
 ghost use Rattle.result_text.specs.Summaries.{summary_text};
-ghost use Rattle.ts_store.specs.Stores.{seen};
+ghost use Rattle.ts_store.specs.Stores.{history_seen};
 ghost use Rattle.demo_run.specs.Demos.{demo_summary, reads_of_demo};
 ghost use Rattle.demo_run.specs.Sums.{summary_of};
 
@@ -53,7 +53,7 @@ fn summary_text<R: Threads + Sync, D: Disk>(
     store: &Store<D>,
     reads: u64,
 ) -> Result<Seq<u8>, NoMemory>
-    ensures { IfOk result (λ text. text ≡ summary_text (summary_of number (seen store.now) reads)) }
+    ensures { IfOk result (λ text. text ≡ summary_text (summary_of number (history_seen store.now) reads)) }
 {
     let shot = store.engine().shot()?;
     let summary = summary_of(rt, alloc, number, &shot, reads)?;

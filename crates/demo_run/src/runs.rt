@@ -2,8 +2,8 @@
 ghost use Rattle.std.specs.Prelude.{◌≡◌, ◌≢◌, ◌≤◌, None, true, false, length, IfOk, IfSome, IsSomeAnd};
 ghost use Rattle.ts_io.specs.declared.limits.TheConstants.{INPUT_LIMIT};
 ghost use Rattle.ts_model.specs.History.{start};
-ghost use Rattle.ts_store.specs.Stores.{seen};
-ghost use Rattle.script_run.specs.Runs.{executed};
+ghost use Rattle.ts_store.specs.Stores.{history_seen};
+ghost use Rattle.script_run.specs.Runs.{executed_lines};
 ghost use Rattle.script_run.specs.declared.ends.RunEnd.TheVariants as ends;
 ghost use Rattle.demo_script.specs.Demo.{demo_lines};
 ghost use Rattle.demo_run.specs.Runs.{RanLines, is_whole};
@@ -29,7 +29,7 @@ pub(crate) fn empty_store<R: Threads + Sync>(
     rt: &R,
     alloc: Global,
 ) -> Result<Store<MemDisk>, NoMemory>
-    ensures empty { IfOk result (λ store. seen store ≡ start) }
+    ensures empty { IfOk result (λ store. history_seen store ≡ start) }
     ensures goes_on { IfOk result (λ store. store.failed ≡ None) }
 {
     match Store::start(rt, alloc, MemDisk::new(alloc, Vec::new(alloc))) {
@@ -43,7 +43,7 @@ pub(crate) fn empty_store<R: Threads + Sync>(
 /// The store once its journal has a header.
 fn with_header<D: Disk + Drop>(mut store: Store<D>) -> Result<Store<D>, NoMemory>
     requires { store.failed ≡ None }
-    ensures same { IfOk result (λ armed. seen armed ≡ seen store) }
+    ensures same { IfOk result (λ armed. history_seen armed ≡ history_seen store) }
     ensures goes_on { IfOk result (λ armed. armed.failed ≡ None) }
 {
     match store.arm() {
@@ -61,9 +61,9 @@ pub(crate) fn run_script<R: Threads + Sync, D: Disk>(
     number: u32,
     store: &mut Store<D>,
 ) -> Result<u64, NoMemory>
-    requires empty { seen store.old ≡ start }
+    requires empty { history_seen store.old ≡ start }
     requires goes_on { store.old.failed ≡ None }
-    ensures { IfOk result (λ read. RanLines start (demo_lines number) read (seen store.new)) }
+    ensures { IfOk result (λ read. RanLines start (demo_lines number) read (history_seen store.new)) }
 {
     let script = demo_script(alloc, number)?;
     let mut source = MemSource::new(script, usize::MAX, Vec::new(alloc));
@@ -83,7 +83,7 @@ fn run_source<R: Threads + Sync, S: Source, K: Sink, D: Disk>(
     requires within { IsSomeAnd (S.left source.old) (λ input. length input ≤ INPUT_LIMIT) }
     requires goes_on { store.old.failed ≡ None }
     ensures { IfSome (S.left source.old) (λ input.
-        IfOk result (λ read. RanLines (seen store.old) (executed input) read (seen store.new))) }
+        IfOk result (λ read. RanLines (history_seen store.old) (executed_lines input) read (history_seen store.new))) }
 {
     let mut steps = Steps::new(Reads);
     let end = script_run::run::<Session<Shot>, R, Store<D>, S, K, Reads>(

@@ -17,7 +17,7 @@ use ts_schema::{NoMemory, Seq, Steps};
 
 /// What is counted apart from the script: the stored rows that the summary looks at.
 #[derive(Drop)]
-struct Summing;
+struct SummaryReads;
 
 /// What a demonstration comes to whose script led to the history of a snapshot and looked at so many
 /// stored rows.
@@ -64,7 +64,7 @@ fn shown_rows<R: Threads + Sync, T: Shown>(rt: &R, alloc: Global, shot: &T) -> R
                 table: 0,
                 tests: Seq::new(alloc),
             };
-            let answer = shot.answer(rt, &query, &mut Steps::new(Summing))?;
+            let answer = shot.answer(rt, &query, &mut Steps::new(SummaryReads))?;
             Ok(answer.rows.len() as u64)
         }
         _ => Ok(0),
@@ -86,7 +86,7 @@ fn last_answer<R: Threads + Sync, T: Shown>(
                 hi: i64::MAX,
             };
             let query = Query::Aggregate { view: 0, starts };
-            shot.answer(rt, &query, &mut Steps::new(Summing))
+            shot.answer(rt, &query, &mut Steps::new(SummaryReads))
         }
         None => Ok(Answer {
             rows: ResultRows::none(alloc),

@@ -5,7 +5,7 @@ use Rattle.std.proofs.lemmas.Option.{slice_get_cases}
 use Rattle.std.proofs.lemmas.List.{append_assoc, append-nil, take_all}
 use Rattle.std.specs.List.{flat_map, range_with_len}
 use Rattle.demo_script.specs.Demo.{answer_line, demo_lines, demo_text, late_line, line_at, round_lines, with_end}
-use Rattle.demo_script.specs.Lines.{ended}
+use Rattle.demo_script.specs.Lines.{line_with_end}
 
 -- ---- rounds from round a on, and the lines behind them
 
@@ -80,16 +80,16 @@ none_outside demo number = (inside demo number, λ there. outside demo number (n
 -- ---- its text
 
 -- one line more
-line_more : (lines : List (List ℕ)) (i : ℕ) → flat_map with_end (take i lines) ++ ended (slice_get lines i) ≡ flat_map with_end (take (suc i) lines)
+line_more : (lines : List (List ℕ)) (i : ℕ) → flat_map with_end (take i lines) ++ line_with_end (slice_get lines i) ≡ flat_map with_end (take (suc i) lines)
 line_more [] zero = refl
 line_more [] (suc i) = refl
 line_more (line ∷ lines) zero = sym (append-nil (with_end line))
-line_more (line ∷ lines) (suc i) = append_assoc (with_end line) (flat_map with_end (take i lines)) (ended (slice_get lines i)) ∙ ap (λ t. with_end line ++ t) (line_more lines i)
+line_more (line ∷ lines) (suc i) = append_assoc (with_end line) (flat_map with_end (take i lines)) (line_with_end (slice_get lines i)) ∙ ap (λ t. with_end line ++ t) (line_more lines i)
 
-pub text_more : (demo before : ℕ) → flat_map with_end (take before (demo_lines demo)) ++ ended (line_at (demo_lines demo) (before + 1)) ≡ flat_map with_end (take (before + 1) (demo_lines demo))
+pub text_more : (demo before : ℕ) → flat_map with_end (take before (demo_lines demo)) ++ line_with_end (line_at (demo_lines demo) (before + 1)) ≡ flat_map with_end (take (before + 1) (demo_lines demo))
 text_more demo before =
     let e : before + 1 ≡ suc before = omega arith in
-    ap (λ k. flat_map with_end (take before (demo_lines demo)) ++ ended (line_at (demo_lines demo) k)) e
+    ap (λ k. flat_map with_end (take before (demo_lines demo)) ++ line_with_end (line_at (demo_lines demo) k)) e
     ∙ line_more (demo_lines demo) before
     ∙ ap (λ k. flat_map with_end (take k (demo_lines demo))) (sym e)
 

@@ -24,6 +24,6 @@ IsInRound Answer = ⊤
 IsInRound LateRow = ⊤
 
 -- a line with its line feed, where it is there
-abbrev pub ended : Option (List ℕ) → List ℕ
-ended None = []
-ended (Some line) = with_end line
+abbrev pub line_with_end : Option (List ℕ) → List ℕ
+line_with_end None = []
+line_with_end (Some line) = with_end line

@@ -2,7 +2,7 @@
 ghost use Rattle.std.specs.Prelude.{◌≡◌, ◌↔◌, ◌⊎◌, ◌<◌, ◌≤◌, ◌++◌, None, IfOk, OnOk};
 ghost use Rattle.std.specs.String.{string_bytes};
 ghost use Rattle.demo_script.specs.Demo.{demo_lines, demo_text, line_at};
-ghost use Rattle.demo_script.specs.Lines.{ended, text_of, IsInRound};
+ghost use Rattle.demo_script.specs.Lines.{line_with_end, text_of, IsInRound};
 
 use crate::lines::{LINES, Line, line_at};
 use crate::texts::put_line;
@@ -44,7 +44,7 @@ pub fn demo_script(alloc: Global, demo: u32) -> Result<Vec<u8>, NoMemory>
 
 /// Appends the line with a number, if there is one, and a line feed.
 fn put_line_at(demo: u32, number: u32, out: &mut String) -> Result<(), NoMemory>
-    ensures { OnOk result (string_bytes out.new ≡ string_bytes out.old ++ ended (line_at (demo_lines demo) number)) }
+    ensures { OnOk result (string_bytes out.new ≡ string_bytes out.old ++ line_with_end (line_at (demo_lines demo) number)) }
 {
     match line_at(number) {
         None => Ok(()),

@@ -28,7 +28,7 @@ use Rattle.ts_bucket.specs.Bucket.{is_time}
 use Rattle.ts_model.specs.Laws.{SoundCut}
 use Rattle.ts_model.proofs.AllowedLaws.{consistent_of}
 use Rattle.ts_model.proofs.MadeLaws.{calls_make_allowed}
-use Rattle.ts_model.specs.Calls.{refuses, makes, committed, making, numbered, new_relation, refusal, finish_of, making_table, making_hyper, making_view, setting_mode, finishing, cutting, cut_of_view, cut_over}
+use Rattle.ts_model.specs.Calls.{refuses, makes, commit_result, act_of_event, act_with_number, new_relation, refusal, finish_of, making_table, making_hyper, making_view, setting_mode, act_of_finish, act_of_cut, cut_of_view, cut_over}
 use Rattle.ts_model.specs.Numbers.{no_number, name_taken, too_many, history_full}
 use Rattle.event_check.specs.Checks.{refusal_in, call_refusal, event_refusal}
 use Rattle.engine_core.specs.Acts.{unless, making_event, with_answer}
@@ -36,18 +36,18 @@ use Rattle.engine_core.specs.Effects.{moves_none}
 
 -- ---- a call is refused exactly where its event isn't timely
 
-room_timely : {A : Type 0} (h : History) (e : Event) (x : A) → is_none (refusal_in (making h e x)) ≡ has_room h
+room_timely : {A : Type 0} (h : History) (e : Event) (x : A) → is_none (refusal_in (act_of_event h e x)) ≡ has_room h
 room_timely h e x = elim (has_room h) as (λ t. is_none (refusal_in (cond t (makes e x) (refuses (refusal history_full h 0)))) ≡ t) [ true ↦ refl | false ↦ refl ]
 
 relation_timely : (h : History) (taken : Bool) (many : ℕ) (e : Event) → is_none (refusal_in (new_relation h taken many e)) ≡ ((not taken && nat_lt many most_relations) && has_room h)
 relation_timely h true many e = refl
 relation_timely h false many e =
-    elim (nat_lt many most_relations) as (λ t. is_none (refusal_in (cond t (numbered h e) (refuses (refusal too_many h (suc most_relations))))) ≡ (t && has_room h)) [
+    elim (nat_lt many most_relations) as (λ t. is_none (refusal_in (cond t (act_with_number h e) (refuses (refusal too_many h (suc most_relations))))) ≡ (t && has_room h)) [
       | true ↦ room_timely h e (suc (position h))
       | false ↦ refl
     ]
 
-hyper_timely : {X : Type 0} (h : History) (o : Option X) (e : Event) → is_none (refusal_in (cond (is_some o) (refuses (refusal name_taken h 0)) (numbered h e))) ≡ (is_none o && has_room h)
+hyper_timely : {X : Type 0} (h : History) (o : Option X) (e : Event) → is_none (refusal_in (cond (is_some o) (refuses (refusal name_taken h 0)) (act_with_number h e))) ≡ (is_none o && has_room h)
 hyper_timely h None e = room_timely h e (suc (position h))
 hyper_timely h (Some x) e = refl
 
@@ -61,7 +61,7 @@ none_where_timely h (Table def) = relation_timely h (is_taken (roster h) def.nam
 none_where_timely h (Hyper t hyper) = hyper_timely h (hyper_of (roster h) t) (Hyper t hyper)
 none_where_timely h (View def) = relation_timely h (is_taken (roster h) def.name) (length (roster h).views) (View def)
 none_where_timely h (Mode v only) = room_timely h (Mode v only) (suc (position h))
-none_where_timely h (Commit ops) = room_timely h (Commit ops) (committed ops h)
+none_where_timely h (Commit ops) = room_timely h (Commit ops) (commit_result ops h)
 none_where_timely h (Cut v span) = room_timely h (Cut v span) (suc (position h))
 none_where_timely h (Built cut snap) = finish_timely h cut snap (pending h cut)
 
@@ -93,13 +93,13 @@ room_where_free h e free = by_event e (sym (none_where_timely h e) ∙ ap is_non
 -- ---- what each call answers of its event
 
 -- an event that is made, or refused as the history is at its end
-answered_made : {A : Type 0} (f : Committed → A) (h : History) (e : Event) → making h e (f (moves_none h)) ≡ with_answer f (unless (refusal_in (making h e (f (moves_none h)))) (making h e (moves_none h)))
+answered_made : {A : Type 0} (f : Committed → A) (h : History) (e : Event) → act_of_event h e (f (moves_none h)) ≡ with_answer f (unless (refusal_in (act_of_event h e (f (moves_none h)))) (act_of_event h e (moves_none h)))
 answered_made f h e = elim (has_room h) as (λ t. cond t (makes e (f (moves_none h))) (refuses (refusal history_full h 0)) ≡ with_answer f (unless (refusal_in (cond t (makes e (f (moves_none h))) (refuses (refusal history_full h 0)))) (cond t (makes e (moves_none h)) (refuses (refusal history_full h 0))))) [ true ↦ refl | false ↦ refl ]
 
-answered_relation : (h : History) (taken : Bool) (many : ℕ) (e : Event) → new_relation h taken many e ≡ with_answer (λ c. c.pos) (unless (refusal_in (new_relation h taken many e)) (making h e (moves_none h)))
+answered_relation : (h : History) (taken : Bool) (many : ℕ) (e : Event) → new_relation h taken many e ≡ with_answer (λ c. c.pos) (unless (refusal_in (new_relation h taken many e)) (act_of_event h e (moves_none h)))
 answered_relation h true many e = refl
 answered_relation h false many e =
-    elim (nat_lt many most_relations) as (λ t. cond t (numbered h e) (refuses (refusal too_many h (suc most_relations))) ≡ with_answer (λ c. c.pos) (unless (refusal_in (cond t (numbered h e) (refuses (refusal too_many h (suc most_relations))))) (making h e (moves_none h)))) [
+    elim (nat_lt many most_relations) as (λ t. cond t (act_with_number h e) (refuses (refusal too_many h (suc most_relations))) ≡ with_answer (λ c. c.pos) (unless (refusal_in (cond t (act_with_number h e) (refuses (refusal too_many h (suc most_relations))))) (act_of_event h e (moves_none h)))) [
       | true ↦ answered_made (λ c. c.pos) h e
       | false ↦ refl
     ]
@@ -113,17 +113,17 @@ answered_view def h = answered_relation h (is_taken (roster h) def.name) (length
 pub answered_hyper : (t : ℕ) (hyper : HyperInfo) (h : History) → making_hyper t hyper h ≡ with_answer (λ c. c.pos) (making_event (Hyper t hyper) h)
 answered_hyper t hyper h = by_kind (is_some (hyper_of (roster h) t))
   where
-    by_kind : (made : Bool) → cond made (refuses (refusal name_taken h 0)) (numbered h (Hyper t hyper)) ≡ with_answer (λ c. c.pos) (unless (refusal_in (cond made (refuses (refusal name_taken h 0)) (numbered h (Hyper t hyper)))) (making h (Hyper t hyper) (moves_none h)))
+    by_kind : (made : Bool) → cond made (refuses (refusal name_taken h 0)) (act_with_number h (Hyper t hyper)) ≡ with_answer (λ c. c.pos) (unless (refusal_in (cond made (refuses (refusal name_taken h 0)) (act_with_number h (Hyper t hyper)))) (act_of_event h (Hyper t hyper) (moves_none h)))
     by_kind true = refl
     by_kind false = answered_made (λ c. c.pos) h (Hyper t hyper)
 
 pub answered_mode : (n : ℕ) (only : Bool) (h : History) → setting_mode n only h ≡ with_answer (λ c. c.pos) (making_event (Mode n only) h)
 answered_mode n only h = answered_made (λ c. c.pos) h (Mode n only)
 
-pub answered_finish : (cut snap : ℕ) (h : History) → finishing cut snap h ≡ with_answer (λ c. c.pos) (making_event (Built cut snap) h)
+pub answered_finish : (cut snap : ℕ) (h : History) → act_of_finish cut snap h ≡ with_answer (λ c. c.pos) (making_event (Built cut snap) h)
 answered_finish cut snap h = by_state (pending h cut)
   where
-    by_state : (p : Pending) → finish_of cut snap h p ≡ with_answer (λ c. c.pos) (unless (refusal_in (finish_of cut snap h p)) (making h (Built cut snap) (moves_none h)))
+    by_state : (p : Pending) → finish_of cut snap h p ≡ with_answer (λ c. c.pos) (unless (refusal_in (finish_of cut snap h p)) (act_of_event h (Built cut snap) (moves_none h)))
     by_state (Waiting n) = answered_made (λ c. c.pos) h (Built cut snap)
     by_state (Finished by) = refl
     by_state Unknown = refl
@@ -138,7 +138,7 @@ by_definition n lo hi h w None there is = absurd (true≢false (sym there))
 by_definition n lo hi h w (Some def) there is = ap (cut_over n h) (sym is)
 
 -- a cut goes by the buckets that its window covers
-pub cut_by_window : (n : ℕ) (lo hi : Option ℤ) (h : History) (w found : WindowFound) → IsSome (view_of (roster h) n) → IfSome (view_of (roster h) n) (λ def. w ≡ window n def h lo hi) → w ≡ found → cutting n lo hi h ≡ cut_over n h found
+pub cut_by_window : (n : ℕ) (lo hi : Option ℤ) (h : History) (w found : WindowFound) → IsSome (view_of (roster h) n) → IfSome (view_of (roster h) n) (λ def. w ≡ window n def h lo hi) → w ≡ found → act_of_cut n lo hi h ≡ cut_over n h found
 cut_by_window n lo hi h w found there is same = by_definition n lo hi h w (view_of (roster h) n) there is ∙ ap (cut_over n h) same
 
 -- the cut of the whole buckets of a window is sound

@@ -8,7 +8,7 @@ use Rattle.ts_model.specs.declared.outcomes.Outcome.TheVariants.{Done, DiskFault
 use Rattle.ts_model.specs.declared.outcomes.Refusal.{Refusal}
 use Rattle.ts_model.specs.History.{History, ◌▸◌, same}
 use Rattle.ts_model.specs.States.{State, Found, Keeps, Makes}
-use Rattle.ts_model.specs.Calls.{Act, refusal, makes, making, refuses, returns, Answered, Called, Looked}
+use Rattle.ts_model.specs.Calls.{Act, refusal, makes, act_of_event, refuses, returns, Answered, Called, Looked}
 use Rattle.ts_model.specs.Numbers.{history_full}
 use Rattle.ts_model.specs.Timely.{has_room}
 use Rattle.ts_model.proofs.HistoryLaws.{followed_push}
@@ -54,7 +54,7 @@ pub does_made : (old new : Past) (e : Event) (effect : Committed) → call_refus
 does_made old new e effect free with told =
     let h = history_of old in
     let new_is : history_of new ≡ (history_of old ▸ e) = ap history_of with ∙ history_push old e in
-    let act_is : making_event e (history_of old) ≡ makes e (effect_of (history_of old) e) = ap (λ o. unless o (making (history_of old) e (effect_of (history_of old) e))) free ∙ cond-true (has_room (history_of old)) (makes e (effect_of (history_of old) e)) (refuses (refusal history_full (history_of old) 0)) (room_where_free (history_of old) e free) in
+    let act_is : making_event e (history_of old) ≡ makes e (effect_of (history_of old) e) = ap (λ o. unless o (act_of_event (history_of old) e (effect_of (history_of old) e))) free ∙ cond-true (has_room (history_of old)) (makes e (effect_of (history_of old) e)) (refuses (refusal history_full (history_of old) 0)) (room_where_free (history_of old) e free) in
     let made : Answered (makes e (effect_of (history_of old) e)) (state_of (history_of old)) (Done effect) (state_of (history_of new)) =
     (told, subst (λ g. Makes e (state_of (history_of old)) (state_of g)) (sym new_is) (makes_event (history_of old) e)) in
     called_where_seen (making_event e) h (Done effect) (state_of (history_of new)) (subst (λ a. Answered a (state_of (history_of old)) (Done effect) (state_of (history_of new))) (sym act_is) made)
@@ -67,7 +67,7 @@ does_refuse act old r q is told =
 -- an event was refused
 pub does_refused : (old new : Past) (e : Event) (r : Refusal) → call_refusal (history_of old) e ≡ Some r → new ≡ old → EngineDoes (making_event e) old (Refused r) new
 does_refused old new e r refused kept =
-    let act_is : making_event e (history_of old) ≡ refuses r = ap (λ o. unless o (making (history_of old) e (effect_of (history_of old) e))) refused in
+    let act_is : making_event e (history_of old) ≡ refuses r = ap (λ o. unless o (act_of_event (history_of old) e (effect_of (history_of old) e))) refused in
     subst (λ past. EngineDoes (making_event e) old (Refused r) past) (sym kept) (does_refuse (making_event e) old r r act_is refl)
 
 -- there was no memory, and nothing changed

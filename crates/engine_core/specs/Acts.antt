@@ -6,7 +6,7 @@ use Rattle.ts_model.specs.declared.outcomes.Outcome.{Outcome}
 use Rattle.ts_model.specs.declared.outcomes.Outcome.TheVariants.{Done, Refused, DiskFault, NoMemory}
 use Rattle.ts_model.specs.declared.outcomes.Refusal.{Refusal}
 use Rattle.ts_model.specs.History.{History}
-use Rattle.ts_model.specs.Calls.{Act, refuses, returns, makes, making}
+use Rattle.ts_model.specs.Calls.{Act, refuses, returns, makes, act_of_event}
 use Rattle.event_check.specs.Checks.{call_refusal}
 use Rattle.engine_core.specs.Effects.{effect_of}
 
@@ -17,7 +17,7 @@ unless None act = act
 
 -- an event is made, unless the call that makes it is refused; and what it does is answered
 abbrev pub making_event : Event → History → Act Committed
-making_event e h = unless (call_refusal h e) (making h e (effect_of h e))
+making_event e h = unless (call_refusal h e) (act_of_event h e (effect_of h e))
 
 -- the same act, with something else as its answer
 abbrev pub with_answer : {A B : Type 0} → (A → B) → Act A → Act B

@@ -5,7 +5,7 @@ use Rattle.ts_model.specs.declared.events.Event.TheVariants.{Table, Hyper, View,
 use Rattle.ts_model.specs.declared.outcomes.Committed.{Committed}
 use Rattle.ts_model.specs.History.{History, ◌▸◌, position}
 use Rattle.ts_model.specs.Allowed.{allowed}
-use Rattle.ts_model.specs.Calls.{committed}
+use Rattle.ts_model.specs.Calls.{commit_result}
 use Rattle.engine_state.specs.Stands.{StandsFor}
 use Rattle.engine_state.specs.Afters.{CountsAre}
 use Rattle.engine_core.specs.Values.{PreparedValue}
@@ -20,7 +20,7 @@ effect_of h (Table def) = moves_none h
 effect_of h (Hyper t hyper) = moves_none h
 effect_of h (View def) = moves_none h
 effect_of h (Mode v only) = moves_none h
-effect_of h (Commit ops) = committed ops h
+effect_of h (Commit ops) = commit_result ops h
 effect_of h (Cut v span) = moves_none h
 effect_of h (Built cut snap) = moves_none h
 

@@ -13,16 +13,16 @@ ghost use Rattle.ts_model.specs.Sound.{sound};
 ghost use Rattle.ts_model.specs.Valid.{valid};
 ghost use Rattle.ts_model.specs.Windows.{window};
 ghost use Rattle.event_check.specs.Checks.{PendingIs, call_refusal, event_refusal};
-ghost use Rattle.engine_state.specs.Refolding.{rows_refolded};
+ghost use Rattle.engine_state.specs.GroupRebuilds.{rows_refolded};
 ghost use Rattle.engine_state.specs.Stands.{StandsFor};
 ghost use Rattle.engine_state.specs.Afters.{IsNext};
 ghost use Rattle.refresh_build.specs.Fitting.{IsJobOf, JobIsFor};
 ghost use Rattle.engine_core.specs.Effects.{IsPreparedFor};
 ghost use Rattle.engine_core.specs.Histories.{begun_by, history_of, past_from, with_event};
 
-use crate::moments::Moment;
 use crate::prepared::Prepared;
 use crate::shots::Shot;
+use crate::state_at::StateAt;
 use engine_state::State;
 use event_check::{call_refusal, refusal_of};
 use refresh_build::Job;
@@ -62,7 +62,7 @@ impl Model for Engine {
 }
 
 /// What became of the refresh that an event finishes.
-fn finished(state: &State, event: &Event) -> Pending
+fn pending_of(state: &State, event: &Event) -> Pending
     ensures { (h : History) → StandsFor h state.now → PendingIs h event.now result }
 {
     match event {
@@ -90,7 +90,7 @@ pub fn begun_at(base: &Option<Image>) -> u64
 fn next_refusal(state: &State, base: u64, event: &Event) -> Option<Refusal>
     ensures { (h : History) → StandsFor h state.now → base ≡ base_position h → result ≡ event_refusal h event.now }
 {
-    let pending = finished(state, event);
+    let pending = pending_of(state, event);
     refusal_of(state.roster(), pending, state.position(), base, event)
 }
 
@@ -118,7 +118,7 @@ fn prepared_for(
         IfOk result (λ prepared. IsPreparedFor h prepared) }
 {
     let moved = state.after(&event, job)?;
-    let moment = Moment::of(alloc, moved)?;
+    let moment = StateAt::of(alloc, moved)?;
     Ok(Prepared::of(event, moment))
 }
 
@@ -126,7 +126,7 @@ fn prepared_for(
 fn next_call_refusal(state: &State, event: &Event) -> Option<Refusal>
     ensures { (h : History) → StandsFor h state.now → result ≡ call_refusal h event.now }
 {
-    let pending = finished(state, event);
+    let pending = pending_of(state, event);
     call_refusal(state.roster(), pending, state.position(), event)
 }
 

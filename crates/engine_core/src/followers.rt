@@ -107,6 +107,6 @@ impl Follower for Ledger {
     }
 
     fn follow<R: Threads + Sync>(&mut self, _rt: &R, event: Event) -> Result<(), NoMemory> {
-        self.take(event)
+        self.append(event)
     }
 }

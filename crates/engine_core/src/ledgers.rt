@@ -12,7 +12,7 @@ ghost use Rattle.engine_core.specs.Ledgers.{refreshes_after};
 
 use crate::engines::begun_at;
 use crate::timelines::end_of;
-use engine_state::made_roster;
+use engine_state::roster_from_image;
 use event_check::{after_event, refusal_of};
 use refresh_list::Refreshes;
 use std::alloc::Global;
@@ -45,7 +45,7 @@ impl Model for Ledger {
 }
 
 /// What became of the refresh that an event finishes.
-fn finished(refreshes: &Refreshes, event: &Event) -> Pending
+fn pending_of(refreshes: &Refreshes, event: &Event) -> Pending
     ensures { (h : History) → RefreshesStand h refreshes.now → PendingIs h event.now result }
 {
     match event {
@@ -67,7 +67,7 @@ fn refreshes_after(before: &Refreshes, number: u64, event: &Event) -> Result<Ref
 {
     match event {
         Event::Cut { view, span } => before.with_cut(number, *view, *span),
-        Event::Built { cut, .. } => before.finished(*cut, number),
+        Event::Built { cut, .. } => before.with_finish(*cut, number),
         Event::Table(_) => before.copy(),
         Event::Hyper { .. } => before.copy(),
         Event::View(_) => before.copy(),
@@ -114,7 +114,7 @@ impl Ledger {
         requires valid { IsTrue (valid image) }
         ensures empty { IfOk result (λ ledger. ledger.past ≡ past_from (Some image)) }
     {
-        let roster = made_roster(alloc, image.roster.items())?;
+        let roster = roster_from_image(alloc, image.roster.items())?;
         let refreshes = Refreshes::of(alloc, image.waiting.items(), image.done.items())?;
         Ok(Ledger {
             base: Some(image),
@@ -177,12 +177,12 @@ impl Ledger {
         ensures { result ≡ event_refusal (history_of self.now.past) event.now }
     {
         let end = self.length();
-        let pending = finished(&self.refreshes, event);
+        let pending = pending_of(&self.refreshes, event);
         refusal_of(&self.roster, pending, end, begun_at(&self.base), event)
     }
 
     /// Appends an event that is allowed next. Where there is no memory the history stays as it is.
-    pub fn take(&mut self, event: Event) -> Result<(), NoMemory>
+    pub fn append(&mut self, event: Event) -> Result<(), NoMemory>
         requires allowed { IsTrue (allowed (history_of self.old.past) event) }
         ensures past { OnOk result (self.new.past ≡ with_event self.old.past event) }
         ensures kept { OnErr result (self.new.past ≡ self.old.past) }

@@ -4,26 +4,26 @@
 //! - `engines`, `prepared`, `moments`, `shots`: the engine, and what one more event makes of it.
 //! - `ledgers`: a history without its rows, which tells what may come next.
 //! - `followers`: what follows a history event by event, as its journal is read: an engine or a ledger.
-//! - `makings`, `mem_stores`: the calls of a store, and a store in memory.
+//! - `event_calls`, `mem_stores`: the calls of a store, and a store in memory.
 //! - `timelines`: the states of a history at its positions.
 //! - `images`: what the image of a history is made of.
 #![tactic(auto)]
 
 mod engines;
+mod event_calls;
 mod followers;
 mod images;
 mod ledgers;
-mod makings;
 mod mem_stores;
-mod moments;
 mod prepared;
 mod shots;
+mod state_at;
 mod timelines;
 
 pub use engines::{Engine, begun_at};
+pub use event_calls::{cut_over, no_bucket, number_only};
 pub use followers::Follower;
 pub use ledgers::Ledger;
-pub use makings::{cut_over, no_bucket, numbered};
 pub use mem_stores::MemStore;
 pub use prepared::Prepared;
 pub use shots::Shot;

@@ -3,7 +3,7 @@ ghost use Rattle.std.specs.Prelude.{◌≡◌, IfOk, None};
 ghost use Rattle.engine_core.specs.Histories.{past_from};
 
 use crate::engines::Engine;
-use crate::makings;
+use crate::event_calls;
 use crate::shots::Shot;
 use refresh_build::Job;
 use std::alloc::Global;
@@ -48,31 +48,31 @@ impl Backend for MemStore {
     }
 
     fn make_table(&mut self, def: TableDef) -> Outcome<u64> {
-        makings::make_table(&mut self.engine, def)
+        event_calls::make_table(&mut self.engine, def)
     }
 
     fn make_hyper(&mut self, table: u32, hyper: Hyper) -> Outcome<u64> {
-        makings::make_hyper(&mut self.engine, table, hyper)
+        event_calls::make_hyper(&mut self.engine, table, hyper)
     }
 
     fn make_view(&mut self, def: ViewDef) -> Outcome<u64> {
-        makings::make_view(&mut self.engine, def)
+        event_calls::make_view(&mut self.engine, def)
     }
 
     fn set_mode(&mut self, view: u32, only: bool) -> Outcome<u64> {
-        makings::set_mode(&mut self.engine, view, only)
+        event_calls::set_mode(&mut self.engine, view, only)
     }
 
     fn commit(&mut self, ops: Seq<Op>) -> Outcome<Committed> {
-        makings::commit(&mut self.engine, ops)
+        event_calls::commit(&mut self.engine, ops)
     }
 
     fn cut(&mut self, view: u32, lo: Option<i64>, hi: Option<i64>) -> Outcome<CutDone> {
-        makings::cut(&mut self.engine, view, lo, hi)
+        event_calls::cut(&mut self.engine, view, lo, hi)
     }
 
     fn finish(&mut self, job: Job) -> Outcome<u64> {
-        makings::finish(&mut self.engine, job)
+        event_calls::finish(&mut self.engine, job)
     }
 
     fn position(&self) -> u64 {

@@ -4,7 +4,7 @@ ghost use Rattle.std.specs.Arc.{arc_value};
 ghost use Rattle.ts_model.specs.History.{History};
 ghost use Rattle.engine_core.specs.Effects.{IsPreparedFor, effect_of};
 
-use crate::moments::Moment;
+use crate::state_at::StateAt;
 use engine_state::State;
 use std::marker::Model;
 use std::sync::Arc;
@@ -14,7 +14,7 @@ use ts_model::{Committed, Event};
 #[derive(Drop)]
 pub struct Prepared {
     event: Event,
-    moment: Moment,
+    moment: StateAt,
 }
 
 impl Model for Prepared {
@@ -26,7 +26,7 @@ impl Model for Prepared {
 }
 
 impl Prepared {
-    pub(crate) fn of(event: Event, moment: Moment) -> Prepared
+    pub(crate) fn of(event: Event, moment: StateAt) -> Prepared
         ensures of { result ≡ record { event = event; moment = moment } }
     {
         Prepared { event, moment }

@@ -16,8 +16,8 @@ ghost use Rattle.engine_core.specs.Histories.{begun_by, history_of};
 ghost use Rattle.engine_core.specs.Timelines.{IsMomentOf, MayFollow};
 
 use crate::engines::begun_at;
-use crate::moments::Moment;
 use crate::shots::Shot;
+use crate::state_at::StateAt;
 use engine_state::State;
 use refresh_build::Job;
 use std::alloc::Global;
@@ -35,7 +35,7 @@ pub struct Timeline<'a> {
     events: &'a [Event],
     start: u64,
     end: u64,
-    moments: Vec<Moment>,
+    moments: Vec<StateAt>,
 }
 
 impl<'a> Model for Timeline<'a> {
@@ -53,7 +53,11 @@ impl<'a> Model for Timeline<'a> {
 }
 
 /// What is kept of the history that begins with an image, where there is one, without events.
-fn opening<L>(alloc: Global, base: &Option<Image>, steps: &mut Steps<L>) -> Result<Moment, NoMemory>
+fn initial_state<L>(
+    alloc: Global,
+    base: &Option<Image>,
+    steps: &mut Steps<L>,
+) -> Result<StateAt, NoMemory>
     requires allowed { IsTrue (all_allowed (begun_by base.now)) }
     ensures opening { IfOk result (IsMomentOf (begun_by base.now)) }
 {
@@ -61,7 +65,7 @@ fn opening<L>(alloc: Global, base: &Option<Image>, steps: &mut Steps<L>) -> Resu
         Some(image) => State::from_image(alloc, image, steps)?,
         None => State::new(alloc)?,
     };
-    Ok(Moment {
+    Ok(StateAt {
         state: Arc::new(alloc, state)?,
         inserted: 0,
         removed: 0,
@@ -92,7 +96,7 @@ fn next<R: Threads + Sync>(
     alloc: Global,
     state: &State,
     event: &Event,
-) -> Result<Moment, NoMemory>
+) -> Result<StateAt, NoMemory>
     requires sync { IsSync R.row }
     requires follows { MayFollow state.now event.now }
     ensures next { (h : History) → StandsFor h state.now → IsTrue (allowed h event.now)
@@ -100,12 +104,12 @@ fn next<R: Threads + Sync>(
 {
     let job = job_of(rt, state, event)?;
     let after = state.after(event, job)?;
-    let moment = Moment::of(alloc, after)?;
+    let moment = StateAt::of(alloc, after)?;
     Ok(moment)
 }
 
 /// Keeps a moment, where its position is to be kept.
-fn keep(moments: &mut Vec<Moment>, moment: Moment, kept: bool) -> Result<(), NoMemory>
+fn keep(moments: &mut Vec<StateAt>, moment: StateAt, kept: bool) -> Result<(), NoMemory>
     ensures kept { IfOk result (λ _.
         moments.new.items ≡ cond kept (moments.old.items ++ moment ∷ []) moments.old.items) }
 {
@@ -144,7 +148,7 @@ impl<'a> Timeline<'a> {
         ensures start { IfOk result (λ t. t.start ≡ start) }
     {
         let mut moments = Vec::new(alloc);
-        let mut moment = opening(alloc, base, steps)?;
+        let mut moment = initial_state(alloc, base, steps)?;
         for event in events {
             let after = next(rt, alloc, &moment.state, event)?;
             let kept = start <= moment.state.position();
@@ -171,7 +175,7 @@ impl<'a> Timeline<'a> {
     }
 
     /// What is kept of a position.
-    fn moment(&self, position: u64) -> &Moment
+    fn moment(&self, position: u64) -> &StateAt
         requires low { self.now.start ≤ position }
         requires high { position ≤ position_of (history_of self.now.past) }
         ensures moment { IsMomentOf (prefix (history_of self.now.past) position) result.now }

@@ -19,7 +19,7 @@ use Rattle.ts_model.specs.History.{History, position, prefix}
 use Rattle.ts_model.specs.Allowed.{all_consistent}
 use Rattle.ts_model.specs.Roster.{roster, table_of, hyper_of, of_table, of_hyper}
 use Rattle.ts_model.specs.Rows.{in_order, rows}
-use Rattle.ts_model.specs.Reads.{chunk_within, inserted, rows_near}
+use Rattle.ts_model.specs.Reads.{chunk_within, rows_inserted, rows_near}
 use Rattle.ts_model.specs.Answers.{all_columns, answer, passing_rows}
 use Rattle.ts_model.specs.Scratch.{fold_rows}
 use Rattle.ts_model.specs.Laws.{is_hyper_sound}
@@ -93,18 +93,18 @@ table_tells h t s table st at =
         let sound = (and_parts _ (is_hyper_sound info info.hyper) ((rosters_are_sound h st.consistent).tables t info is)).1 in
         let long : IsInterval hyper.interval = long_there h t info hyper sound info_hyper in
         let within : list_all (chunk_within (min_time -ℤ max_interval) (max_time +ℤ max_interval) hyper.interval) (stored_rows table) ≡ true =
-        same_all (chunk_within (min_time -ℤ max_interval) (max_time +ℤ max_interval) hyper.interval) (stored_rows table) (inserted t h) held.stored (chunks_are_within t hyper h st.consistent hyper_is) in
+        same_all (chunk_within (min_time -ℤ max_interval) (max_time +ℤ max_interval) hyper.interval) (stored_rows table) (rows_inserted t h) held.stored (chunks_are_within t hyper h st.consistent hyper_is) in
         record {
           hyper = hyper;
           hyper_is = hyper_is;
           stands = stands;
           interval = subst IsInterval (sym stands.interval) long;
           times = sym (all-in_order (λ row. is_time row.at) (seen_rows s.position table)) ∙ (ap (list_all (λ row. is_time row.at)) (held.seen s.position) ∙ rows_are_times.rows t h s.position st.consistent);
-          stored_times = same_all (λ row. is_time row.at) (stored_rows table) (inserted t h) held.stored (rows_are_times.inserted t h st.consistent);
+          stored_times = same_all (λ row. is_time row.at) (stored_rows table) (rows_inserted t h) held.stored (rows_are_times.inserted t h st.consistent);
           near = subst (λ i. ChunksAreNear i (stored_rows table)) (sym stands.interval) within;
           rows_are = held.seen s.position ∙ ap (rows t) now;
-          reads_are = λ spans. (held_tables_tell t h table.rows held).read table.rows.interval spans ∙ ap (λ i. rows_near i (inserted t h) spans) stands.interval;
-          count_is = same_length (stored_rows table) (inserted t h) held.stored;
+          reads_are = λ spans. (held_tables_tell t h table.rows held).read table.rows.interval spans ∙ ap (λ i. rows_near i (rows_inserted t h) spans) stands.interval;
+          count_is = same_length (stored_rows table) (rows_inserted t h) held.stored;
         }
 
     by_hyper : (info : TableInfo) → table_of (roster h) t ≡ Some info → (o : Option Hyper) → info.hyper ≡ o → TableIs h t o (Some table) → IsTableOf h t s.position table

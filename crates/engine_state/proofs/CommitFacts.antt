@@ -11,7 +11,7 @@ use Rattle.ts_model.specs.History.{History, ◌▸◌, position}
 use Rattle.ts_model.specs.Roster.{roster, table_of, of_hyper, of_table}
 use Rattle.ts_model.specs.Rows.{rows}
 use Rattle.ts_model.specs.Effect.{all_appended, all_taken, sum_below}
-use Rattle.ts_model.specs.Calls.{committed}
+use Rattle.ts_model.specs.Calls.{commit_result}
 use Rattle.ts_model.specs.Sound.{op_fits, row_fits, sound}
 use Rattle.ts_model.specs.Allowed.{all_consistent, consistent}
 use Rattle.ts_model.specs.Laws.{fits_table}
@@ -98,11 +98,11 @@ sums_match R f g same xs ys e =
     let end : 0 + length xs ≡ length xs = omega arith in
     from ∙ sums_are R f g same 0 xs ys e ∙ ap (λ n. sum_below n g) end
 
-pub commit_appends : (h : History) (ops : List Op) (s : StateValue) → StandsFor h s → consistent h (Commit ops) ≡ true → sum_from (appended_to ops) 0 s.tables ≡ (committed ops h).inserted
+pub commit_appends : (h : History) (ops : List Op) (s : StateValue) → StandsFor h s → consistent h (Commit ops) ≡ true → sum_from (appended_to ops) 0 s.tables ≡ (commit_result ops h).inserted
 commit_appends h ops s st fits =
     sums_match (λ t info table. (slice_get (roster h).tables t ≡ Some info) × TableAt h t info table) (appended_to ops) (λ t. length (all_appended t ops)) (λ t info table e. appended_is h ops st.consistent fits t info table e.0 e.1) (roster h).tables s.tables (each_placed (TableAt h) (roster h).tables s.tables st.tables)
 
-pub commit_takes : (h : History) (ops : List Op) (s : StateValue) (pos : ℕ) → StandsFor h s → consistent h (Commit ops) ≡ true → pos ≡ suc s.position → sum_from (taken_from ops pos) 0 s.tables ≡ (committed ops h).removed
+pub commit_takes : (h : History) (ops : List Op) (s : StateValue) (pos : ℕ) → StandsFor h s → consistent h (Commit ops) ≡ true → pos ≡ suc s.position → sum_from (taken_from ops pos) 0 s.tables ≡ (commit_result ops h).removed
 commit_takes h ops s pos st fits is =
     ap (λ p. sum_from (taken_from ops p) 0 s.tables) (is ∙ ap suc st.position)
     ∙ sums_match (λ t info table. (slice_get (roster h).tables t ≡ Some info) × TableAt h t info table) (taken_from ops (suc (position h))) (λ t. length (all_taken t ops (rows t h))) (λ t info table e. taken_is h ops st.consistent fits t info table e.0 e.1) (roster h).tables s.tables (each_placed (TableAt h) (roster h).tables s.tables st.tables)

@@ -10,13 +10,13 @@ use Rattle.ts_bucket.proofs.BucketLaws.{bucket_of_meets}
 use Rattle.inval_log.specs.declared.entries.Entry.{Entry}
 use Rattle.mat_log.specs.Feeding.{AreWithin, IsFed, pending_after_all}
 use Rattle.mat_log.specs.Logs.{LogValue, last_at, pending_at}
-use Rattle.coverage.specs.Notes.{fed}
+use Rattle.coverage.specs.Notes.{pending_after}
 use Rattle.engine_state.specs.Notes.{IsFedTo, IsOfTimes, noted_in}
 use Rattle.engine_state.specs.Steps.{ViewFed}
 use Rattle.engine_state.specs.Tables.{TableValue}
 use Rattle.engine_state.specs.Views.{ViewValue}
 
-pub fed_as_noted : (w : Width) (b : ℤ) (r : Option ℕ) (entries : List Entry) (v : Option ℕ) → pending_after_all w b r entries v ≡ fed w b r (noted_in entries) v
+pub fed_as_noted : (w : Width) (b : ℤ) (r : Option ℕ) (entries : List Entry) (v : Option ℕ) → pending_after_all w b r entries v ≡ pending_after w b r (noted_in entries) v
 fed_as_noted w b r [] v = refl
 fed_as_noted w b r (e ∷ es) v = fed_as_noted w b r es _
 

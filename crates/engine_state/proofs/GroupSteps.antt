@@ -28,7 +28,7 @@ use Rattle.ts_model.specs.Roster.{roster, view_of, set_only}
 use Rattle.ts_model.specs.Rows.{rows_at}
 use Rattle.ts_model.specs.Allowed.{all_consistent}
 use Rattle.ts_model.specs.Scratch.{bucket_rows, occurring_buckets}
-use Rattle.ts_model.specs.Groups.{stood, groups_at, groups_in, groups_of, bucket_groups, group_at}
+use Rattle.ts_model.specs.Groups.{groups_at_last, groups_at, groups_in, groups_of, bucket_groups, group_at}
 use Rattle.ts_model.specs.Refreshes.{last, span_of_cut, is_covered, last_touch_at}
 use Rattle.ts_model.specs.Jobs.{Fits, job_rows, rows_of_spans}
 use Rattle.ts_model.specs.Windows.{last_end}
@@ -49,7 +49,7 @@ use Rattle.ts_model.proofs.FinishLaws.{covers_part}
 -- ---- one event further
 
 groups_at_further : (n : ℕ) (def : ViewDef) (h : History) (e : Event) (s : ℕ) (b : ℤ) → s ≤ position h → groups_at n def (h ▸ e) s b ≡ groups_at n def h s b
-groups_at_further n def h e s b l = ap (λ g. stood n def g s b) (prefix_further h e s l)
+groups_at_further n def h e s b l = ap (λ g. groups_at_last n def g s b) (prefix_further h e s l)
 
 left_further : (n : ℕ) (def : ViewDef) (h : History) (e : Event) (b : ℤ) (o : Option ℕ) → ((s : ℕ) → o ≡ Some s → s ≤ position h) → groups_left n def (h ▸ e) b o ≡ groups_left n def h b o
 left_further n def h e b None bounded = refl

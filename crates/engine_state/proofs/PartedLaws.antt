@@ -20,7 +20,7 @@ use Rattle.chunk_catalog.specs.Chunks.{HaveTimes}
 use Rattle.row_versions.specs.Tables.{rows_of_span}
 use Rattle.base_image.specs.Outlines.{rows_in, span_rows}
 use Rattle.realtime_union.proofs.LiveLaws.{all_scanned}
-use Rattle.engine_state.specs.Parted.{AreChained, rows_held, state_rows}
+use Rattle.engine_state.specs.ChunkParts.{AreChained, rows_held, state_rows}
 use Rattle.engine_state.specs.Scans.{seen_rows}
 use Rattle.engine_state.specs.Stands.{StateValue, Stands, StandsFor}
 use Rattle.engine_state.specs.Tables.{TableValue, table_at}

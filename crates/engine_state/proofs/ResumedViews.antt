@@ -43,7 +43,7 @@ use Rattle.engine_state.specs.Lists.{Each}
 use Rattle.engine_state.proofs.AnswerFacts.{asked_hyper}
 use Rattle.engine_state.proofs.EachLaws.{each_at}
 use Rattle.ts_model.specs.Rows.{in_order}
-use Rattle.ts_model.specs.Saved.{appended_over, group_of, groups_among, is_dirty, nothing_saved, pos_in, saved}
+use Rattle.ts_model.specs.Saved.{appended_over, group_of, groups_among, is_dirty, nothing_saved, pos_in, saved_view}
 use Rattle.ts_model.specs.Answers.{buckets_in}
 use Rattle.ts_model.specs.Sound.{span_fits}
 use Rattle.ts_model.specs.Valid.{all_rise, views_kept, dirty_fits, group_fits, groups_fit, has_lasts, image_roster, lasts_fit, mark_fits, row_marked, spans_rise, sums_fit, valid, view_kept}
@@ -61,7 +61,7 @@ use Rattle.engine_state.proofs.GroupSteps.{all_starts}
 use Rattle.engine_state.specs.Images.{piece_of}
 use Rattle.engine_state.specs.Notes.{noted_in, notes_in}
 use Rattle.engine_state.specs.Resumed.{HasLog, IsKeptOf, IsSavedOf, ResumedAt}
-use Rattle.engine_state.specs.Refolding.{IsRefolded, was_refreshed}
+use Rattle.engine_state.specs.GroupRebuilds.{IsRefolded, was_refreshed}
 use Rattle.engine_state.specs.Tables.{TableIs, TableValue, table_at}
 use Rattle.engine_state.specs.Views.{ViewStands, ViewValue}
 
@@ -87,7 +87,7 @@ kept_parts_of p def rows v e =
     let fits = and_parts (list_all (group_fits def v.dirty) v.groups) _ groups.1 in
     record { lasts = lasts.0; lasts_rise = lasts.1; dirty = dirty.0; dirty_rise = dirty.1; groups = fits.0; groups_rise = fits.1 }
 
-pub kept_parts : (i : Image) (n : ℕ) (def : ViewDef) (v : SavedView) → valid i ≡ true → view_of (image_roster i) n ≡ Some def → saved n i ≡ v → KeptParts i.pos def v
+pub kept_parts : (i : Image) (n : ℕ) (def : ViewDef) (v : SavedView) → valid i ≡ true → view_of (image_roster i) n ≡ Some def → saved_view n i ≡ v → KeptParts i.pos def v
 kept_parts i n def v ok there is =
     subst (KeptParts i.pos def) is
     (kept_of n i (λ o v. (d : ViewDef) → o ≡ Some d → KeptParts i.pos d v) ok
@@ -360,10 +360,10 @@ module _ (i : Image) (n : ℕ) (def : ViewDef) (v : SavedView) (anew : List Grou
         by_test (lies_in v.dirty b)
         (λ dirty.
         dirty_at b dirty ∙ sym (ap (λ (w : SavedView). groups_among w.groups b) of.kept_is)
-        ∙ sym (ap (λ t. cond t (groups_among (saved n i).groups b) (groups_in def.fold (image_rows i def.table) b)) (and_from _ _ low (dirty_is b ∙ dirty))))
+        ∙ sym (ap (λ t. cond t (groups_among (saved_view n i).groups b) (groups_in def.fold (image_rows i def.table) b)) (and_from _ _ low (dirty_is b ∙ dirty))))
         (λ clean.
         clean_at b bucket clean ∙ ap (λ t. cond t (groups_in def.fold (image_rows i def.table) b) []) (ap is_some at)
-        ∙ sym (ap (λ t. cond (t && is_dirty n i b) (groups_among (saved n i).groups b) (groups_in def.fold (image_rows i def.table) b)) low ∙ ap (λ t. cond t (groups_among (saved n i).groups b) (groups_in def.fold (image_rows i def.table) b)) (dirty_is b ∙ clean)))
+        ∙ sym (ap (λ t. cond (t && is_dirty n i b) (groups_among (saved_view n i).groups b) (groups_in def.fold (image_rows i def.table) b)) low ∙ ap (λ t. cond t (groups_among (saved_view n i).groups b) (groups_in def.fold (image_rows i def.table) b)) (dirty_is b ∙ clean)))
 
     none_above : (b : ℤ) → is_bucket def.fold.width b ≡ true → is_below b v.mark ≡ false → of_bucket b all ≡ []
     none_above b bucket high =
@@ -444,12 +444,12 @@ as_many_kept i ok = many (image_roster i).views i.views (valid_is i ok).views
 
 -- what is kept of an aggregate, with the table that was found for it
 pub saved_of : (i : Image) (n : ℕ) (def : ViewDef) (v : SavedView) (tables : List (Option TableValue)) (table : TableValue) (anew : List Group) → valid i ≡ true → Each (ResumedAt i) (image_roster i).tables tables → view_of (image_roster i) n ≡ Some def → slice_get i.views n ≡ Some v
-    → table_at tables def.table ≡ Some table → IsRefolded i def (saved n i) anew → IsSavedOf i n def v table anew
+    → table_at tables def.table ≡ Some table → IsRefolded i def (saved_view n i) anew → IsSavedOf i n def v table anew
 saved_of i n def v tables table anew ok each there kept at are =
     let found = has_state i def.table tables each (view_table i n def ok there) in
     let same : found.0 ≡ table = one (sym found.1.at ∙ at) in
     let state : HasState i def.table tables table = subst (HasState i def.table tables) same found.1 in
-    let kept_is : saved n i ≡ v = ap (λ (o : Option SavedView). unwrap_or o nothing_saved) kept in
+    let kept_is : saved_view n i ≡ v = ap (λ (o : Option SavedView). unwrap_or o nothing_saved) kept in
     record {
       is_kept = record { ok = ok; there = there; kept_is = kept_is; anew_are = subst (λ (w : SavedView). IsRefolded i def w anew) kept_is are };
       threshold_is = state.threshold_is;

@@ -15,7 +15,7 @@ use Rattle.ts_schema.proofs.Cases.{by_test}
 use Rattle.ts_model.specs.Rows.{in_order}
 use Rattle.ts_model.proofs.RowLaws.{filter-in_order}
 use Rattle.chunk_catalog.specs.Chunks.{HoldsTimes}
-use Rattle.realtime_union.specs.Whole.{passing}
+use Rattle.realtime_union.specs.Whole.{passing_rows}
 use Rattle.group_fold.specs.Spans.{HaveTimes}
 
 -- a filter after another is one by both
@@ -49,7 +49,7 @@ none_lost tests span (row ∷ rows) holds times =
     fails : in_span span row.at ≡ false → is_time row.at ≡ true → passes_all row tests ≡ false
     fails outside time = by_test (passes_all row tests) (λ passes. true_false (sym (holds row time passes) ∙ outside)) (λ e. e)
 
-pub passing_timed : (at : ℕ) (tests : List Test) (span : Span) (rows : List Row) → HoldsTimes tests span → HaveTimes rows → passing at tests (filter (λ row. in_span span row.at) rows) ≡ passing at tests rows
+pub passing_timed : (at : ℕ) (tests : List Test) (span : Span) (rows : List Row) → HoldsTimes tests span → HaveTimes rows → passing_rows at tests (filter (λ row. in_span span row.at) rows) ≡ passing_rows at tests rows
 passing_timed at tests span rows holds times =
     ap (map (Rattle.ts_model.specs.Answers.all_columns at))
     (filter-in_order (λ row. passes_all row tests) (filter (λ row. in_span span row.at) rows) ∙ ap in_order (none_lost tests span rows holds times) ∙ sym (filter-in_order (λ row. passes_all row tests) rows))

@@ -35,7 +35,7 @@ use Rattle.ts_model.specs.Rows.{in_order, rows}
 use Rattle.ts_model.specs.Scratch.{bucket_rows, scratch}
 use Rattle.ts_model.specs.Groups.{cells_of, groups_in}
 use Rattle.ts_model.specs.Refreshes.{invalid, is_invalid, last, stale, watermark}
-use Rattle.ts_model.specs.Reads.{inserted, reads, reads_of_view, rows_near, rows_near_in}
+use Rattle.ts_model.specs.Reads.{rows_inserted, reads, reads_of_view, rows_near, rows_near_in}
 use Rattle.ts_model.specs.Answers.{answer, answer_of_view, buckets_in, left_by, ranges, shown}
 use Rattle.ts_model.specs.Allowed.{all_consistent}
 use Rattle.ts_model.proofs.GroupLaws.{cells_are_scratch}
@@ -263,6 +263,6 @@ module _ (h : History) (n : ℕ) (def : ViewDef) (table : TableValue) (view : Vi
       let live : Option ℤ → List Span = λ m. map (bucket_span def.fold.width) (filter (λ b. not (is_below b m)) (buckets_in def.fold.width starts)) in
       ap (cond def.only 0)
       (told.reads_are (live view.mark)
-      ∙ (ap (λ m. rows_near told.hyper.interval (inserted def.table h) (live m)) stands.mark
-      ∙ sym (ap (λ o. rows_near_in o (inserted def.table h) (live (watermark n def h))) told.hyper_is)))
+      ∙ (ap (λ m. rows_near told.hyper.interval (rows_inserted def.table h) (live m)) stands.mark
+      ∙ sym (ap (λ o. rows_near_in o (rows_inserted def.table h) (live (watermark n def h))) told.hyper_is)))
       ∙ sym (ap (reads_of_view n h starts) there)

@@ -30,7 +30,7 @@ use Rattle.ts_model.specs.Rows.{in_order, rows, rows_at}
 use Rattle.ts_model.specs.Groups.{groups_of}
 use Rattle.ts_model.specs.Jobs.{Fits, is_part_of, rows_of_spans}
 use Rattle.ts_model.specs.Refreshes.{invalid, is_invalid, last, last_touch, last_touch_at, span_of_cut, touches, was_refreshed}
-use Rattle.ts_model.specs.Reads.{dirty_ranges, inserted, job_reads, job_reads_of, reads_of_snapshot, rows_near, rows_near_in}
+use Rattle.ts_model.specs.Reads.{dirty_ranges, rows_inserted, job_reads, job_reads_of, reads_of_snapshot, rows_near, rows_near_in}
 use Rattle.ts_model.specs.Allowed.{all_consistent, consistent}
 use Rattle.ts_model.specs.Answers.{ranges}
 use Rattle.ts_model.specs.Limits.{is_word}
@@ -234,11 +234,11 @@ module _ (h : History) (n : ℕ) (def : ViewDef) (table : TableValue) (view : Vi
       (ranges_are_maximal def.fold.width span (invalid n def h) wide)
 
 -- the rows looked at, range by range
-pub near_is : (h : History) (t position : ℕ) (table : TableValue) (spans : List Span) → IsTableOf h t position table → near_each table.rows.interval (stored_rows table) spans ≡ sum_by (λ range. rows_near_in (hyper_of (roster h) t) (inserted t h) (range ∷ [])) spans
+pub near_is : (h : History) (t position : ℕ) (table : TableValue) (spans : List Span) → IsTableOf h t position table → near_each table.rows.interval (stored_rows table) spans ≡ sum_by (λ range. rows_near_in (hyper_of (roster h) t) (rows_inserted t h) (range ∷ [])) spans
 near_is h t position table [] is = refl
 near_is h t position table (s ∷ ss) is =
-    let near : Span → ℕ = λ range. rows_near_in (hyper_of (roster h) t) (inserted t h) (range ∷ []) in
-    let here : rows_near table.rows.interval (stored_rows table) (s ∷ []) ≡ near s = is.reads_are (s ∷ []) ∙ sym (ap (λ o. rows_near_in o (inserted t h) (s ∷ [])) is.hyper_is) in
+    let near : Span → ℕ = λ range. rows_near_in (hyper_of (roster h) t) (rows_inserted t h) (range ∷ []) in
+    let here : rows_near table.rows.interval (stored_rows table) (s ∷ []) ≡ near s = is.reads_are (s ∷ []) ∙ sym (ap (λ o. rows_near_in o (rows_inserted t h) (s ∷ [])) is.hyper_is) in
     ap (λ m. m + near_each table.rows.interval (stored_rows table) ss) here ∙ (ap (λ m. near s + m) (near_is h t position table ss is) ∙ sym (sum_by-cons near s ss))
 
 -- ---- a refresh that waits

@@ -10,7 +10,7 @@ use Rattle.ts_model.specs.Rows.{rows}
 use Rattle.ts_model.specs.Effect.{hull_of_ops}
 use Rattle.ts_model.specs.Allowed.{all_consistent}
 use Rattle.ts_model.proofs.HistoryLaws.{prefix_end}
-use Rattle.coverage.specs.Notes.{logged}
+use Rattle.coverage.specs.Notes.{log_after}
 use Rattle.row_versions.specs.Histories.{Holds}
 use Rattle.row_versions.specs.Laws.{is_commit}
 use Rattle.row_versions.proofs.HistoryLaws.{commits_are_held, others_are_held}
@@ -44,8 +44,8 @@ table_begins h t hyper table ok none interval versions entries = record {
 pub rows_are : (h : History) (t : ℕ) (table : TableValue) → Holds t h table.rows → rows_before (suc (position h)) table ≡ rows t h
 rows_are h t table s = s.seen (suc (position h)) ∙ ap (rows t) (prefix_end h (suc (position h)) (omega arith))
 
-pub entries_are : (h : History) (t : ℕ) (ops : List Op) (old new : TableValue) → Holds t h old.rows → TableGoes ops (suc (position h)) t old new → noted_in new.log.entries ≡ logged (hull_of_ops t ops (rows t h)) (suc (position h)) old.log.threshold (noted_in old.log.entries)
-entries_are h t ops old new s goes = goes.entries ∙ ap (λ xs. logged (hull_of_ops t ops xs) (suc (position h)) old.log.threshold (noted_in old.log.entries)) (rows_are h t old s)
+pub entries_are : (h : History) (t : ℕ) (ops : List Op) (old new : TableValue) → Holds t h old.rows → TableGoes ops (suc (position h)) t old new → noted_in new.log.entries ≡ log_after (hull_of_ops t ops (rows t h)) (suc (position h)) old.log.threshold (noted_in old.log.entries)
+entries_are h t ops old new s goes = goes.entries ∙ ap (λ xs. log_after (hull_of_ops t ops xs) (suc (position h)) old.log.threshold (noted_in old.log.entries)) (rows_are h t old s)
 
 pub table_commits : (h : History) (t : ℕ) (hyper : HyperInfo) (ops : List Op) (old new : TableValue) → all_consistent (h ▸ Commit ops) ≡ true → TableGoes ops (suc (position h)) t old new → TableStands h t hyper old → TableStands (h ▸ Commit ops) t hyper new
 table_commits h t hyper ops old new ok goes s = record {

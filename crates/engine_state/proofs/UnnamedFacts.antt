@@ -10,7 +10,7 @@ use Rattle.ts_model.specs.declared.events.Op.TheVariants.{Insert, Delete}
 use Rattle.ts_model.specs.Rows.{after_op, in_order, with_rows}
 use Rattle.ts_model.specs.Effect.{all_taken, appended_by, hull_of, taken_by}
 use Rattle.seg_rows.specs.Versions.{rows_of}
-use Rattle.coverage.specs.Notes.{logged}
+use Rattle.coverage.specs.Notes.{log_after}
 use Rattle.row_versions.specs.Tables.{is_on, visible_rows}
 use Rattle.engine_state.specs.Notes.{noted_in}
 use Rattle.engine_state.specs.Steps.{TableAsks, TableGoes, rows_before}
@@ -47,5 +47,5 @@ goes_unnamed ops pos t old new none asks same = subst (TableGoes ops pos t old) 
     up_to = asks.up_to;
   };
   threshold = refl;
-  entries = sym (ap (λ hull. logged hull pos old.log.threshold (noted_in old.log.entries)) (λ i. hull_of (unnamed_appended t ops none i ++ takes_none t ops (rows_before pos old) none i)));
+  entries = sym (ap (λ hull. log_after hull pos old.log.threshold (noted_in old.log.entries)) (λ i. hull_of (unnamed_appended t ops none i ++ takes_none t ops (rows_before pos old) none i)));
 })

@@ -29,7 +29,7 @@ use Rattle.ts_model.specs.Sound.{span_fits}
 use Rattle.ts_model.proofs.ModeLaws.{mode_plays_no_part}
 use Rattle.ts_model.proofs.FinishLaws.{finishes_mark}
 use Rattle.ts_model.proofs.SoundLaws.{view_width}
-use Rattle.coverage.specs.Notes.{begun, noted, logged, cut_to, settled}
+use Rattle.coverage.specs.Notes.{notes_of_new, notes_after_hull, log_after, cut_to, notes_after_refresh}
 use Rattle.coverage.specs.Coverage.{RisesFrom, is_upto}
 use Rattle.coverage.specs.Laws.{is_quiet, EndsWhole}
 use Rattle.coverage.proofs.StepLaws.{commits_keep, cuts_keep, finishes_keep, quiet_keeps, beginnings_cover, same_cover, modes_keep}
@@ -97,7 +97,7 @@ pub view_begins : (n : ℕ) (def : ViewDef) (h : History) (made : ViewDef) (log 
 view_begins n def h made log view ok none l table width pending refreshed groups mark no_mark = record {
   table = table;
   width = width;
-  covered = same_cover n def (h ▸ View made) (begun def.fold.width (suc (position h)) (notes_in log view.log)) (notes_in log view.log)
+  covered = same_cover n def (h ▸ View made) (notes_of_new def.fold.width (suc (position h)) (notes_in log view.log)) (notes_in log view.log)
       (record { threshold = refl; log = refl; pending = λ b bucket. pending b; refreshed = λ b bucket. refreshed b })
       (beginnings_cover n def h made (notes_in log view.log) ok none l.past);
   mark = mark ∙ sym no_mark;
@@ -106,7 +106,7 @@ view_begins n def h made log view ok none l table width pending refreshed groups
 
 -- ---- a commit
 
-times-logged : (o : Option Hull) (k : ℕ) (threshold : ℤ) (log : List Noted) → ((hull : Hull) → o ≡ Some hull → IsOfTimes hull) → AllByRecursion (λ entry. IsOfTimes entry.hull) log → AllByRecursion (λ entry. IsOfTimes entry.hull) (logged o k threshold log)
+times-logged : (o : Option Hull) (k : ℕ) (threshold : ℤ) (log : List Noted) → ((hull : Hull) → o ≡ Some hull → IsOfTimes hull) → AllByRecursion (λ entry. IsOfTimes entry.hull) log → AllByRecursion (λ entry. IsOfTimes entry.hull) (log_after o k threshold log)
 times-logged None k threshold log times all = all
 times-logged (Some hull) k threshold log times all =
     elim (int_lt hull.least threshold) as (λ t. AllByRecursion (λ entry. IsOfTimes entry.hull) (cond t (log ++ (record { hull = hull; at = k } ∷ [])) log)) [
@@ -122,18 +122,18 @@ hull_is_of_times : (t : ℕ) (h : History) (ops : List Op) (hull : Hull) → all
 hull_is_of_times t h ops hull ok is = let bounds = hulls_are_of_times t h ops hull ok is in record { from = bounds.0; order = bounds.1; upto = bounds.2 }
 
 -- the log of a table notes the hull of a commit
-pub log_commits : (t : ℕ) (h : History) (ops : List Op) (old new : TableLog) → all_consistent (h ▸ Commit ops) ≡ true → noted_in new.entries ≡ logged (hull_of_ops t ops (rows t h)) (suc (position h)) old.threshold (noted_in old.entries) → LogStands h old → LogStands (h ▸ Commit ops) new
+pub log_commits : (t : ℕ) (h : History) (ops : List Op) (old new : TableLog) → all_consistent (h ▸ Commit ops) ≡ true → noted_in new.entries ≡ log_after (hull_of_ops t ops (rows t h)) (suc (position h)) old.threshold (noted_in old.entries) → LogStands h old → LogStands (h ▸ Commit ops) new
 log_commits t h ops old new ok entries s = record {
   times = subst (AllByRecursion (λ entry. IsOfTimes entry.hull)) (sym entries) (times-logged (hull_of_ops t ops (rows t h)) (suc (position h)) old.threshold (noted_in old.entries) (λ hull is. hull_is_of_times t h ops hull ok is) s.times);
   rising = subst (RisesFrom None) (sym entries) (rises-logged (position h) None (noted_in old.entries) (hull_of_ops t ops (rows t h)) old.threshold refl s.past s.rising);
   past = ap (is_upto (suc (position h))) entries ∙ upto-logged (position h) (noted_in old.entries) (hull_of_ops t ops (rows t h)) old.threshold s.past;
 }
 
-pub view_commits : (n : ℕ) (def : ViewDef) (h : History) (ops : List Op) (old new : TableLog) (view : ViewValue) → all_consistent h ≡ true → new.threshold ≡ old.threshold → noted_in new.entries ≡ logged (hull_of_ops def.table ops (rows def.table h)) (suc (position h)) old.threshold (noted_in old.entries) → ViewStands h n def old view → ViewStands (h ▸ Commit ops) n def new view
+pub view_commits : (n : ℕ) (def : ViewDef) (h : History) (ops : List Op) (old new : TableLog) (view : ViewValue) → all_consistent h ≡ true → new.threshold ≡ old.threshold → noted_in new.entries ≡ log_after (hull_of_ops def.table ops (rows def.table h)) (suc (position h)) old.threshold (noted_in old.entries) → ViewStands h n def old view → ViewStands (h ▸ Commit ops) n def new view
 view_commits n def h ops old new view ok threshold entries s = record {
   table = s.table;
   width = s.width;
-  covered = same_cover n def (h ▸ Commit ops) (noted (hull_of_ops def.table ops (rows def.table h)) (suc (position h)) (notes_in old view.log)) (notes_in new view.log)
+  covered = same_cover n def (h ▸ Commit ops) (notes_after_hull (hull_of_ops def.table ops (rows def.table h)) (suc (position h)) (notes_in old view.log)) (notes_in new view.log)
       (record { threshold = threshold; log = entries; pending = λ b bucket. refl; refreshed = λ b bucket. refl })
       (commits_keep n def h ops (notes_in old view.log) s.covered);
   mark = s.mark;
@@ -175,7 +175,7 @@ pub view_finished : (n : ℕ) (def : ViewDef) (h : History) (cut snap : ℕ) (sp
 view_finished n def h cut snap span spans groups top log old new renewed put ok there f table width pending refreshed mark renews replaces s = record {
   table = table ∙ s.table;
   width = width ∙ s.width;
-  covered = same_cover n def (h ▸ Built cut snap) (settled (span_of_cut n h cut) snap (notes_in log old.log)) (notes_in log new.log)
+  covered = same_cover n def (h ▸ Built cut snap) (notes_after_refresh (span_of_cut n h cut) snap (notes_in log old.log)) (notes_in log new.log)
       (record {
         threshold = refl;
         log = refl;
@@ -192,7 +192,7 @@ pub view_unfinished : (n : ℕ) (def : ViewDef) (h : History) (cut snap : ℕ) (
 view_unfinished n def h cut snap log view ok other s = record {
   table = s.table;
   width = s.width;
-  covered = same_cover n def (h ▸ Built cut snap) (settled (span_of_cut n h cut) snap (notes_in log view.log)) (notes_in log view.log)
+  covered = same_cover n def (h ▸ Built cut snap) (notes_after_refresh (span_of_cut n h cut) snap (notes_in log view.log)) (notes_in log view.log)
       (record {
         threshold = refl;
         log = refl;

@@ -4,7 +4,7 @@ use Rattle.ts_model.specs.declared.events.Event.{Event}
 use Rattle.ts_model.specs.declared.events.Event.TheVariants.{Commit, Built}
 use Rattle.ts_model.specs.History.{History}
 use Rattle.ts_model.specs.Allowed.{consistent}
-use Rattle.ts_model.specs.Calls.{committed}
+use Rattle.ts_model.specs.Calls.{commit_result}
 use Rattle.refresh_build.specs.declared.jobs.Job.{Job}
 use Rattle.refresh_build.specs.Fitting.{JobIsFor}
 use Rattle.engine_state.specs.Stands.{StateValue, StandsFor}
@@ -12,7 +12,7 @@ use Rattle.engine_state.specs.Stands.{StateValue, StandsFor}
 -- how many rows an event appends and takes away, over all tables
 abbrev pub CountsAre : History → Event → ℕ → ℕ → Type 0
 CountsAre h (Commit ops) inserted removed =
-    (inserted ≡ (committed ops h).inserted) × (removed ≡ (committed ops h).removed)
+    (inserted ≡ (commit_result ops h).inserted) × (removed ≡ (commit_result ops h).removed)
 CountsAre h e inserted removed = (inserted ≡ 0) × (removed ≡ 0)
 
 -- an event may come next, with this job, after some history that the state stands for

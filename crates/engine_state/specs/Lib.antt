@@ -10,6 +10,6 @@ pub mod Afters
 pub mod Scans
 pub mod Nexts
 pub mod Shown
-pub mod Refolding
+pub mod GroupRebuilds
 pub mod Resumed
-pub mod Parted
+pub mod ChunkParts

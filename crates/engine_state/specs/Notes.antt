@@ -9,7 +9,7 @@ use Rattle.inval_log.specs.declared.entries.Entry.{Entry}
 use Rattle.inval_log.specs.Logs.{LogValue as TableLog}
 use Rattle.mat_log.specs.Logs.{LogValue as ViewLog, pending_at, last_at}
 use Rattle.ts_model.specs.History.{History, position}
-use Rattle.coverage.specs.Notes.{Notes, fed}
+use Rattle.coverage.specs.Notes.{Notes, pending_after}
 use Rattle.coverage.specs.Coverage.{RisesFrom, is_upto}
 
 -- an entry of a log, as it was noted
@@ -44,4 +44,4 @@ pub record LogStands (h : History) (log : TableLog) : Type 0 where
 pub record IsFedTo (w : Width) (noted : List Noted) (old new : ViewLog) : Type 0 where
   pub width : new.width ≡ old.width
   pub refreshed : (b : ℤ) → last_at new b ≡ last_at old b
-  pub pending : (b : ℤ) → is_bucket w b ≡ true → pending_at new b ≡ fed w b (last_at old b) noted (pending_at old b)
+  pub pending : (b : ℤ) → is_bucket w b ≡ true → pending_at new b ≡ pending_after w b (last_at old b) noted (pending_at old b)

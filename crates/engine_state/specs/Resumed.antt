@@ -13,11 +13,11 @@ use Rattle.ts_model.specs.History.{resumed}
 use Rattle.ts_model.specs.Refreshes.{threshold}
 use Rattle.ts_model.specs.Roster.{view_of}
 use Rattle.ts_model.specs.Rows.{in_order}
-use Rattle.ts_model.specs.Saved.{saved}
+use Rattle.ts_model.specs.Saved.{saved_view}
 use Rattle.ts_model.specs.Valid.{image_roster, valid}
 use Rattle.row_versions.specs.Histories.{Holds}
 use Rattle.row_versions.specs.Tables.{IsUpTo, rows_seen}
-use Rattle.engine_state.specs.Refolding.{IsRefolded}
+use Rattle.engine_state.specs.GroupRebuilds.{IsRefolded}
 use Rattle.engine_state.specs.Stands.{TableAt}
 use Rattle.engine_state.specs.Tables.{TableValue}
 
@@ -45,7 +45,7 @@ ResumedAt i t info table = TableAt (resumed i) t info table × HasLog (number_of
 pub record IsKeptOf (i : Image) (n : ℕ) (def : ViewDef) (kept : SavedView) (anew : List Group) : Type 0 where
   pub ok : valid i ≡ true
   pub there : view_of (image_roster i) n ≡ Some def
-  pub kept_is : saved n i ≡ kept
+  pub kept_is : saved_view n i ≡ kept
   pub anew_are : IsRefolded i def kept anew
 
 -- the same with the state of its table

@@ -19,7 +19,7 @@ use Rattle.ts_model.specs.Refreshes.{span_of_cut}
 use Rattle.refresh_build.specs.declared.jobs.Refresh.{Refresh}
 use Rattle.ts_model.specs.Roster.{roster, hyper_of, view_of}
 use Rattle.ts_model.specs.Answers.{buckets_in}
-use Rattle.ts_model.specs.Reads.{inserted, rows_near}
+use Rattle.ts_model.specs.Reads.{rows_inserted, rows_near}
 use Rattle.ts_model.specs.Rows.{in_order, rows}
 use Rattle.group_fold.specs.Spans.{HaveTimes}
 use Rattle.realtime_union.specs.Laws.{ChunksAreNear}
@@ -40,8 +40,8 @@ pub record IsTableOf (h : History) (t : ℕ) (position : ℕ) (table : TableValu
   pub near : ChunksAreNear table.rows.interval (stored_rows table)
   pub rows_are : in_order (seen_rows position table) ≡ rows t h
   pub reads_are : (spans : List Span)
-      → rows_near table.rows.interval (stored_rows table) spans ≡ rows_near hyper.interval (inserted t h) spans
-  pub count_is : length (stored_rows table) ≡ length (inserted t h)
+      → rows_near table.rows.interval (stored_rows table) spans ≡ rows_near hyper.interval (rows_inserted t h) spans
+  pub count_is : length (stored_rows table) ≡ length (rows_inserted t h)
 
 -- the definition and the state of aggregate number n of a history, and the state of its table
 pub record IsViewOf (h : History) (n : ℕ) (position : ℕ) (def : ViewDef) (view : ViewValue)

@@ -14,7 +14,7 @@ use Rattle.chunk_catalog.specs.Chunks.{HaveTimes}
 use Rattle.ts_model.specs.declared.events.Op.{Op}
 use Rattle.ts_model.specs.Rows.{in_order}
 use Rattle.ts_model.specs.Effect.{all_appended, all_taken, hull_of_ops}
-use Rattle.coverage.specs.Notes.{logged}
+use Rattle.coverage.specs.Notes.{log_after}
 use Rattle.refresh_build.specs.declared.jobs.Job.{Job}
 use Rattle.row_versions.specs.Tables.{Follows, IsUpTo, visible_rows}
 use Rattle.engine_state.specs.Notes.{noted_in, IsFedTo}
@@ -33,7 +33,7 @@ pub record TableGoes (ops : List Op) (pos t : ℕ) (old new : TableValue) : Type
   pub threshold : new.log.threshold ≡ old.log.threshold
   pub entries :
       noted_in new.log.entries
-      ≡ logged (hull_of_ops t ops (rows_before pos old)) pos old.log.threshold (noted_in old.log.entries)
+      ≡ log_after (hull_of_ops t ops (rows_before pos old)) pos old.log.threshold (noted_in old.log.entries)
 
 -- the same of a table that may be no hypertable
 abbrev pub GoesIf : List Op → ℕ → ℕ → Option TableValue → Option TableValue → Type 0

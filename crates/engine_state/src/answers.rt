@@ -16,13 +16,13 @@ ghost use Rattle.ts_model.specs.Scratch.{fold_rows};
 ghost use Rattle.group_fold.specs.Spans.{HaveTimes};
 ghost use Rattle.realtime_union.specs.Laws.{ChunksAreNear};
 ghost use Rattle.realtime_union.specs.Live.{union_rows};
-ghost use Rattle.realtime_union.specs.Whole.{passing};
+ghost use Rattle.realtime_union.specs.Whole.{passing_rows};
 ghost use Rattle.engine_state.specs.Scans.{seen_rows, stored_rows};
 ghost use Rattle.engine_state.specs.Shown.{IsShown, view_reads};
 ghost use Rattle.engine_state.specs.Stands.{Stands, StandsFor};
 
 use crate::parts::StateParts;
-use crate::scans::{TableAt, TimedRows};
+use crate::scans::{RowsInSpan, TableAt};
 use crate::states::State;
 use crate::views::ViewState;
 use block_list::Slice;
@@ -37,7 +37,7 @@ use ts_schema::{NoMemory, Seq, Steps, Test};
 
 /// The rows of a hypertable that pass every test, with all their columns, where the time column is at
 /// place `at`. Those whose times show that they don't pass are looked at, and not taken.
-fn passing<L>(
+fn filter_rows<L>(
     alloc: Global,
     rows: &TableAt<'_>,
     table: u32,
@@ -49,10 +49,10 @@ fn passing<L>(
     requires times { HaveTimes (seen_rows rows.now.position rows.now.table.now) }
     requires stored { HaveTimes (stored_rows rows.now.table.now) }
     ensures rows { IfOk result (λ shown. shown
-        ≡ passing at tests.now (seen_rows rows.now.position rows.now.table.now)) }
+        ≡ passing_rows at tests.now (seen_rows rows.now.position rows.now.table.now)) }
     ensures read { Ticks result (length (stored_rows rows.now.table.now)) steps.old steps.new }
 {
-    let timed = TimedRows {
+    let timed = RowsInSpan {
         rows: *rows,
         times: passing_span(tests.items()),
     };
@@ -60,7 +60,7 @@ fn passing<L>(
 }
 
 /// What a grouping over a hypertable shows.
-fn folded<R: Threads + Sync, L>(
+fn group_rows<R: Threads + Sync, L>(
     rt: &R,
     alloc: Global,
     rows: &TableAt<'_>,
@@ -79,7 +79,7 @@ fn folded<R: Threads + Sync, L>(
 }
 
 /// What an aggregate shows of the buckets asked for, by its materialised groups of them and its mark.
-fn united<R: Threads + Sync, L>(
+fn aggregate_rows<R: Threads + Sync, L>(
     rt: &R,
     alloc: Global,
     rows: &TableAt<'_>,
@@ -112,11 +112,11 @@ fn rows_answer<L>(
     requires times { HaveTimes (seen_rows rows.now.position rows.now.table.now) }
     requires stored { HaveTimes (stored_rows rows.now.table.now) }
     ensures rows { IfOk result (λ found. found.rows
-        ≡ passing at tests.now (seen_rows rows.now.position rows.now.table.now)) }
+        ≡ passing_rows at tests.now (seen_rows rows.now.position rows.now.table.now)) }
     ensures stale { IfOk result (λ found. found.stale ≡ []) }
     ensures read { Ticks result (length (stored_rows rows.now.table.now)) steps.old steps.new }
 {
-    let shown = passing(alloc, rows, table, at, tests, steps)?;
+    let shown = filter_rows(alloc, rows, table, at, tests, steps)?;
     Ok(Answer {
         rows: shown,
         stale: Seq::new(alloc),
@@ -140,7 +140,7 @@ fn buckets_answer<R: Threads + Sync, L>(
     ensures stale { IfOk result (λ found. found.stale ≡ []) }
     ensures read { Ticks result (length (stored_rows rows.now.table.now)) steps.old steps.new }
 {
-    let shown = folded(rt, alloc, rows, table, fold, steps)?;
+    let shown = group_rows(rt, alloc, rows, table, fold, steps)?;
     Ok(Answer {
         rows: shown,
         stale: Seq::new(alloc),
@@ -171,7 +171,7 @@ fn view_answer<R: Threads + Sync, L>(
     let kept = view.groups().slice(starts)?;
     let entries = rows.table.log().entries();
     let stale = view.log().stale_with(entries, starts, mark)?;
-    let shown = united(rt, alloc, rows, def, kept, mark, starts, steps)?;
+    let shown = aggregate_rows(rt, alloc, rows, def, kept, mark, starts, steps)?;
     Ok(Answer { rows: shown, stale })
 }
 

@@ -6,7 +6,7 @@ ghost use Rattle.row_versions.specs.Tables.{is_on};
 ghost use Rattle.engine_state.specs.Lists.{Each};
 ghost use Rattle.engine_state.specs.Steps.{AllFrom, AsksIf, GoesIf, TableAsks, TableGoes, appended_to, rows_before, sum_from, taken_from};
 
-use crate::moves::Moved;
+use crate::after_event::AfterEvent;
 use crate::tables::TableState;
 use std::alloc::Global;
 use ts_model::Op;
@@ -35,13 +35,13 @@ fn are_on(ops: &[Op], number: u32) -> bool
 }
 
 /// A hypertable after operations. One that none of them is on is shared.
-fn moved(
+fn table_after(
     alloc: Global,
     table: &TableState,
     ops: &Seq<Op>,
     number: u32,
     pos: u64,
-) -> Result<Moved<TableState>, NoMemory>
+) -> Result<AfterEvent<TableState>, NoMemory>
     requires { TableAsks ops.now pos number table.now }
     ensures goes { IfOk result (λ m. TableGoes ops.now pos number table.now m.made) }
     ensures inserted { IfOk result (λ m. m.inserted ≡ length (all_appended number ops.now)) }
@@ -50,7 +50,7 @@ fn moved(
     if are_on(ops.items(), number) {
         return table.after_ops(alloc, ops, number, pos);
     }
-    Ok(Moved {
+    Ok(AfterEvent {
         made: table.copy()?,
         inserted: 0,
         removed: 0,
@@ -64,21 +64,21 @@ fn after_ops_if(
     ops: &Seq<Op>,
     number: u32,
     pos: u64,
-) -> Result<Moved<Option<TableState>>, NoMemory>
+) -> Result<AfterEvent<Option<TableState>>, NoMemory>
     requires { AsksIf ops.now pos number table.now }
     ensures goes { IfOk result (λ m. GoesIf ops.now pos number table.now m.made) }
     ensures inserted { IfOk result (λ m. m.inserted ≡ appended_to ops.now number table.now) }
     ensures removed { IfOk result (λ m. m.removed ≡ taken_from ops.now pos number table.now) }
 {
     match table {
-        None => Ok(Moved {
+        None => Ok(AfterEvent {
             made: None,
             inserted: 0,
             removed: 0,
         }),
         Some(table) => {
-            let moved = moved(alloc, table, ops, number, pos)?;
-            Ok(Moved {
+            let moved = table_after(alloc, table, ops, number, pos)?;
+            Ok(AfterEvent {
                 made: Some(moved.made),
                 inserted: moved.inserted,
                 removed: moved.removed,
@@ -104,7 +104,7 @@ pub(crate) fn all_after(
     tables: &[Option<TableState>],
     ops: &Seq<Op>,
     pos: u64,
-) -> Result<Moved<Seq<Option<TableState>>>, NoMemory>
+) -> Result<AfterEvent<Seq<Option<TableState>>>, NoMemory>
     requires few { length tables.now ≤ 2 ^ 32 }
     requires asks { AllFrom (AsksIf ops.now pos) 0 tables.now }
     ensures goes { IfOk result (λ m. Each (GoesIf ops.now pos) tables.now m.made) }
@@ -120,7 +120,7 @@ pub(crate) fn all_after(
         removed = sum(removed, moved.removed)?;
         after.push(moved.made)?;
     }
-    Ok(Moved {
+    Ok(AfterEvent {
         made: after,
         inserted,
         removed,

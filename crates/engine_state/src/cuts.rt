@@ -11,15 +11,15 @@ use std::alloc::Global;
 use ts_schema::{NoMemory, Seq};
 
 /// An aggregate over a table after the entries of the table's log were fed to it.
-fn fed(alloc: Global, view: &ViewState, table: &TableState) -> Result<ViewState, NoMemory>
+fn feed_view(alloc: Global, view: &ViewState, table: &TableState) -> Result<ViewState, NoMemory>
     requires { AreWithin table.now.log.entries view.now.log }
     ensures fed { IfOk result (λ new. ViewFed table.now view.now new) }
 {
-    view.fed(alloc, table.log().entries())
+    view.with_entries(alloc, table.log().entries())
 }
 
 /// An aggregate after a cut of the table with this number.
-fn fed_if(
+fn feed_if(
     alloc: Global,
     view: &ViewState,
     number: u32,
@@ -29,14 +29,14 @@ fn fed_if(
     ensures fed { IfOk result (λ new. FedIf (view.now.table == number) table.now view.now new) }
 {
     if view.table() == number {
-        fed(alloc, view, table)
+        feed_view(alloc, view, table)
     } else {
         view.copy()
     }
 }
 
 /// All aggregates after a cut of the table with this number.
-pub(crate) fn all_fed(
+pub(crate) fn feed_all(
     alloc: Global,
     views: &[ViewState],
     number: u32,
@@ -47,7 +47,7 @@ pub(crate) fn all_fed(
 {
     let mut after = Seq::new(alloc);
     for view in views {
-        after.push(fed_if(alloc, view, number, table)?)?;
+        after.push(feed_if(alloc, view, number, table)?)?;
     }
     Ok(after)
 }

@@ -14,7 +14,7 @@ use ts_num::greater;
 use ts_schema::{NoMemory, Seq};
 
 /// Materialised groups with new ones in place of those of some ranges of buckets.
-fn replaced(old: &MatRows, ranges: &Seq<Span>, groups: &MatRows) -> Result<MatRows, NoMemory>
+fn replace_ranges(old: &MatRows, ranges: &Seq<Span>, groups: &MatRows) -> Result<MatRows, NoMemory>
     requires sizes { AreSpans ranges.now }
     requires rising { SpansRise ranges.now }
     ensures { IfOk result (λ new. AreReplaced ranges.now groups.now old.now new) }
@@ -25,7 +25,7 @@ fn replaced(old: &MatRows, ranges: &Seq<Span>, groups: &MatRows) -> Result<MatRo
 }
 
 /// An aggregate after a finish with a job, whose groups renew these ranges of buckets.
-pub(crate) fn finished(
+pub(crate) fn finish_view(
     alloc: Global,
     view: &ViewState,
     job: &Job,
@@ -36,8 +36,8 @@ pub(crate) fn finished(
     requires rising { SpansRise renewed.now }
     ensures finished { IfOk result (JobFinished job.now renewed.now view.now) }
 {
-    let log = view.log().settled(job.span, job.snap)?;
-    let groups = replaced(view.groups(), renewed, &job.groups)?;
+    let log = view.log().with_refresh(job.span, job.snap)?;
+    let groups = replace_ranges(view.groups(), renewed, &job.groups)?;
     let mark = greater(view.mark(), job.top);
     ViewState::of(alloc, view.table(), log, groups, mark)
 }

@@ -33,7 +33,7 @@ pub(crate) fn all_times() -> Span
 }
 
 /// These rows in row order.
-pub(crate) fn sorted(rows: Seq<Row>) -> Result<Seq<Row>, NoMemory>
+pub(crate) fn sort_rows(rows: Seq<Row>) -> Result<Seq<Row>, NoMemory>
     ensures { IfOk result (λ sorted. sorted ≡ in_order rows) }
 {
     let mut items = rows.into_items();
@@ -102,7 +102,7 @@ impl StateParts {
     {
         match self.table_if(table) {
             None => Ok(Seq::new(alloc)),
-            Some(state) => sorted(
+            Some(state) => sort_rows(
                 state
                     .rows()
                     .scan(self.position, all_times(), &mut Steps::new(()))?,
@@ -168,7 +168,7 @@ impl StateParts {
 }
 
 impl Imaged for State {
-    ghost use Rattle.engine_state.specs.Parted.{state_rows};
+    ghost use Rattle.engine_state.specs.ChunkParts.{state_rows};
     ghost use Rattle.engine_state.specs.Stands.{StandsFor};
 
     ghost stands = { λ s h. StandsFor h s };

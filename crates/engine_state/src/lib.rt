@@ -1,20 +1,20 @@
 //! The state of an engine: what it keeps of a history, in one value that snapshots share.
 #![tactic(auto)]
 
+mod after_event;
 mod answers;
+mod chunk_parts;
 mod commits;
 mod cuts;
 mod finishes;
+mod group_rebuilds;
+mod image_state;
+mod image_tables;
+mod image_views;
 mod images;
 mod jobs;
-mod moves;
-mod parted;
 mod parts;
 mod queues;
-mod refolds;
-mod resumed;
-mod resumed_tables;
-mod resumed_views;
 mod scans;
 mod states;
 mod steps;
@@ -22,8 +22,8 @@ mod tables;
 mod views;
 mod windows;
 
-pub use moves::Moved;
-pub use resumed::made_roster;
+pub use after_event::AfterEvent;
+pub use image_state::roster_from_image;
 pub use states::State;
 pub use tables::TableState;
 pub use views::ViewState;

@@ -46,7 +46,7 @@ impl RowsAt for TableAt<'_> {
 /// The rows of a hypertable at a position whose times lie in a span. A scan looks at other rows, too, but
 /// takes none of them.
 #[derive(Clone, Copy)]
-pub(crate) struct TimedRows<'a> {
+pub(crate) struct RowsInSpan<'a> {
     /// The hypertable.
     pub rows: TableAt<'a>,
     /// The span.
@@ -64,7 +64,7 @@ fn both(a: Span, b: Span) -> Span
     }
 }
 
-impl RowsAt for TimedRows<'_> {
+impl RowsAt for RowsInSpan<'_> {
     ghost use Rattle.engine_state.specs.Scans.{stored_rows, timed_rows};
 
     ghost visible = { λ s t. timed_rows s.times s.rows.position s.rows.table.now };
@@ -86,7 +86,7 @@ impl RowsAt for TimedRows<'_> {
 
 /// An aggregate: its definition, its state, and its table at the position of the state.
 #[derive(Clone, Copy)]
-pub(crate) struct ViewSeen<'a> {
+pub(crate) struct ViewAt<'a> {
     /// Its definition.
     pub def: &'a ViewDef,
     /// Its state.
@@ -124,14 +124,14 @@ impl StateParts {
     }
 
     /// The aggregate with this number.
-    pub(crate) fn view_seen(&self, number: u32) -> ViewSeen<'_>
+    pub(crate) fn view_seen(&self, number: u32) -> ViewAt<'_>
         requires stands { Stands self.now }
         requires there { IsSome (view_of self.now.roster number) }
         ensures view { (h : History) → StandsFor h self.now
             → IsViewOf h number result.rows.position result.def.now result.state.now result.rows.table.now }
     {
         let def = self.roster.views.get(number as usize);
-        ViewSeen {
+        ViewAt {
             def,
             state: self.views.get(number as usize),
             rows: self.table_seen(def.table),

@@ -9,7 +9,7 @@ ghost use Rattle.engine_state.specs.Afters.{IsNext};
 ghost use Rattle.engine_state.specs.Nexts.{Counts, GoesTo, WindowIs};
 ghost use Rattle.engine_state.specs.Stands.{StandsFor};
 
-use crate::moves::Moved;
+use crate::after_event::AfterEvent;
 use crate::parts::StateParts;
 use refresh_build::Job;
 use std::alloc::Global;
@@ -88,13 +88,13 @@ impl State {
     /// The state after an event that is consistent with the history. One that finishes a refresh comes
     /// with a job of it. The state itself stays as it was, and the two share what the event leaves alone. Rows
     /// are counted over all tables.
-    pub fn after(&self, event: &Event, job: Option<Job>) -> Result<Moved<State>, NoMemory>
+    pub fn after(&self, event: &Event, job: Option<Job>) -> Result<AfterEvent<State>, NoMemory>
         requires next { IsNext self.now event.now job }
         ensures stands { IfOk result (λ after. GoesTo self.now event.now job after.made) }
         ensures counts { IfOk result (λ after. Counts self.now event.now after.inserted after.removed) }
     {
         let step = self.parts.after(self.alloc, event, &job)?;
-        Ok(Moved {
+        Ok(AfterEvent {
             made: State {
                 alloc: self.alloc,
                 parts: step.made,

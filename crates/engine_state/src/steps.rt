@@ -4,10 +4,10 @@ ghost use Rattle.ts_model.specs.declared.events.Event.TheVariants.{Built, Commit
 ghost use Rattle.engine_state.specs.Afters.{IsNext};
 ghost use Rattle.engine_state.specs.Nexts.{Counts, FinishesTo, GoesTo, ModesTo, StepsTo, TablesTo};
 
+use crate::after_event::AfterEvent;
 use crate::commits::all_after;
-use crate::cuts::all_fed;
-use crate::finishes::finished;
-use crate::moves::Moved;
+use crate::cuts::feed_all;
+use crate::finishes::finish_view;
 use crate::parts::StateParts;
 use crate::tables::TableState;
 use crate::views::ViewState;
@@ -68,7 +68,7 @@ impl StateParts {
         &self,
         alloc: Global,
         ops: &Seq<Op>,
-    ) -> Result<Moved<StateParts>, NoMemory>
+    ) -> Result<AfterEvent<StateParts>, NoMemory>
         requires next { IsNext self.now (Commit ops.now) None }
         ensures stands { IfOk result (λ m. StepsTo self.now (Commit ops.now) m.made) }
         ensures counts { IfOk result (λ m. Counts self.now (Commit ops.now) m.inserted m.removed) }
@@ -82,7 +82,7 @@ impl StateParts {
             views: self.views.copy()?,
             refreshes: self.refreshes.copy()?,
         };
-        Ok(Moved {
+        Ok(AfterEvent {
             made: parts,
             inserted: moves.inserted,
             removed: moves.removed,
@@ -97,9 +97,9 @@ impl StateParts {
         let number = self.views.get(view as usize).table();
         let table = self.table(number);
         let position = self.next_position()?;
-        let views = all_fed(alloc, self.views.items(), number, table)?;
+        let views = feed_all(alloc, self.views.items(), number, table)?;
         let mut tables = self.tables.copy()?;
-        tables.set(number as usize, Some(table.emptied(alloc, span.hi)?));
+        tables.set(number as usize, Some(table.after_cut(alloc, span.hi)?));
         Ok(StateParts {
             position,
             roster: self.same_roster()?,
@@ -115,8 +115,8 @@ impl StateParts {
         ensures stands { IfOk result (FinishesTo self.now job.now) }
     {
         let view = self.views.get(job.view as usize);
-        let renewed = view.log().renewed(job.span, job.spans.items(), job.snap)?;
-        let done = finished(alloc, view, job, &renewed)?;
+        let renewed = view.log().to_renew(job.span, job.spans.items(), job.snap)?;
+        let done = finish_view(alloc, view, job, &renewed)?;
         let mut views = self.views.copy()?;
         views.set(job.view as usize, done);
         let position = self.next_position()?;
@@ -125,7 +125,7 @@ impl StateParts {
             roster: self.same_roster()?,
             tables: self.tables.copy()?,
             views,
-            refreshes: self.refreshes.finished(job.cut, position)?,
+            refreshes: self.refreshes.with_finish(job.cut, position)?,
         })
     }
 
@@ -136,22 +136,22 @@ impl StateParts {
         alloc: Global,
         event: &Event,
         job: &Option<Job>,
-    ) -> Result<Moved<StateParts>, NoMemory>
+    ) -> Result<AfterEvent<StateParts>, NoMemory>
         requires next { IsNext self.now event.now job.now }
         ensures stands { IfOk result (λ m. GoesTo self.now event.now job.now m.made) }
         ensures counts { IfOk result (λ m. Counts self.now event.now m.inserted m.removed) }
     {
         match event {
-            Event::Table(_) => Ok(Moved::still(self.with_table(alloc, event)?)),
+            Event::Table(_) => Ok(AfterEvent::still(self.with_table(alloc, event)?)),
             Event::Hyper { table, hyper } => {
-                Ok(Moved::still(self.with_hyper(alloc, event, *table, *hyper)?))
+                Ok(AfterEvent::still(self.with_hyper(alloc, event, *table, *hyper)?))
             }
-            Event::View(def) => Ok(Moved::still(self.with_view(alloc, event, def)?)),
-            Event::Mode { .. } => Ok(Moved::still(self.with_mode(alloc, event)?)),
+            Event::View(def) => Ok(AfterEvent::still(self.with_view(alloc, event, def)?)),
+            Event::Mode { .. } => Ok(AfterEvent::still(self.with_mode(alloc, event)?)),
             Event::Commit(ops) => self.with_ops(alloc, ops),
-            Event::Cut { view, span } => Ok(Moved::still(self.with_cut(alloc, *view, *span)?)),
+            Event::Cut { view, span } => Ok(AfterEvent::still(self.with_cut(alloc, *view, *span)?)),
             Event::Built { .. } => match job {
-                Some(job) => Ok(Moved::still(self.with_job(alloc, job)?)),
+                Some(job) => Ok(AfterEvent::still(self.with_job(alloc, job)?)),
                 None => unreachable!(),
             },
         }

@@ -3,11 +3,11 @@ ghost use Rattle.std.specs.Prelude.{◌≡◌, [], length, IfOk};
 ghost use Rattle.std.specs.Int.{int_max};
 ghost use Rattle.ts_bucket.specs.Chunks.{IsInterval};
 ghost use Rattle.ts_model.specs.Effect.{all_appended, all_taken};
-ghost use Rattle.coverage.specs.Notes.{logged};
+ghost use Rattle.coverage.specs.Notes.{log_after};
 ghost use Rattle.engine_state.specs.Notes.{noted_in};
 ghost use Rattle.engine_state.specs.Steps.{TableAsks, TableCut, TableGoes, rows_before};
 
-use crate::moves::Moved;
+use crate::after_event::AfterEvent;
 use inval_log::InvalLog;
 use row_versions::{Applied, Table};
 use std::alloc::{AllocError, Global};
@@ -39,10 +39,10 @@ impl Model for TableState {
 }
 
 /// The log after the hull of a commit was noted, where it has one.
-fn noted(log: &InvalLog, hull: Option<Hull>, pos: u64) -> Result<InvalLog, NoMemory>
+fn log_with_hull(log: &InvalLog, hull: Option<Hull>, pos: u64) -> Result<InvalLog, NoMemory>
     ensures threshold { IfOk result (λ new. new.threshold ≡ log.now.threshold) }
     ensures entries { IfOk result (λ new. noted_in new.entries
-        ≡ logged hull pos log.now.threshold (noted_in log.now.entries)) }
+        ≡ log_after hull pos log.now.threshold (noted_in log.now.entries)) }
 {
     match hull {
         None => log.copy(),
@@ -54,16 +54,16 @@ fn noted(log: &InvalLog, hull: Option<Hull>, pos: u64) -> Result<InvalLog, NoMem
 fn with_entry(log: &InvalLog, hull: Hull, pos: u64) -> Result<InvalLog, NoMemory>
     ensures threshold { IfOk result (λ new. new.threshold ≡ log.now.threshold) }
     ensures entries { IfOk result (λ new. noted_in new.entries
-        ≡ logged (Some hull) pos log.now.threshold (noted_in log.now.entries)) }
+        ≡ log_after (Some hull) pos log.now.threshold (noted_in log.now.entries)) }
 {
     let mut new = log.copy()?;
     new.reserve()?;
     new.note(hull, pos);
-    new.shared()
+    new.share()
 }
 
 /// The empty log whose threshold is that of a log, or `hi` where that is higher.
-fn emptied_log(alloc: Global, log: &InvalLog, hi: i64) -> InvalLog
+fn log_after_cut(alloc: Global, log: &InvalLog, hi: i64) -> InvalLog
     ensures threshold { result.threshold ≡ int_max log.now.threshold hi }
     ensures entries { result.entries ≡ [] }
 {
@@ -127,10 +127,10 @@ impl TableState {
     }
 
     /// The state after a cut of a span that ends at `hi`: its log is emptied, and its threshold raised.
-    pub(crate) fn emptied(&self, alloc: Global, hi: i64) -> Result<TableState, NoMemory>
+    pub(crate) fn after_cut(&self, alloc: Global, hi: i64) -> Result<TableState, NoMemory>
         ensures cut { IfOk result (λ new. TableCut hi self.now new) }
     {
-        let log = emptied_log(alloc, self.log(), hi);
+        let log = log_after_cut(alloc, self.log(), hi);
         TableState::of(alloc, self.rows().copy()?, log)
     }
 
@@ -142,7 +142,7 @@ impl TableState {
         ops: &Seq<Op>,
         table: u32,
         pos: u64,
-    ) -> Result<Moved<TableState>, NoMemory>
+    ) -> Result<AfterEvent<TableState>, NoMemory>
         requires { TableAsks ops.now pos table self.now }
         ensures goes { IfOk result (λ m. TableGoes ops.now pos table self.now m.made) }
         ensures inserted { IfOk result (λ m. m.inserted ≡ length (all_appended table ops.now)) }
@@ -153,8 +153,8 @@ impl TableState {
             table: rows,
             effect,
         } = self.rows().apply(ops, table, pos)?;
-        let log = noted(self.log(), effect.hull, pos)?;
-        Ok(Moved {
+        let log = log_with_hull(self.log(), effect.hull, pos)?;
+        Ok(AfterEvent {
             made: TableState::of(alloc, rows, log)?,
             inserted: effect.inserted,
             removed: effect.removed,

@@ -135,7 +135,7 @@ impl ViewState {
     }
 
     /// The state after the entries were fed to it.
-    pub(crate) fn fed(
+    pub(crate) fn with_entries(
         &self,
         alloc: Global,
         entries: &BlockList<Entry>,

@@ -14,24 +14,24 @@ use Rattle.ts_model.specs.Limits.{most_relations, last_position}
 use Rattle.ts_model.specs.Sound.{sound}
 use Rattle.ts_model.specs.Timely.{has_room, timely}
 use Rattle.ts_model.specs.Allowed.{allowed}
-use Rattle.ts_model.specs.Calls.{making, makes, committed, numbered, new_relation, refuses, refusal, finish_of}
+use Rattle.ts_model.specs.Calls.{act_of_event, makes, commit_result, act_with_number, new_relation, refuses, refusal, finish_of}
 use Rattle.ts_model.specs.Numbers.{no_number, name_taken, history_full}
-use Rattle.event_check.specs.Checks.{refusal_in, call_refusal, event_refusal, IsAt, PendingIs, refused, room_refusal, relation_refusal, hyper_refusal, finish_refusal, refusal_by, sound_by}
+use Rattle.event_check.specs.Checks.{refusal_in, call_refusal, event_refusal, IsAt, PendingIs, refusal_of_code, room_refusal, relation_refusal, hyper_refusal, finish_refusal, refusal_by, sound_by}
 
 -- ---- refusals of calls
 
-room_is : {A : Type 0} (h : History) (e : Event) (x : A) → room_refusal (position h) ≡ refusal_in (making h e x)
-room_is h e x = elim (has_room h) as (λ t. cond t None (Some (refused history_full (position h) 0)) ≡ refusal_in (cond t (makes e x) (refuses (refusal history_full h 0)))) [ true ↦ refl | false ↦ refl ]
+room_is : {A : Type 0} (h : History) (e : Event) (x : A) → room_refusal (position h) ≡ refusal_in (act_of_event h e x)
+room_is h e x = elim (has_room h) as (λ t. cond t None (Some (refusal_of_code history_full (position h) 0)) ≡ refusal_in (cond t (makes e x) (refuses (refusal history_full h 0)))) [ true ↦ refl | false ↦ refl ]
 
 relation_is : (h : History) (taken : Bool) (many : ℕ) (e : Event) → relation_refusal taken many (position h) ≡ refusal_in (new_relation h taken many e)
 relation_is h true many e = refl
 relation_is h false many e =
-    elim (nat_lt many most_relations) as (λ t. cond t (room_refusal (position h)) (Some (refused 21 (position h) (suc most_relations))) ≡ refusal_in (cond t (numbered h e) (refuses (refusal 21 h (suc most_relations))))) [
+    elim (nat_lt many most_relations) as (λ t. cond t (room_refusal (position h)) (Some (refusal_of_code 21 (position h) (suc most_relations))) ≡ refusal_in (cond t (act_with_number h e) (refuses (refusal 21 h (suc most_relations))))) [
       | true ↦ room_is h e (suc (position h))
       | false ↦ refl
     ]
 
-hyper_is : (h : History) (made : Bool) (e : Event) → hyper_refusal made (position h) ≡ refusal_in (cond made (refuses (refusal name_taken h 0)) (numbered h e))
+hyper_is : (h : History) (made : Bool) (e : Event) → hyper_refusal made (position h) ≡ refusal_in (cond made (refuses (refusal name_taken h 0)) (act_with_number h e))
 hyper_is h true e = refl
 hyper_is h false e = room_is h e (suc (position h))
 
@@ -45,7 +45,7 @@ refusal_at h (Table def) p is = relation_is h (is_taken (roster h) def.name) (le
 refusal_at h (Hyper t hyper) p is = hyper_is h (is_some (hyper_of (roster h) t)) (Hyper t hyper)
 refusal_at h (View def) p is = relation_is h (is_taken (roster h) def.name) (length (roster h).views) (View def)
 refusal_at h (Mode v only) p is = room_is h (Mode v only) (suc (position h))
-refusal_at h (Commit ops) p is = room_is h (Commit ops) (committed ops h)
+refusal_at h (Commit ops) p is = room_is h (Commit ops) (commit_result ops h)
 refusal_at h (Cut v span) p is = room_is h (Cut v span) (suc (position h))
 refusal_at h (Built cut snap) p is = ap (λ q. finish_refusal q (position h)) is ∙ finish_is h cut snap (pending h cut)
 
@@ -56,12 +56,12 @@ refused_as_call h e r p at base found is told = told ∙ (λ i. refusal_by (is.r
 -- ---- an event is timely exactly where no call refuses it
 
 room_timely : (at : ℕ) → is_none (room_refusal at) ≡ nat_lt at last_position
-room_timely at = elim (nat_lt at last_position) as (λ t. is_none (cond t None (Some (refused history_full at 0))) ≡ t) [ true ↦ refl | false ↦ refl ]
+room_timely at = elim (nat_lt at last_position) as (λ t. is_none (cond t None (Some (refusal_of_code history_full at 0))) ≡ t) [ true ↦ refl | false ↦ refl ]
 
 relation_timely : (taken : Bool) (many at : ℕ) → is_none (relation_refusal taken many at) ≡ ((not taken && nat_lt many most_relations) && nat_lt at last_position)
 relation_timely true many at = refl
 relation_timely false many at =
-    elim (nat_lt many most_relations) as (λ t. is_none (cond t (room_refusal at) (Some (refused 21 at (suc most_relations)))) ≡ (t && nat_lt at last_position)) [
+    elim (nat_lt many most_relations) as (λ t. is_none (cond t (room_refusal at) (Some (refusal_of_code 21 at (suc most_relations)))) ≡ (t && nat_lt at last_position)) [
       | true ↦ room_timely at
       | false ↦ refl
     ]
@@ -108,9 +108,9 @@ joined (Some r) false now none is = refl
 joined None true now none is = ap (λ t. cond t None (Some none)) is
 joined None false now none is = refl
 
-check_at : (h : History) (e : Event) (p : Pending) → PendingIs h e p → check_of (refusal_by (roster h) p (position h) e) (sound_by (roster h) p (position h) (base_position h) e) (refused no_number (position h) 0) ≡ event_refusal h e
+check_at : (h : History) (e : Event) (p : Pending) → PendingIs h e p → check_of (refusal_by (roster h) p (position h) e) (sound_by (roster h) p (position h) (base_position h) e) (refusal_of_code no_number (position h) 0) ≡ event_refusal h e
 check_at h e p is =
-    joined (refusal_by (roster h) p (position h) e) (sound_by (roster h) p (position h) (base_position h) e) (timely h e) (refused no_number (position h) 0) (timely_at h e p is)
+    joined (refusal_by (roster h) p (position h) e) (sound_by (roster h) p (position h) (base_position h) e) (timely h e) (refusal_of_code no_number (position h) 0) (timely_at h e p is)
     ∙ ap (λ t. cond (t && timely h e) None (Some (unwrap_or (refusal_by (roster h) p (position h) e) (refusal no_number h 0)))) (sound_is h e p is)
     ∙ ap (λ o. cond (allowed h e) None (Some (unwrap_or o (refusal no_number h 0)))) (refusal_at h e p is)
 
@@ -120,15 +120,15 @@ check_at h e p is =
 pub refused_late : (h : History) (e : Event) (r : Roster) (p : Pending) (at base : ℕ) (found : Refusal) → IsAt h e r p at base → Some found ≡ refusal_by r p at e → Some found ≡ event_refusal h e
 refused_late h e r p at base found is told =
     let late : refusal_by (roster h) p (position h) e ≡ Some found = (λ i. refusal_by (sym is.roster_is i) p (sym is.position_is i) e) ∙ sym told in
-    ap (λ o. check_of o (sound_by (roster h) p (position h) (base_position h) e) (refused no_number (position h) 0)) (sym late) ∙ check_at h e p is.pending_is
+    ap (λ o. check_of o (sound_by (roster h) p (position h) (base_position h) e) (refusal_of_code no_number (position h) 0)) (sym late) ∙ check_at h e p is.pending_is
 
 -- no call refuses it, and it is sound or it isn't
-pub refused_else : (h : History) (e : Event) (r : Roster) (p : Pending) (at base : ℕ) (ok : Bool) → IsAt h e r p at base → None ≡ refusal_by r p at e → ok ≡ sound_by r p at base e → cond ok None (Some (refused no_number at 0)) ≡ event_refusal h e
+pub refused_else : (h : History) (e : Event) (r : Roster) (p : Pending) (at base : ℕ) (ok : Bool) → IsAt h e r p at base → None ≡ refusal_by r p at e → ok ≡ sound_by r p at base e → cond ok None (Some (refusal_of_code no_number at 0)) ≡ event_refusal h e
 refused_else h e r p at base ok is told fit =
     let late : refusal_by (roster h) p (position h) e ≡ None = (λ i. refusal_by (sym is.roster_is i) p (sym is.position_is i) e) ∙ sym told in
     let fits : ok ≡ sound_by (roster h) p (position h) (base_position h) e = fit ∙ (λ i. sound_by (is.roster_is i) p (is.position_is i) (is.base_is i) e) in
-    (λ i. cond (fits i) None (Some (refused no_number (is.position_is i) 0)))
-    ∙ ap (λ o. check_of o (sound_by (roster h) p (position h) (base_position h) e) (refused no_number (position h) 0)) (sym late)
+    (λ i. cond (fits i) None (Some (refusal_of_code no_number (is.position_is i) 0)))
+    ∙ ap (λ o. check_of o (sound_by (roster h) p (position h) (base_position h) e) (refusal_of_code no_number (position h) 0)) (sym late)
     ∙ check_at h e p is.pending_is
 
 -- what answers why an event isn't allowed is nothing exactly where it is allowed

@@ -13,7 +13,7 @@ use Rattle.ts_model.specs.Limits.{most_relations, last_position, bytes_limit}
 use Rattle.ts_model.specs.Bytes.{event_bytes}
 use Rattle.ts_model.specs.Sound.{sound_in}
 use Rattle.ts_model.specs.Allowed.{allowed}
-use Rattle.ts_model.specs.Calls.{Act, refuses, returns, makes, making_table, making_hyper, making_view, setting_mode, committing, numbered, finishing, refusal}
+use Rattle.ts_model.specs.Calls.{Act, refuses, returns, makes, making_table, making_hyper, making_view, setting_mode, act_of_commit, act_with_number, act_of_finish, refusal}
 use Rattle.ts_model.specs.Numbers.{no_number, name_taken, no_refresh, too_many, history_full}
 
 -- ---- why an event isn't allowed next
@@ -31,9 +31,9 @@ call_refusal h (Table def) = refusal_in (making_table def h)
 call_refusal h (Hyper t hyper) = refusal_in (making_hyper t hyper h)
 call_refusal h (View def) = refusal_in (making_view def h)
 call_refusal h (Mode v only) = refusal_in (setting_mode v only h)
-call_refusal h (Commit ops) = refusal_in (committing ops h)
-call_refusal h (Cut v span) = refusal_in (numbered h (Cut v span))
-call_refusal h (Built cut snap) = refusal_in (finishing cut snap h)
+call_refusal h (Commit ops) = refusal_in (act_of_commit ops h)
+call_refusal h (Cut v span) = refusal_in (act_with_number h (Cut v span))
+call_refusal h (Built cut snap) = refusal_in (act_of_finish cut snap h)
 
 -- why an event isn't allowed next, if it isn't: as the call that makes it is refused, and else without a number
 abbrev pub event_refusal : History → Event → Option Refusal
@@ -60,28 +60,28 @@ pub record IsAt (h : History) (e : Event) (r : Roster) (p : Pending) (at base : 
 
 -- ---- the same by what is looked at
 
-abbrev pub refused : ℕ → ℕ → ℕ → Refusal
-refused code at mark = record { code = code; pos = at; mark = mark }
+abbrev pub refusal_of_code : ℕ → ℕ → ℕ → Refusal
+refusal_of_code code at mark = record { code = code; pos = at; mark = mark }
 
 -- no event is made where the history is at its end
 abbrev pub room_refusal : ℕ → Option Refusal
-room_refusal at = cond (nat_lt at last_position) None (Some (refused history_full at 0))
+room_refusal at = cond (nat_lt at last_position) None (Some (refusal_of_code history_full at 0))
 
 -- a relation isn't made where its name is taken, or there are as many of its kind as there may be
 abbrev pub relation_refusal : Bool → ℕ → ℕ → Option Refusal
 relation_refusal taken many at =
-    cond taken (Some (refused name_taken at 0))
-    (cond (nat_lt many most_relations) (room_refusal at) (Some (refused too_many at (suc most_relations))))
+    cond taken (Some (refusal_of_code name_taken at 0))
+    (cond (nat_lt many most_relations) (room_refusal at) (Some (refusal_of_code too_many at (suc most_relations))))
 
 -- a table isn't made a hypertable where it is one
 abbrev pub hyper_refusal : Bool → ℕ → Option Refusal
-hyper_refusal made at = cond made (Some (refused name_taken at 0)) (room_refusal at)
+hyper_refusal made at = cond made (Some (refusal_of_code name_taken at 0)) (room_refusal at)
 
 -- a refresh isn't finished where it doesn't wait
 abbrev pub finish_refusal : Pending → ℕ → Option Refusal
 finish_refusal (Waiting n) at = room_refusal at
-finish_refusal (Finished by) at = Some (refused no_refresh at by)
-finish_refusal Unknown at = Some (refused no_refresh at 0)
+finish_refusal (Finished by) at = Some (refusal_of_code no_refresh at by)
+finish_refusal Unknown at = Some (refusal_of_code no_refresh at 0)
 
 abbrev pub refusal_by : Roster → Pending → ℕ → Event → Option Refusal
 refusal_by r p at (Table def) = relation_refusal (is_taken r def.name) (length r.tables) at

@@ -7,7 +7,7 @@ ghost use Rattle.ts_model.specs.Sound.{columns_fit, sound_in};
 ghost use Rattle.ts_model.specs.Timely.{timely_in};
 ghost use Rattle.ts_model.specs.Valid.{may_follow};
 ghost use Rattle.ts_schema.specs.Names.{is_name};
-ghost use Rattle.event_check.specs.Checks.{IsAt, event_refusal, finish_refusal, fits_by, hyper_refusal, refusal_by, refused, relation_refusal, room_refusal, sound_by};
+ghost use Rattle.event_check.specs.Checks.{IsAt, event_refusal, finish_refusal, fits_by, hyper_refusal, refusal_by, refusal_of_code, relation_refusal, room_refusal, sound_by};
 ghost use Rattle.ts_model.specs.Numbers.{no_number};
 
 use crate::bytes::bytes_of;
@@ -25,8 +25,8 @@ use ts_model::{Event, Pending, Refusal, Roster, TableDef};
 const BYTES_LIMIT: u64 = 4_294_967_296;
 
 /// A refusal at a position, with a number that its reply prints.
-fn refused(code: u8, pos: u64, mark: u64) -> Refusal
-    ensures { result ≡ refused code pos mark }
+fn refusal_at(code: u8, pos: u64, mark: u64) -> Refusal
+    ensures { result ≡ refusal_of_code code pos mark }
 {
     Refusal { code, pos, mark }
 }
@@ -38,7 +38,7 @@ fn room_refusal(position: u64) -> Option<Refusal>
     if position < LAST_POSITION {
         None
     } else {
-        Some(refused(HISTORY_FULL, position, 0))
+        Some(refusal_at(HISTORY_FULL, position, 0))
     }
 }
 
@@ -47,11 +47,11 @@ fn relation_refusal(taken: bool, many: usize, position: u64) -> Option<Refusal>
     ensures { result ≡ relation_refusal taken many position }
 {
     if taken {
-        Some(refused(NAME_TAKEN, position, 0))
+        Some(refusal_at(NAME_TAKEN, position, 0))
     } else if many < MOST_RELATIONS {
         room_refusal(position)
     } else {
-        Some(refused(TOO_MANY, position, 65))
+        Some(refusal_at(TOO_MANY, position, 65))
     }
 }
 
@@ -60,7 +60,7 @@ fn hyper_refusal(made: bool, position: u64) -> Option<Refusal>
     ensures { result ≡ hyper_refusal made position }
 {
     if made {
-        Some(refused(NAME_TAKEN, position, 0))
+        Some(refusal_at(NAME_TAKEN, position, 0))
     } else {
         room_refusal(position)
     }
@@ -72,8 +72,8 @@ fn finish_refusal(pending: Pending, position: u64) -> Option<Refusal>
 {
     match pending {
         Pending::Waiting(_) => room_refusal(position),
-        Pending::Finished(by) => Some(refused(NO_REFRESH, position, by)),
-        Pending::Unknown => Some(refused(NO_REFRESH, position, 0)),
+        Pending::Finished(by) => Some(refusal_at(NO_REFRESH, position, by)),
+        Pending::Unknown => Some(refusal_at(NO_REFRESH, position, 0)),
     }
 }
 
@@ -191,12 +191,12 @@ fn is_sound(roster: &Roster, pending: Pending, position: u64, base: u64, event: 
 
 /// Why an event that no call refuses isn't allowed, where it isn't sound.
 fn unsound_refusal(sound: bool, position: u64) -> Option<Refusal>
-    ensures { result ≡ cond sound None (Some (refused no_number position 0)) }
+    ensures { result ≡ cond sound None (Some (refusal_of_code no_number position 0)) }
 {
     if sound {
         None
     } else {
-        Some(refused(NO_NUMBER, position, 0))
+        Some(refusal_at(NO_NUMBER, position, 0))
     }
 }
 

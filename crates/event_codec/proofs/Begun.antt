@@ -3,14 +3,14 @@ use Rattle.std.proofs.Common.{◌≡◌, ℕ, zero, suc, ◌-◌, ◌<◌, ◌�
 use Rattle.std.proofs.lemmas.Bool.{and_from, lt-ltb}
 use Rattle.std.proofs.lemmas.Int.{ints}
 use Rattle.std.proofs.Math.Bool.{and-false}
-use Rattle.event_codec.specs.Reading.{StopsAt, go_on, mapped, least_above, most_below, is_low_byte, put_low, number}
+use Rattle.event_codec.specs.Reading.{StopsAt, go_on, read_map, least_above, most_below, is_low_byte, put_low, number}
 use lib.Signed.{lt_z}
 use Rattle.event_codec.specs.Reading.{IsNear}
 use Rattle.event_codec.proofs.Formats.{done}
 use Rattle.event_codec.proofs.Shifts.{read_again, near_kept}
 
 abbrev step : ℕ → ℤ → ℤ → ℕ → List ℕ → Bool → Result (ℤ × List ℕ) (List ℕ)
-step k lo hi b rest test = mapped put_low (λ bytes. go_on (cond test (done b rest) (Err (b ∷ rest))) (λ c left. go_on (number k (least_above lo c) (most_below hi c) left) (λ q end. Ok ((c, q), end)))) []
+step k lo hi b rest test = read_map put_low (λ bytes. go_on (cond test (done b rest) (Err (b ∷ rest))) (λ c left. go_on (number k (least_above lo c) (most_below hi c) left) (λ q end. Ok ((c, q), end)))) []
 
 stops : (k : ℕ) (lo hi : ℤ) (b : ℕ) (rest : List ℕ) (test : Bool) → is_low_byte lo hi b ≡ test → test ≡ false → StopsAt (number (suc k) lo hi (b ∷ rest)) (b ∷ rest)
 unfolding number

@@ -7,7 +7,7 @@ use Rattle.ts_bucket.specs.WholeSpans.{least, greatest}
 use Rattle.ts_schema.specs.declared.rows.Row.{Row}
 use Rattle.event_codec.specs.declared.errors.ReadError.{ReadError}
 use Rattle.event_codec.specs.declared.errors.ReadError.TheVariants as errors
-use Rattle.event_codec.specs.Spelling.{signed}
+use Rattle.event_codec.specs.Spelling.{signed_bytes}
 use Rattle.event_codec.specs.Reading.{Reads, Gives, go_on, put_before, items, value_at}
 use Rattle.event_codec.specs.Blocks.{timed_rows}
 use Rattle.event_codec.proofs.Formats.{done}
@@ -39,7 +39,7 @@ head_and_rest (b ∷ bytes) rest some is = ap (λ (l : List ℕ). b ∷ l) (sym 
 pub null_is_read : (bytes rest : List ℕ) → 1 ≤ length bytes → rest ≡ drop 1 bytes → get_or bytes 0 0 ≡ 0 → value_at bytes ≡ Ok (None, rest)
 null_is_read bytes rest some is told = ap value_at (head_and_rest bytes rest some is ∙ ap (λ (c : ℕ). c ∷ rest) told) ∙ value_format.again None rest tt
 
-pub number_is_read : (bytes body rest : List ℕ) (z : ℤ) → 1 ≤ length bytes → body ≡ drop 1 bytes → get_or bytes 0 0 ≡ 1 → least ≤ℤ z → z ≤ℤ greatest → body ≡ signed z ++ rest → value_at bytes ≡ Ok (Some z, rest)
+pub number_is_read : (bytes body rest : List ℕ) (z : ℤ) → 1 ≤ length bytes → body ≡ drop 1 bytes → get_or bytes 0 0 ≡ 1 → least ≤ℤ z → z ≤ℤ greatest → body ≡ signed_bytes z ++ rest → value_at bytes ≡ Ok (Some z, rest)
 number_is_read bytes body rest z some is told low high spelled =
     ap value_at (head_and_rest bytes body some is ∙ ap (λ (c : ℕ). c ∷ body) told ∙ ap (λ (l : List ℕ). 1 ∷ l) spelled) ∙ value_format.again (Some z) rest (low, high)
 

@@ -14,7 +14,7 @@ use Rattle.ts_model.specs.declared.views.Fold.{Fold}
 use Rattle.event_codec.specs.Codes.{cmp_code}
 use Rattle.event_codec.specs.Laws.{BytesAreCounted}
 use Rattle.event_codec.specs.Spelling as spelling
-use Rattle.event_codec.specs.Spelling.{four, eight, signed, few, many, name, value, row, test, agg, column, fold, op}
+use Rattle.event_codec.specs.Spelling.{four, eight, signed_bytes, few, many, name, value, row, test, agg, column, fold, op}
 use Rattle.event_codec.proofs.Fronts.{four_length, eight_length, signed_length}
 use Rattle.ts_model.proofs.FieldLaws.{sum_cons}
 
@@ -36,7 +36,7 @@ evenly spell n each (x ∷ xs) = omega (arith, length-append (spell x) (flat_map
     more n k = omega arith
 
 test_count : (t : Test) → length (test t) ≡ 13
-test_count t = omega (arith, length-append (four t.col) (cmp_code t.cmp ∷ signed t.num), four_length t.col, signed_length t.num)
+test_count t = omega (arith, length-append (four t.col) (cmp_code t.cmp ∷ signed_bytes t.num), four_length t.col, signed_length t.num)
 
 agg_count : (a : Agg) → length (agg a) ≡ 5
 agg_count a = omega (arith, four_length a.col)
@@ -49,7 +49,7 @@ name_count : (text : List ℕ) → length (name text) ≡ name_bytes text
 name_count text = omega arith
 
 row_count : (r : Row) → length (row r) ≡ row_bytes r
-row_count r = omega (arith, length-append (signed r.at) (few value r.vals), signed_length r.at, counted value value_bytes value_count r.vals)
+row_count r = omega (arith, length-append (signed_bytes r.at) (few value r.vals), signed_length r.at, counted value value_bytes value_count r.vals)
 
 column_count : (c : Column) → length (column c) ≡ name_bytes c.name + 1
 column_count c = omega (arith, length-append (name c.name) (spelling.flag c.must), name_count c.name)
@@ -65,7 +65,7 @@ fold_count : (f : Fold) → length (fold f) ≡ fold_bytes f
 fold_count f = omega (
   arith,
   length-append (spelling.width f.width) (few four f.keys ++ (few agg f.aggs ++ many test f.tests)),
-  length-append (signed f.width.step) (signed f.width.shift),
+  length-append (signed_bytes f.width.step) (signed_bytes f.width.shift),
   signed_length f.width.step,
   signed_length f.width.shift,
   length-append (few four f.keys) (few agg f.aggs ++ many test f.tests),
@@ -77,7 +77,7 @@ fold_count f = omega (
 
 pub bytes_counted : BytesAreCounted
 bytes_counted (events.Table def) = omega (arith, length-append (name def.name) (few column def.cols), name_count def.name, counted column (λ c. name_bytes c.name + 1) column_count def.cols)
-bytes_counted (events.Hyper t h) = omega (arith, length-append (four t) (spelling.hyper h), four_length t, length-append (four h.at) (signed h.interval), four_length h.at, signed_length h.interval)
+bytes_counted (events.Hyper t h) = omega (arith, length-append (four t) (spelling.hyper h), four_length t, length-append (four h.at) (signed_bytes h.interval), four_length h.at, signed_length h.interval)
 bytes_counted (events.View def) = omega (
   arith,
   length-append (name def.name) (four def.table ++ (fold def.fold ++ (few name def.names ++ spelling.flag def.only))),
@@ -91,5 +91,5 @@ bytes_counted (events.View def) = omega (
 )
 bytes_counted (events.Mode v only) = omega (arith, length-append (four v) (spelling.flag only), four_length v)
 bytes_counted (events.Commit ops) = omega (arith, length-append (four (length ops)) (flat_map op ops), four_length (length ops), counted op op_bytes op_count ops)
-bytes_counted (events.Cut v s) = omega (arith, length-append (four v) (spelling.span s), four_length v, length-append (signed s.lo) (signed s.hi), signed_length s.lo, signed_length s.hi)
+bytes_counted (events.Cut v s) = omega (arith, length-append (four v) (spelling.span s), four_length v, length-append (signed_bytes s.lo) (signed_bytes s.hi), signed_length s.lo, signed_length s.hi)
 bytes_counted (events.Built cut snap) = omega (arith, length-append (eight cut) (eight snap), eight_length cut, eight_length snap)

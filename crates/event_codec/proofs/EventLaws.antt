@@ -7,7 +7,7 @@ use Rattle.event_codec.specs.declared.kinds.Kind.TheVariants as kinds
 use Rattle.event_codec.specs.Codes.{kind_code}
 use Rattle.event_codec.specs.Formed.{Many, IsFour, IsEight, IsOp, IsSpan, IsTable, IsHyper, IsView, IsFormed}
 use Rattle.event_codec.specs.Spelling.{four, eight, many, flag, op, table, hyper, view, span, event}
-use Rattle.event_codec.specs.Reading.{pair, second, any_four, any_eight, many_of, coded, flag_of, kind_of, op_at, table_at, hyper_at, view_at, span_at, to_hyper_event, to_mode, to_cut, to_built, event_body, event_at}
+use Rattle.event_codec.specs.Reading.{pair, second, any_four, any_eight, many_of, coded_byte, flag_of, kind_of, op_at, table_at, hyper_at, view_at, span_at, to_hyper_event, to_mode, to_cut, to_built, event_body, event_at}
 use Rattle.event_codec.proofs.Formats.{IsFormat, Source, pair_format, map_format}
 use Rattle.event_codec.proofs.NumberLaws.{any_four_format, any_eight_format}
 use Rattle.event_codec.proofs.Coded.{Any, flag_format, kind_format}
@@ -65,7 +65,7 @@ view_body = map_format events.View view IsView view_at rest (IsOfKind kinds.View
     back e h = absurd (let k = h.0 in cc)
 
 mode_body : IsFormat rest (IsOfKind kinds.Mode) (event_body kinds.Mode)
-mode_body = map_format to_mode (λ x. four x.0 ++ flag x.1) (λ x. IsFour x.0 × Any x.1) (pair any_four (λ view. coded flag_of)) rest (IsOfKind kinds.Mode)
+mode_body = map_format to_mode (λ x. four x.0 ++ flag x.1) (λ x. IsFour x.0 × Any x.1) (pair any_four (λ view. coded_byte flag_of)) rest (IsOfKind kinds.Mode)
     (pair_format _ _ _ _ _ _ any_four_format (λ a h. flag_format))
     (record { there = λ x h. ((refl, h.0), refl); back = back })
   where
@@ -120,7 +120,7 @@ spelled (events.Built cut snap) = refl
 
 pub event_format : IsFormat event IsFormed event_at
 unfolding event_at
-event_format = map_format second (λ x. (kind_code x.0 ∷ []) ++ rest x.1) (λ x. Any x.0 × IsOfKind x.0 x.1) (pair (coded kind_of) event_body) event IsFormed
+event_format = map_format second (λ x. (kind_code x.0 ∷ []) ++ rest x.1) (λ x. Any x.0 × IsOfKind x.0 x.1) (pair (coded_byte kind_of) event_body) event IsFormed
     (pair_format _ _ _ _ _ _ kind_format (λ k h. body_format k))
     (record {
       there = λ x h. (h.1.1, spelled x.1 ∙ ap (λ (k : Kind). (kind_code k ∷ []) ++ rest x.1) h.1.0);

@@ -2,7 +2,7 @@
 use Rattle.std.proofs.Common.{◌≡◌, ℕ, zero, suc, ◌≤◌, Bool, true, false, cond, List, [], ◌∷◌, ◌++◌, length, length-append, Result, Ok, Err, refl, sym, ap, subst, ◌∙◌, append_assoc, arith, inl, inr, ◌⊎◌}
 use Rattle.std.specs.List.{flat_map, AllByRecursion}
 use Rattle.std.proofs.lemmas.List.{nil_from_length}
-use Rattle.event_codec.specs.Reading.{Reads, go_on, gives, pair, mapped, byte_where, put_before, items, second, listed}
+use Rattle.event_codec.specs.Reading.{Reads, go_on, gives, pair, read_map, byte_where, put_before, items, second, counted_list}
 
 -- a value that fits
 pub record Sample {A : Type 0} (fits : A → Type 0) : Type 0 where
@@ -263,7 +263,7 @@ module _ {A B : Type 0} (f : A → B) (spell : A → List ℕ) (fits : A → Typ
   abbrev seen_as : A → Reads B
   seen_as a left = Ok (f a, left)
 
-  map_takes : (bytes : List ℕ) (b : B) (left : List ℕ) → mapped f p bytes ≡ Ok (b, left) → Stands seen holds bytes b left
+  map_takes : (bytes : List ℕ) (b : B) (left : List ℕ) → read_map f p bytes ≡ Ok (b, left) → Stands seen holds bytes b left
   map_takes bytes b left e =
       let w = went_on (p bytes) seen_as (b, left) e in
       let value = same_value (f w.0.0) b w.0.1 left w.2 in
@@ -273,29 +273,29 @@ module _ {A B : Type 0} (f : A → B) (spell : A → List ℕ) (fits : A → Typ
       let parts : bytes ≡ seen (f w.0.0) ++ w.0.1 = one.parts ∙ ap (λ (t : List ℕ). t ++ w.0.1) (sym t.1) in
       subst (λ (y : B). Stands seen holds bytes y left) value (subst (λ (l : List ℕ). Stands seen holds bytes (f w.0.0) l) end (record { ok = t.0; parts = parts }))
 
-  map_again : (b : B) (left : List ℕ) → holds b → mapped f p (seen b ++ left) ≡ Ok (b, left)
+  map_again : (b : B) (left : List ℕ) → holds b → read_map f p (seen b ++ left) ≡ Ok (b, left)
   map_again b left h =
       let s = same.back b h in
-      ap (λ (t : List ℕ). mapped f p (t ++ left)) s.spelled ∙ ap (λ (r : Read A). go_on r seen_as) (first.again s.value left s.ok) ∙ ap (λ (y : B). done y left) s.same
+      ap (λ (t : List ℕ). read_map f p (t ++ left)) s.spelled ∙ ap (λ (r : Read A). go_on r seen_as) (first.again s.value left s.ok) ∙ ap (λ (y : B). done y left) s.same
 
-  map_fails : (bytes left : List ℕ) → mapped f p bytes ≡ Err left → p bytes ≡ Err left
+  map_fails : (bytes left : List ℕ) → read_map f p bytes ≡ Err left → p bytes ≡ Err left
   map_fails bytes left e = elim (stopped (p bytes) seen_as left e) [
     | inl f ↦ f
     | inr s ↦ absurd cc
   ]
 
-  map_viable : (bytes left : List ℕ) → mapped f p bytes ≡ Err left → Viable seen holds bytes left
+  map_viable : (bytes left : List ℕ) → read_map f p bytes ≡ Err left → Viable seen holds bytes left
   map_viable bytes left e =
       let v = first.viable bytes left (map_fails bytes left e) in
       let t = same.there v.value v.ok in
       record { value = f v.value; ok = t.0; begins = record { front = v.begins.front; more = v.begins.more; parts = v.begins.parts; begun = t.1 ∙ v.begins.begun } }
 
-  map_longest : (bytes left : List ℕ) → mapped f p bytes ≡ Err left → (b : B) (other : List ℕ) → holds b → Begins bytes other (seen b) → length left ≤ length other
+  map_longest : (bytes left : List ℕ) → read_map f p bytes ≡ Err left → (b : B) (other : List ℕ) → holds b → Begins bytes other (seen b) → length left ≤ length other
   map_longest bytes left e b other h begins =
       let s = same.back b h in
       first.longest bytes left (map_fails bytes left e) s.value other s.ok (record { front = begins.front; more = begins.more; parts = begins.parts; begun = sym s.spelled ∙ begins.begun })
 
-  pub map_format : IsFormat seen holds (mapped f p)
+  pub map_format : IsFormat seen holds (read_map f p)
   map_format = record {
     sample = record { value = f first.sample.value; ok = (same.there first.sample.value first.sample.ok).0 };
     takes = map_takes;
@@ -355,7 +355,7 @@ module _ {A : Type 0} (spell : A → List ℕ) (fits : A → Type 0) (p : Reads 
 
   module _ (spell_count : ℕ → List ℕ) (counts : ℕ → Type 0) (count : Reads ℕ) (number : IsFormat spell_count counts count) where
     -- a count that fits, and so many items that fit
-    pub listed_format : IsFormat (λ xs. spell_count (length xs) ++ flat_map spell xs) (λ xs. counts (length xs) × AllByRecursion fits xs) (listed count p)
+    pub listed_format : IsFormat (λ xs. spell_count (length xs) ++ flat_map spell xs) (λ xs. counts (length xs) × AllByRecursion fits xs) (counted_list count p)
     listed_format = map_format second (λ x. spell_count x.0 ++ flat_map spell x.1) (λ x. counts x.0 × so_many x.0 x.1) (pair count (λ n. items n p)) (λ xs. spell_count (length xs) ++ flat_map spell xs) (λ xs. counts (length xs) × AllByRecursion fits xs)
         (pair_format spell_count counts count (λ n. flat_map spell) so_many (λ n. items n p) number (λ n h. items_format n))
         (record {

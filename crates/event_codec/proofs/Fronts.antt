@@ -5,8 +5,8 @@ use Rattle.ts_bucket.specs.WholeSpans.{least, greatest}
 use lib.Signed.{lt_z}
 use mir.Syntax.{w64, w128}
 use mir.Val.{SFits, of_z, to_z}
-use Rattle.event_codec.specs.Spelling.{four, eight, signed}
-use Rattle.event_codec.specs.Reading.{Reads, StopsAt, go_on, mapped, number, four_upto, any_four, any_eight, between, any_word}
+use Rattle.event_codec.specs.Spelling.{four, eight, signed_bytes}
+use Rattle.event_codec.specs.Reading.{Reads, StopsAt, go_on, read_map, number, four_upto, any_four, any_eight, between, any_word}
 use Rattle.event_codec.proofs.Formats.{IsFormat, same_value}
 use Rattle.event_codec.proofs.NumberLaws.{four_format, any_four_format, any_eight_format, between_format, any_word_format}
 use Rattle.event_codec.proofs.Begun.{lt-true, lt-false}
@@ -19,7 +19,7 @@ failing {A} (Err end) left stop never = let same : left ≡ end = stop in ap (λ
     failed : List ℕ → Result (A × List ℕ) (List ℕ)
     failed l = Err l
 
-map_stops : {A B : Type 0} (f : A → B) (p : Reads A) (bytes left : List ℕ) → StopsAt (p bytes) left → StopsAt (mapped f p bytes) left
+map_stops : {A B : Type 0} (f : A → B) (p : Reads A) (bytes left : List ℕ) → StopsAt (p bytes) left → StopsAt (read_map f p bytes) left
 map_stops {A} f p bytes left stop = by_end (p bytes) stop
   where
     by_end : (r : Result (A × List ℕ) (List ℕ)) → StopsAt r left → StopsAt (go_on r (λ a end. Ok (f a, end))) left
@@ -34,8 +34,8 @@ pub eight_length : (n : ℕ) → length (eight n) ≡ 8
 unfolding eight
 eight_length n = refl
 
-pub signed_length : (z : ℤ) → length (signed z) ≡ 8
-unfolding signed
+pub signed_length : (z : ℤ) → length (signed_bytes z) ≡ 8
+unfolding signed_bytes
 signed_length z = refl
 
 -- ---- four bytes
@@ -75,13 +75,13 @@ eight_short bytes left short stop = failing (any_eight bytes) left stop (λ a en
 -- ---- signed numbers
 
 module _ (lo hi : ℤ) (low : least ≤ℤ lo) (high : hi ≤ℤ greatest) (some : lo ≤ℤ hi) where
-  format : IsFormat signed (λ z. (lo ≤ℤ z) × (z ≤ℤ hi)) (between lo hi)
+  format : IsFormat signed_bytes (λ z. (lo ≤ℤ z) × (z ≤ℤ hi)) (between lo hi)
   format = between_format lo hi some low high
 
-  pub signed_is_read : (z : ℤ) (bytes rest : List ℕ) → lo ≤ℤ z → z ≤ℤ hi → bytes ≡ signed z ++ rest → between lo hi bytes ≡ Ok (z, rest)
+  pub signed_is_read : (z : ℤ) (bytes rest : List ℕ) → lo ≤ℤ z → z ≤ℤ hi → bytes ≡ signed_bytes z ++ rest → between lo hi bytes ≡ Ok (z, rest)
   signed_is_read z bytes rest l h is = ap (between lo hi) is ∙ format.again z rest (l, h)
 
-  pub signed_outside : (z : ℤ) (bytes rest left : List ℕ) → least ≤ℤ z → z ≤ℤ greatest → ((lo ≤ℤ z) → (z ≤ℤ hi) → ⊥) → bytes ≡ signed z ++ rest → StopsAt (between lo hi bytes) left → between lo hi bytes ≡ Err left
+  pub signed_outside : (z : ℤ) (bytes rest left : List ℕ) → least ≤ℤ z → z ≤ℤ greatest → ((lo ≤ℤ z) → (z ≤ℤ hi) → ⊥) → bytes ≡ signed_bytes z ++ rest → StopsAt (between lo hi bytes) left → between lo hi bytes ≡ Err left
   signed_outside z bytes rest left l h outside is stop = failing (between lo hi bytes) left stop (λ a end e.
       let read = format.takes bytes a end e in
       let both : any_word bytes ≡ Ok (a, end) = ap any_word read.parts ∙ any_word_format.again a end (omega (arith, ints, low, read.ok.0), omega (arith, ints, high, read.ok.1)) in
@@ -92,7 +92,7 @@ module _ (lo hi : ℤ) (low : least ≤ℤ lo) (high : hi ≤ℤ greatest) (some
   pub signed_short : (bytes left : List ℕ) → length bytes < 8 → StopsAt (between lo hi bytes) left → between lo hi bytes ≡ Err left
   signed_short bytes left short stop = failing (between lo hi bytes) left stop (λ a end e.
       let read = format.takes bytes a end e in
-      omega (arith, short, ap length read.parts, length-append (signed a) end, signed_length a))
+      omega (arith, short, ap length read.parts, length-append (signed_bytes a) end, signed_length a))
 
 -- ---- signed numbers as the code reads them
 

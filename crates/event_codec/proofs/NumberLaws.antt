@@ -5,7 +5,7 @@ use Rattle.std.proofs.lemmas.Bool.{and_parts, and_from, ltb-true, lt-ltb}
 use Rattle.std.proofs.lemmas.Int.{ints}
 use Rattle.ts_bucket.specs.WholeSpans.{least, greatest}
 use Rattle.event_codec.specs.Formed.{Within, IsFour, IsEight, IsWord}
-use Rattle.event_codec.specs.Spelling.{four, eight, signed}
+use Rattle.event_codec.specs.Spelling.{four, eight, signed_bytes}
 use Rattle.event_codec.specs.Reading.{gives, pair, byte_where, low_byte, without_low, with_low, least_above, most_below, is_low_byte, put_low, number, any_byte, four_upto, any_four, any_eight, between, any_word}
 use Rattle.event_codec.proofs.Formats.{IsFormat, SameSpelling, byte_format, pair_format, map_format, gives_format, alike}
 use Rattle.ts_schema.proofs.Cases.{int_le-true, le-int_le}
@@ -210,12 +210,12 @@ any_eight_format = map_format unsigned_abs (low_bytes 8) (Within (pos 0) (pos (2
       back = λ n h. record { value = pos n; ok = (omega (arith, ints), omega (arith, ints, h)); same = refl; spelled = eight_is n };
     })
 
-pub between_format : (lo hi : ℤ) → lo ≤ℤ hi → least ≤ℤ lo → hi ≤ℤ greatest → IsFormat signed (Within lo hi) (between lo hi)
-unfolding signed
-between_format lo hi l low high = alike (low_bytes 8) signed (Within lo hi) (Within lo hi) (between lo hi)
+pub between_format : (lo hi : ℤ) → lo ≤ℤ hi → least ≤ℤ lo → hi ≤ℤ greatest → IsFormat signed_bytes (Within lo hi) (between lo hi)
+unfolding signed_bytes
+between_format lo hi l low high = alike (low_bytes 8) signed_bytes (Within lo hi) (Within lo hi) (between lo hi)
     (number_format 8 lo hi (2 ^ 64 - 1) l (omega (arith, ints, low, high)) (omega arith))
     (λ z h. (h, sym (signed_is z (omega (arith, ints, low, h.0), omega (arith, ints, high, h.1)))))
     (λ z h. (h, signed_is z (omega (arith, ints, low, h.0), omega (arith, ints, high, h.1))))
 
-pub any_word_format : IsFormat signed IsWord any_word
+pub any_word_format : IsFormat signed_bytes IsWord any_word
 any_word_format = between_format least greatest (omega (arith, ints)) (omega (arith, ints)) (omega (arith, ints))

@@ -16,8 +16,8 @@ use Rattle.event_codec.specs.declared.kinds.OpKind.{OpKind}
 use Rattle.event_codec.specs.declared.kinds.OpKind.TheVariants as op_kinds
 use Rattle.event_codec.specs.Codes.{op_code}
 use Rattle.event_codec.specs.Formed.{Within, Few, Many, IsFour, IsName, IsValue, IsRow, IsTest, IsAgg, IsColumn, IsStep, IsSpan, IsFold, IsOp, IsTable, IsHyper, IsView, IsWord, least_number, most_number, most_column}
-use Rattle.event_codec.specs.Spelling.{four, signed, few, many, name, flag, value, row, test, agg, column, width, span, fold, op, table, hyper, view}
-use Rattle.event_codec.specs.Reading.{Reads, gives, pair, byte_where, put_before, items, second, any_byte, any_four, four_upto, between, any_word, few_of, many_of, coded, flag_of, cmp_of, fun_of, op_kind_of, is_name_length, name_text, name_at, value_body, value_at, to_row, row_at, to_test, test_at, to_agg, agg_at, to_column, column_at, to_width, width_at, to_span, span_at, to_fold, fold_at, to_insert, to_delete, op_body, op_at, to_table, table_at, to_hyper, hyper_at, to_view, view_at}
+use Rattle.event_codec.specs.Spelling.{four, signed_bytes, few, many, name, flag, value, row, test, agg, column, width, span, fold, op, table, hyper, view}
+use Rattle.event_codec.specs.Reading.{Reads, gives, pair, byte_where, put_before, items, second, any_byte, any_four, four_upto, between, any_word, few_of, many_of, coded_byte, flag_of, cmp_of, fun_of, op_kind_of, is_name_length, name_text, name_at, value_body, value_at, to_row, row_at, to_test, test_at, to_agg, agg_at, to_column, column_at, to_width, width_at, to_span, span_at, to_fold, fold_at, to_insert, to_delete, op_body, op_at, to_table, table_at, to_hyper, hyper_at, to_view, view_at}
 use Rattle.event_codec.proofs.Formats.{IsFormat, Source, gives_format, byte_format, pair_format, map_format, items_format, listed_format, alike}
 use Rattle.event_codec.proofs.NumberLaws.{byte_count, four_format, any_four_format, between_format, any_word_format}
 use Rattle.event_codec.proofs.Coded.{Any, flag_format, cmp_format, fun_format, op_kind_format}
@@ -99,7 +99,7 @@ name_format = map_format second (λ x. (x.0 ∷ []) ++ x.1) (λ x. (is_name_leng
 -- a value behind its flag
 abbrev value_rest : Bool → Option ℤ → List ℕ
 value_rest b None = []
-value_rest b (Some v) = signed v
+value_rest b (Some v) = signed_bytes v
 
 abbrev IsTold : Bool → Option ℤ → Type 0
 IsTold false v = v ≡ None
@@ -108,15 +108,15 @@ IsTold true (Some v) = IsWord v
 
 told_format : (b : Bool) → IsFormat (value_rest b) (IsTold b) (value_body b)
 told_format false = alike (λ v. []) (value_rest false) (λ v. v ≡ None) (IsTold false) (gives None) (gives_format None) (λ v h. (h, ap (value_rest false) (sym h))) (λ v h. (h, ap (value_rest false) h))
-told_format true = map_format Some signed IsWord any_word (value_rest true) (IsTold true) any_word_format (record { there = λ v h. (h, refl); back = back })
+told_format true = map_format Some signed_bytes IsWord any_word (value_rest true) (IsTold true) any_word_format (record { there = λ v h. (h, refl); back = back })
   where
-    back : (v : Option ℤ) → IsTold true v → Source Some signed IsWord (value_rest true) v
+    back : (v : Option ℤ) → IsTold true v → Source Some signed_bytes IsWord (value_rest true) v
     back None h = absurd h
     back (Some v) h = record { value = v; ok = h; same = refl; spelled = refl }
 
 pub value_format : IsFormat value IsValue value_at
 unfolding value_at
-value_format = map_format second (λ x. flag x.0 ++ value_rest x.0 x.1) (λ x. Any x.0 × IsTold x.0 x.1) (pair (coded flag_of) value_body) value IsValue
+value_format = map_format second (λ x. flag x.0 ++ value_rest x.0 x.1) (λ x. Any x.0 × IsTold x.0 x.1) (pair (coded_byte flag_of) value_body) value IsValue
     (pair_format _ _ _ value_rest IsTold _ flag_format (λ b h. told_format b))
     (record { there = λ x h. there x.0 x.1 h.1; back = back })
   where
@@ -132,13 +132,13 @@ value_format = map_format second (λ x. flag x.0 ++ value_rest x.0 x.1) (λ x. A
 
 pub row_format : IsFormat row IsRow row_at
 unfolding row_at
-row_format = map_format to_row (λ x. signed x.0 ++ few value x.1) (λ x. Within min_time max_time x.0 × Few IsValue x.1) (pair (between min_time max_time) (λ time. few_of value_at)) row IsRow
+row_format = map_format to_row (λ x. signed_bytes x.0 ++ few value x.1) (λ x. Within min_time max_time x.0 × Few IsValue x.1) (pair (between min_time max_time) (λ time. few_of value_at)) row IsRow
     (pair_format _ _ _ _ _ _ (between_format min_time max_time (omega (arith, ints)) (omega (arith, ints)) (omega (arith, ints))) (λ time h. few_format _ _ _ value_format))
     (record { there = λ x h. (record { time = h.0; values = h.1 }, refl); back = λ r h. record { value = (r.at, r.vals); ok = (h.time, h.values); same = refl; spelled = refl } })
 
 -- ---- tests and aggregates
 
-number_of : (c : Cmp) → IsFormat signed (Within (least_number c) (most_number c)) (between (least_number c) (most_number c))
+number_of : (c : Cmp) → IsFormat signed_bytes (Within (least_number c) (most_number c)) (between (least_number c) (most_number c))
 number_of Eq = any_word_format
 number_of Ne = any_word_format
 number_of Lt = any_word_format
@@ -161,7 +161,7 @@ number_range NotNull = omega (arith, ints)
 
 pub test_format : IsFormat test IsTest test_at
 unfolding test_at
-test_format = map_format to_test _ _ (pair any_four (λ col. pair (coded cmp_of) (λ cmp. between (least_number cmp) (most_number cmp)))) test IsTest
+test_format = map_format to_test _ _ (pair any_four (λ col. pair (coded_byte cmp_of) (λ cmp. between (least_number cmp) (most_number cmp)))) test IsTest
     (pair_format _ _ _ _ _ _ any_four_format (λ col h. pair_format _ _ _ _ _ _ cmp_format (λ cmp k. number_of cmp)))
     (record { there = λ x h. (record { column = h.0; number = h.1.1 }, refl); back = λ t h. record { value = (t.col, (t.cmp, t.num)); ok = (h.column, (tt, h.number)); same = refl; spelled = refl } })
 
@@ -175,7 +175,7 @@ most_column_small Avg = omega arith
 
 pub agg_format : IsFormat agg IsAgg agg_at
 unfolding agg_at
-agg_format = map_format to_agg _ _ (pair (coded fun_of) (λ fun. four_upto (most_column fun))) agg IsAgg
+agg_format = map_format to_agg _ _ (pair (coded_byte fun_of) (λ fun. four_upto (most_column fun))) agg IsAgg
     (pair_format _ _ _ _ _ _ fun_format (λ fun h. four_format (most_column fun) (most_column_small fun)))
     (record { there = λ x h. (h.1, refl); back = λ a h. record { value = (a.fun, a.col); ok = (tt, h); same = refl; spelled = refl } })
 
@@ -183,7 +183,7 @@ agg_format = map_format to_agg _ _ (pair (coded fun_of) (λ fun. four_upto (most
 
 pub column_format : IsFormat column IsColumn column_at
 unfolding column_at
-column_format = map_format to_column _ _ (pair name_at (λ name. coded flag_of)) column IsColumn
+column_format = map_format to_column _ _ (pair name_at (λ name. coded_byte flag_of)) column IsColumn
     (pair_format _ _ _ _ _ _ name_format (λ name h. flag_format))
     (record { there = λ x h. (h.0, refl); back = λ c h. record { value = (c.name, c.must); ok = (h, tt); same = refl; spelled = refl } })
 
@@ -241,7 +241,7 @@ op_body_format op_kinds.Delete = map_format to_delete (λ x. four x.0 ++ many te
 
 pub op_format : IsFormat op IsOp op_at
 unfolding op_at
-op_format = map_format second (λ x. (op_code x.0 ∷ []) ++ op_rest x.1) (λ x. Any x.0 × IsOpOf x.0 x.1) (pair (coded op_kind_of) op_body) op IsOp
+op_format = map_format second (λ x. (op_code x.0 ∷ []) ++ op_rest x.1) (λ x. Any x.0 × IsOpOf x.0 x.1) (pair (coded_byte op_kind_of) op_body) op IsOp
     (pair_format _ _ _ _ _ _ op_kind_format (λ k h. op_body_format k))
     (record { there = λ x h. there x.0 x.1 h.1; back = back })
   where
@@ -271,7 +271,7 @@ hyper_format = map_format to_hyper _ _ (pair any_four (λ place. any_word)) hype
 
 pub view_format : IsFormat view IsView view_at
 unfolding view_at
-view_format = map_format to_view _ _ (pair name_at (λ name. pair any_four (λ table. pair fold_at (λ fold. pair (few_of name_at) (λ names. coded flag_of))))) view IsView
+view_format = map_format to_view _ _ (pair name_at (λ name. pair any_four (λ table. pair fold_at (λ fold. pair (few_of name_at) (λ names. coded_byte flag_of))))) view IsView
     (pair_format _ _ _ _ _ _ name_format (λ name h. pair_format _ _ _ _ _ _ any_four_format (λ table i. pair_format _ _ _ _ _ _ fold_format (λ fold j. pair_format _ _ _ _ _ _ (few_format _ _ _ name_format) (λ names k. flag_format)))))
     (record {
       there = λ x h. (record { name = h.0; table = h.1.0; fold = h.1.1.0; names = h.1.1.1.0 }, refl);

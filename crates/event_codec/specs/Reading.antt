@@ -67,8 +67,8 @@ abbrev pub pair : {A B : Type 0} → Reads A → (A → Reads B) → Reads (A ×
 pair p q bytes = go_on (p bytes) (λ a left. go_on (q a left) (λ b end. Ok ((a, b), end)))
 
 -- the same, seen as something else
-abbrev pub mapped : {A B : Type 0} → (A → B) → Reads A → Reads B
-mapped f p bytes = go_on (p bytes) (λ a left. Ok (f a, left))
+abbrev pub read_map : {A B : Type 0} → (A → B) → Reads A → Reads B
+read_map f p bytes = go_on (p bytes) (λ a left. Ok (f a, left))
 
 -- a byte that passes a test
 abbrev pub byte_where : (ℕ → Bool) → Reads ℕ
@@ -82,14 +82,14 @@ put_before x = x.0 ∷ x.1
 -- so many items
 unfoldable pub items : {A : Type 0} → ℕ → Reads A → Reads (List A)
 items zero p = gives []
-items (suc n) p = mapped put_before (pair p (λ a. items n p))
+items (suc n) p = read_map put_before (pair p (λ a. items n p))
 
 abbrev pub second : {A B : Type 0} → A × B → B
 second x = x.1
 
 -- a count, and so many items
-abbrev pub listed : {A : Type 0} → Reads ℕ → Reads A → Reads (List A)
-listed count p = mapped second (pair count (λ n. items n p))
+abbrev pub counted_list : {A : Type 0} → Reads ℕ → Reads A → Reads (List A)
+counted_list count p = read_map second (pair count (λ n. items n p))
 
 -- ---- numbers
 
@@ -130,7 +130,7 @@ put_low x = with_low x.0 x.1
 unfoldable pub number : ℕ → ℤ → ℤ → Reads ℤ
 number zero lo hi = gives lo
 number (suc k) lo hi =
-    mapped put_low (pair (byte_where (is_low_byte lo hi)) (λ b. number k (least_above lo b) (most_below hi b)))
+    read_map put_low (pair (byte_where (is_low_byte lo hi)) (λ b. number k (least_above lo b) (most_below hi b)))
 
 -- ---- numbers of the types
 
@@ -139,13 +139,13 @@ any_byte = byte_where (λ b. nat_lt b 256)
 
 -- in four bytes, up to a greatest one
 abbrev pub four_upto : ℕ → Reads ℕ
-four_upto most = mapped unsigned_abs (number 4 (pos 0) (pos most))
+four_upto most = read_map unsigned_abs (number 4 (pos 0) (pos most))
 
 abbrev pub any_four : Reads ℕ
 any_four = four_upto (2 ^ 32 - 1)
 
 abbrev pub any_eight : Reads ℕ
-any_eight = mapped unsigned_abs (number 8 (pos 0) (pos (2 ^ 64 - 1)))
+any_eight = read_map unsigned_abs (number 8 (pos 0) (pos (2 ^ 64 - 1)))
 
 -- in eight bytes, from lo to hi
 abbrev pub between : ℤ → ℤ → Reads ℤ
@@ -155,10 +155,10 @@ abbrev pub any_word : Reads ℤ
 any_word = between least greatest
 
 abbrev pub few_of : {A : Type 0} → Reads A → Reads (List A)
-few_of p = listed any_byte p
+few_of p = counted_list any_byte p
 
 abbrev pub many_of : {A : Type 0} → Reads A → Reads (List A)
-many_of p = listed any_four p
+many_of p = counted_list any_four p
 
 -- ---- a byte that stands for something
 
@@ -173,9 +173,9 @@ read_as None here left = Err here
 read_as (Some a) here left = Ok (a, left)
 
 -- what the first byte stands for
-abbrev pub coded : {A : Type 0} → (ℕ → Option A) → Reads A
-coded find [] = Err []
-coded find (b ∷ bytes) = read_as (find b) (b ∷ bytes) bytes
+abbrev pub coded_byte : {A : Type 0} → (ℕ → Option A) → Reads A
+coded_byte find [] = Err []
+coded_byte find (b ∷ bytes) = read_as (find b) (b ∷ bytes) bytes
 
 abbrev pub flag_of : ℕ → Option Bool
 flag_of = with_code flag_code (false ∷ true ∷ [])
@@ -202,63 +202,63 @@ is_name_length n = nat_lt 0 n && nat_le n 63
 
 -- so many bytes that are a name
 unfoldable pub name_text : ℕ → Reads (List ℕ)
-name_text n = mapped put_before (pair (byte_where is_head) (λ b. items (n - 1) (byte_where is_tail)))
+name_text n = read_map put_before (pair (byte_where is_head) (λ b. items (n - 1) (byte_where is_tail)))
 
 unfoldable pub name_at : Reads (List ℕ)
-name_at = mapped second (pair (byte_where is_name_length) name_text)
+name_at = read_map second (pair (byte_where is_name_length) name_text)
 
 -- ---- parts
 
 abbrev pub value_body : Bool → Reads (Option ℤ)
 value_body false = gives None
-value_body true = mapped Some any_word
+value_body true = read_map Some any_word
 
 unfoldable pub value_at : Reads (Option ℤ)
-value_at = mapped second (pair (coded flag_of) value_body)
+value_at = read_map second (pair (coded_byte flag_of) value_body)
 
 abbrev pub to_row : ℤ × List (Option ℤ) → Row
 to_row x = record { at = x.0; vals = x.1 }
 
 unfoldable pub row_at : Reads Row
-row_at = mapped to_row (pair (between min_time max_time) (λ time. few_of value_at))
+row_at = read_map to_row (pair (between min_time max_time) (λ time. few_of value_at))
 
 abbrev pub to_test : ℕ × (Cmp × ℤ) → Test
 to_test x = record { col = x.0; cmp = x.1.0; num = x.1.1 }
 
 unfoldable pub test_at : Reads Test
 test_at =
-    mapped to_test (pair any_four (λ col. pair (coded cmp_of) (λ cmp. between (least_number cmp) (most_number cmp))))
+    read_map to_test (pair any_four (λ col. pair (coded_byte cmp_of) (λ cmp. between (least_number cmp) (most_number cmp))))
 
 abbrev pub to_agg : Fun × ℕ → Agg
 to_agg x = record { fun = x.0; col = x.1 }
 
 unfoldable pub agg_at : Reads Agg
-agg_at = mapped to_agg (pair (coded fun_of) (λ fun. four_upto (most_column fun)))
+agg_at = read_map to_agg (pair (coded_byte fun_of) (λ fun. four_upto (most_column fun)))
 
 abbrev pub to_column : List ℕ × Bool → Column
 to_column x = record { name = x.0; must = x.1 }
 
 unfoldable pub column_at : Reads Column
-column_at = mapped to_column (pair name_at (λ name. coded flag_of))
+column_at = read_map to_column (pair name_at (λ name. coded_byte flag_of))
 
 abbrev pub to_width : ℤ × ℤ → Width
 to_width x = record { step = x.0; shift = x.1 }
 
 unfoldable pub width_at : Reads Width
-width_at = mapped to_width (pair (between (pos 1) max_step) (λ step. between (pos 0) (step -ℤ pos 1)))
+width_at = read_map to_width (pair (between (pos 1) max_step) (λ step. between (pos 0) (step -ℤ pos 1)))
 
 abbrev pub to_span : ℤ × ℤ → Span
 to_span x = record { lo = x.0; hi = x.1 }
 
 unfoldable pub span_at : Reads Span
-span_at = mapped to_span (pair (between least (greatest -ℤ pos 1)) (λ lo. between (lo +ℤ pos 1) greatest))
+span_at = read_map to_span (pair (between least (greatest -ℤ pos 1)) (λ lo. between (lo +ℤ pos 1) greatest))
 
 abbrev pub to_fold : Width × (List ℕ × (List Agg × List Test)) → Fold
 to_fold x = record { width = x.0; keys = x.1.0; aggs = x.1.1.0; tests = x.1.1.1 }
 
 unfoldable pub fold_at : Reads Fold
 fold_at =
-    mapped to_fold
+    read_map to_fold
     (pair width_at (λ width. pair (few_of any_four) (λ keys. pair (few_of agg_at) (λ aggs. many_of test_at))))
 
 -- ---- operations
@@ -270,11 +270,11 @@ abbrev pub to_delete : ℕ × List Test → Op
 to_delete x = ops.Delete x.0 x.1
 
 abbrev pub op_body : OpKind → Reads Op
-op_body op_kinds.Insert = mapped to_insert (pair any_four (λ table. many_of row_at))
-op_body op_kinds.Delete = mapped to_delete (pair any_four (λ table. many_of test_at))
+op_body op_kinds.Insert = read_map to_insert (pair any_four (λ table. many_of row_at))
+op_body op_kinds.Delete = read_map to_delete (pair any_four (λ table. many_of test_at))
 
 unfoldable pub op_at : Reads Op
-op_at = mapped second (pair (coded op_kind_of) op_body)
+op_at = read_map second (pair (coded_byte op_kind_of) op_body)
 
 -- ---- events
 
@@ -282,21 +282,21 @@ abbrev pub to_table : List ℕ × List Column → TableDef
 to_table x = record { name = x.0; cols = x.1 }
 
 unfoldable pub table_at : Reads TableDef
-table_at = mapped to_table (pair name_at (λ name. few_of column_at))
+table_at = read_map to_table (pair name_at (λ name. few_of column_at))
 
 abbrev pub to_hyper : ℕ × ℤ → Hyper
 to_hyper x = record { at = x.0; interval = x.1 }
 
 unfoldable pub hyper_at : Reads Hyper
-hyper_at = mapped to_hyper (pair any_four (λ place. any_word))
+hyper_at = read_map to_hyper (pair any_four (λ place. any_word))
 
 abbrev pub to_view : List ℕ × (ℕ × (Fold × (List (List ℕ) × Bool))) → ViewDef
 to_view x = record { name = x.0; table = x.1.0; fold = x.1.1.0; names = x.1.1.1.0; only = x.1.1.1.1 }
 
 unfoldable pub view_at : Reads ViewDef
 view_at =
-    mapped to_view
-    (pair name_at (λ name. pair any_four (λ table. pair fold_at (λ fold. pair (few_of name_at) (λ names. coded flag_of)))))
+    read_map to_view
+    (pair name_at (λ name. pair any_four (λ table. pair fold_at (λ fold. pair (few_of name_at) (λ names. coded_byte flag_of)))))
 
 abbrev pub to_hyper_event : ℕ × Hyper → Event
 to_hyper_event x = events.Hyper x.0 x.1
@@ -311,16 +311,16 @@ abbrev pub to_built : ℕ × ℕ → Event
 to_built x = events.Built x.0 x.1
 
 abbrev pub event_body : Kind → Reads Event
-event_body kinds.Table = mapped events.Table table_at
-event_body kinds.Hyper = mapped to_hyper_event (pair any_four (λ table. hyper_at))
-event_body kinds.View = mapped events.View view_at
-event_body kinds.Mode = mapped to_mode (pair any_four (λ view. coded flag_of))
-event_body kinds.Commit = mapped events.Commit (many_of op_at)
-event_body kinds.Cut = mapped to_cut (pair any_four (λ view. span_at))
-event_body kinds.Built = mapped to_built (pair any_eight (λ cut. any_eight))
+event_body kinds.Table = read_map events.Table table_at
+event_body kinds.Hyper = read_map to_hyper_event (pair any_four (λ table. hyper_at))
+event_body kinds.View = read_map events.View view_at
+event_body kinds.Mode = read_map to_mode (pair any_four (λ view. coded_byte flag_of))
+event_body kinds.Commit = read_map events.Commit (many_of op_at)
+event_body kinds.Cut = read_map to_cut (pair any_four (λ view. span_at))
+event_body kinds.Built = read_map to_built (pair any_eight (λ cut. any_eight))
 
 unfoldable pub event_at : Reads Event
-event_at = mapped second (pair (coded kind_of) event_body)
+event_at = read_map second (pair (coded_byte kind_of) event_body)
 
 -- an event, where nothing is left
 abbrev pub at_end : Event → Reads Event

@@ -29,8 +29,8 @@ unfoldable pub eight : ℕ → List ℕ
 eight n = to_le_bytes w64 n
 
 -- in eight bytes, by two's complement
-unfoldable pub signed : ℤ → List ℕ
-signed z = to_le_bytes w64 (cast_unsigned w64 z)
+unfoldable pub signed_bytes : ℤ → List ℕ
+signed_bytes z = to_le_bytes w64 (cast_unsigned w64 z)
 
 -- ---- lists
 
@@ -54,13 +54,13 @@ flag b = flag_code b ∷ []
 -- 0 for NULL, or 1 and the number
 abbrev pub value : Option ℤ → List ℕ
 value None = 0 ∷ []
-value (Some v) = 1 ∷ signed v
+value (Some v) = 1 ∷ signed_bytes v
 
 abbrev pub row : Row → List ℕ
-row r = signed r.at ++ few value r.vals
+row r = signed_bytes r.at ++ few value r.vals
 
 abbrev pub test : Test → List ℕ
-test t = four t.col ++ (cmp_code t.cmp ∷ signed t.num)
+test t = four t.col ++ (cmp_code t.cmp ∷ signed_bytes t.num)
 
 abbrev pub agg : Agg → List ℕ
 agg a = fun_code a.fun ∷ four a.col
@@ -69,10 +69,10 @@ abbrev pub column : Column → List ℕ
 column c = name c.name ++ flag c.must
 
 abbrev pub width : Width → List ℕ
-width w = signed w.step ++ signed w.shift
+width w = signed_bytes w.step ++ signed_bytes w.shift
 
 abbrev pub span : Span → List ℕ
-span s = signed s.lo ++ signed s.hi
+span s = signed_bytes s.lo ++ signed_bytes s.hi
 
 abbrev pub fold : Fold → List ℕ
 fold f = width f.width ++ (few four f.keys ++ (few agg f.aggs ++ many test f.tests))
@@ -85,7 +85,7 @@ abbrev pub table : TableDef → List ℕ
 table def = name def.name ++ few column def.cols
 
 abbrev pub hyper : Hyper → List ℕ
-hyper h = four h.at ++ signed h.interval
+hyper h = four h.at ++ signed_bytes h.interval
 
 abbrev pub view : ViewDef → List ℕ
 view def = name def.name ++ (four def.table ++ (fold def.fold ++ (few name def.names ++ flag def.only)))

@@ -2,7 +2,7 @@
 ghost use Rattle.std.specs.Prelude.{◌≡◌, ◌∷◌, ◌++◌, [], IfOk, IfSome, OnOk, Ok, drop, length};
 ghost use Rattle.cell_rows.specs.Parts.{AreParts, parts};
 ghost use Rattle.event_codec.specs.Blocks.{seen_as, timed_rows};
-ghost use Rattle.event_codec.specs.Reading.{Gives, few_of, items, many_of, mapped, row_at, value_at};
+ghost use Rattle.event_codec.specs.Reading.{Gives, few_of, items, many_of, read_map, row_at, value_at};
 
 use crate::errors::ReadError;
 use crate::fields::Field;
@@ -100,7 +100,7 @@ impl Reader<'_> {
     fn value(&mut self) -> Result<Option<i64>, ReadError>
         ensures { Gives result (value_at self.old) self.new }
     {
-        if let Some((value, rest)) = value_in_front(self.left()) {
+        if let Some((value, rest)) = value_in_front(self.rest()) {
             self.pass_to(rest);
             return Ok(value);
         }
@@ -143,13 +143,13 @@ impl Reader<'_> {
 
     /// So many rows, put behind others. They share a block of values.
     fn piece_into(&mut self, count: u32, into: &mut Vec<Row>) -> Result<(), ReadError>
-        ensures { let all = mapped (λ rows. into.old.items ++ rows) (items count row_at) self.old in
+        ensures { let all = read_map (λ rows. into.old.items ++ rows) (items count row_at) self.old in
             Gives (seen_as (λ _. into.new.items) result) all self.new }
     {
-        let room = most_rows(count, self.left());
+        let room = most_rows(count, self.rest());
         let mut times = with_room(self.alloc(), room)?;
         let mut ends = with_room(self.alloc(), room)?;
-        let mut values = ValueBlock::with_capacity(self.alloc(), most_values(room, self.left()))?;
+        let mut values = ValueBlock::with_capacity(self.alloc(), most_values(room, self.rest()))?;
         for _ in 0..count {
             let at = self.row_into(&mut values)?;
             push_row(at, values.len(), &mut times, &mut ends)?;
@@ -168,7 +168,7 @@ impl Reader<'_> {
     fn row_list(&mut self, count: u32) -> Result<Vec<Row>, ReadError>
         ensures { Gives (seen_as (λ rows. rows.items) result) (items count row_at self.old) self.new }
     {
-        let mut rows = with_room(self.alloc(), most_rows(count, self.left()))?;
+        let mut rows = with_room(self.alloc(), most_rows(count, self.rest()))?;
         let mut left = count;
         'pieces: while left > 0 {
             let piece = left.min(MANY);

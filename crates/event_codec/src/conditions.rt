@@ -60,7 +60,7 @@ impl Field for Test {
     #[tactic(auto, using(crate::proofs::Parts::number_range), unfolding(crate::specs::Reading::test_at))]
     fn read(reader: &mut Reader<'_>) -> Result<Test, ReadError> {
         let col = reader.four()?;
-        let cmp: Cmp = reader.coded()?;
+        let cmp: Cmp = reader.read_coded()?;
         let num = reader.between(least_number(cmp), most_number(cmp))?;
         Ok(Test { col, cmp, num })
     }
@@ -81,7 +81,7 @@ impl Field for Agg {
 
     #[tactic(auto, unfolding(crate::specs::Reading::agg_at))]
     fn read(reader: &mut Reader<'_>) -> Result<Agg, ReadError> {
-        let fun: Fun = reader.coded()?;
+        let fun: Fun = reader.read_coded()?;
         let col = reader.four_upto(most_column(fun))?;
         Ok(Agg { fun, col })
     }

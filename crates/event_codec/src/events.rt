@@ -65,7 +65,7 @@ impl Field for Event {
 
     #[tactic(auto, unfolding(crate::specs::Reading::event_at))]
     fn read(reader: &mut Reader<'_>) -> Result<Event, ReadError> {
-        let kind: Kind = reader.coded()?;
+        let kind: Kind = reader.read_coded()?;
         reader.body(kind)
     }
 }
@@ -85,7 +85,7 @@ impl Reader<'_> {
             Kind::View => Ok(Event::View(ViewDef::read(self)?)),
             Kind::Mode => {
                 let view = self.four()?;
-                let only = self.coded()?;
+                let only = self.read_coded()?;
                 Ok(Event::Mode { view, only })
             }
             Kind::Commit => Ok(Event::Commit(self.many()?)),
@@ -108,7 +108,7 @@ impl Reader<'_> {
         ensures { Gives result (whole_event self.old) self.new }
     {
         let event = Event::read(self)?;
-        if !self.left().is_empty() {
+        if !self.rest().is_empty() {
             return Err(ReadError::Bad);
         }
         Ok(event)
@@ -169,6 +169,6 @@ pub fn decode(alloc: Global, bytes: &[u8]) -> Decoded
     match reader.whole_event() {
         Ok(event) => Decoded::Event(event),
         Err(ReadError::Memory) => Decoded::NoMemory,
-        Err(ReadError::Bad) => { Decoded::BadEvent((bytes.len() - reader.left().len()) as u64) }
+        Err(ReadError::Bad) => { Decoded::BadEvent((bytes.len() - reader.rest().len()) as u64) }
     }
 }

@@ -87,7 +87,7 @@ impl Reader<'_> {
         ensures read { Gives result (byte_where is_name_length self.old) self.new }
         ensures length { IfOk result (λ len. IsTrue (is_name_length len)) }
     {
-        let [byte, rest @ ..] = self.left() else {
+        let [byte, rest @ ..] = self.rest() else {
             return Err(ReadError::Bad);
         };
         if *byte == 0 || *byte > NAME_BYTES {
@@ -103,7 +103,7 @@ impl Reader<'_> {
         ensures { Gives result (name_at self.old) self.new }
     {
         let len = self.name_length()?;
-        let text = self.left();
+        let text = self.rest();
         match after_name(text, len) {
             Ok(rest) => {
                 self.pass_to(rest);

@@ -2,7 +2,7 @@
 ghost use Rattle.std.specs.Prelude.{◌≡◌, ◌++◌, ◌<◌, ◌≤ℤ◌, length, IfOk, MatchOption, OnOk};
 ghost use Rattle.event_codec.specs.Formed.{Within};
 ghost use Rattle.event_codec.specs.Growing.{Grows};
-ghost use Rattle.event_codec.specs.Spelling.{four, eight, signed};
+ghost use Rattle.event_codec.specs.Spelling.{four, eight, signed_bytes};
 ghost use Rattle.event_codec.specs.Reading.{IsNear, Matches, StopsAt, any_eight, between, four_upto, least_above, most_below, number};
 
 use ts_schema::NoMemory;
@@ -34,9 +34,9 @@ fn eight_in_front(bytes: &[u8]) -> Option<(u64, &[u8])>
 
 /// The signed number in the first eight bytes, and the bytes after it.
 #[inline(always)]
-#[tactic(auto, unfolding(crate::specs::Spelling::signed))]
+#[tactic(auto, unfolding(crate::specs::Spelling::signed_bytes))]
 pub(crate) fn signed_in_front(bytes: &[u8]) -> Option<(i64, &[u8])>
-    ensures { MatchOption result (length bytes.now < 8) (λ x. bytes.now ≡ signed x.0 ++ x.1.now) }
+    ensures { MatchOption result (length bytes.now < 8) (λ x. bytes.now ≡ signed_bytes x.0 ++ x.1.now) }
 {
     match bytes {
         [a, b, c, d, e, f, g, h, rest @ ..] => Some((
@@ -172,9 +172,9 @@ pub fn put_eight(out: &mut Vec<u8>, number: u64) -> Result<(), NoMemory>
 }
 
 /// Appends a signed number in eight bytes.
-#[tactic(auto, using(crate::proofs::GrowthLaws::grows_by, crate::proofs::GrowthLaws::grows_not, crate::proofs::GrowthLaws::grows_on), unfolding(crate::specs::Spelling::signed))]
+#[tactic(auto, using(crate::proofs::GrowthLaws::grows_by, crate::proofs::GrowthLaws::grows_not, crate::proofs::GrowthLaws::grows_on), unfolding(crate::specs::Spelling::signed_bytes))]
 pub fn put_signed(out: &mut Vec<u8>, number: i64) -> Result<(), NoMemory>
-    ensures put { OnOk result (out.new.items ≡ out.old.items ++ signed number) }
+    ensures put { OnOk result (out.new.items ≡ out.old.items ++ signed_bytes number) }
     ensures grows { Grows out.old.items out.new.items }
 {
     out.extend_from_slice(&number.to_le_bytes())?;

@@ -37,7 +37,7 @@ impl Field for Op {
 
     #[tactic(auto, unfolding(crate::specs::Reading::op_at))]
     fn read(reader: &mut Reader<'_>) -> Result<Op, ReadError> {
-        let kind: OpKind = reader.coded()?;
+        let kind: OpKind = reader.read_coded()?;
         match kind {
             OpKind::Insert => {
                 let table = reader.four()?;

@@ -1,7 +1,7 @@
 //! A reader of bytes from left to right.
 ghost use Rattle.std.specs.Prelude.{◌≡◌, ◌≤ℤ◌, IfOk};
 ghost use Rattle.event_codec.specs.Formed.{Within};
-ghost use Rattle.event_codec.specs.Reading.{Gives, any_byte, any_eight, any_four, any_word, between, coded, four_upto};
+ghost use Rattle.event_codec.specs.Reading.{Gives, any_byte, any_eight, any_four, any_word, between, coded_byte, four_upto};
 
 use crate::codes::Coded;
 use crate::errors::ReadError;
@@ -38,7 +38,7 @@ impl<'a> Reader<'a> {
     }
 
     /// The bytes that aren't read.
-    pub fn left(&self) -> &'a [u8]
+    pub fn rest(&self) -> &'a [u8]
         ensures { result.now ≡ self.now }
     {
         self.left
@@ -63,8 +63,8 @@ impl<'a> Reader<'a> {
     }
 
     /// A byte that stands for something.
-    pub fn coded<T: Coded>(&mut self) -> Result<T, ReadError>
-        ensures { Gives result (coded T.meaning self.old) self.new }
+    pub fn read_coded<T: Coded>(&mut self) -> Result<T, ReadError>
+        ensures { Gives result (coded_byte T.meaning self.old) self.new }
     {
         let [byte, rest @ ..] = self.left else {
             return Err(ReadError::Bad);

@@ -35,7 +35,7 @@ impl Field for Option<i64> {
 
     #[tactic(auto, unfolding(crate::specs::Reading::value_at))]
     fn read(reader: &mut Reader<'_>) -> Result<Option<i64>, ReadError> {
-        let told: bool = reader.coded()?;
+        let told: bool = reader.read_coded()?;
         if !told {
             return Ok(None);
         }

@@ -29,7 +29,7 @@ impl Field for Column {
     #[tactic(auto, unfolding(crate::specs::Reading::column_at))]
     fn read(reader: &mut Reader<'_>) -> Result<Column, ReadError> {
         let name = reader.name()?;
-        let must = reader.coded()?;
+        let must = reader.read_coded()?;
         Ok(Column { name, must })
     }
 }

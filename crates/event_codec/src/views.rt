@@ -124,7 +124,7 @@ impl Field for ViewDef {
         let table = reader.four()?;
         let fold = Fold::read(reader)?;
         let names = reader.few()?;
-        let only = reader.coded()?;
+        let only = reader.read_coded()?;
         Ok(ViewDef {
             name,
             table,

@@ -16,7 +16,7 @@ pub(crate) const ALL: usize = 65_536;
 
 /// How a call ended, what it printed, how many stored rows it looked at, and the disk that it left.
 #[derive(Drop)]
-pub(crate) struct Ran {
+pub(crate) struct CallRecord {
     pub(crate) status: Status,
     pub(crate) text: Vec<u8>,
     pub(crate) reads: u64,
@@ -37,7 +37,7 @@ pub(crate) fn call<R: Threads + Wait + Sync + AllocGlobal>(
     most: usize,
     fails: (u64, u64),
     disk: FailDisk,
-) -> Result<Ran, Fail>
+) -> Result<CallRecord, Fail>
     requires { 0 < most }
 {
     let alloc = rt.alloc();
@@ -46,7 +46,7 @@ pub(crate) fn call<R: Threads + Wait + Sync + AllocGlobal>(
     let mut source = MemSource::new(input.to_vec(alloc)?, most, vec![in alloc; fails.0]?);
     let mut sink = MemSink::new(alloc, most, vec![in alloc; fails.1]?);
     let ended = run_words(rt, alloc, &words, &mut source, &mut sink, disk, &NoGate);
-    Ok(Ran {
+    Ok(CallRecord {
         status: ended.status,
         text: sink.bytes().to_vec(alloc)?,
         reads: ended.reads,

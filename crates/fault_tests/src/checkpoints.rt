@@ -1,6 +1,6 @@
 //! A checkpoint over a sink that fails, and over a disk that fails or stops. What it leaves stands for the
 //! history as before, or for its image, and both go on alike.
-use crate::calls::{ALL, Ran, call, lines, sound_disk};
+use crate::calls::{ALL, CallRecord, call, lines, sound_disk};
 use crate::script::SCRIPT;
 use std::sync::Wait;
 use std::test::Fail;
@@ -30,7 +30,10 @@ fn journal<R: Threads + Wait + Sync + AllocGlobal>(rt: &R) -> Result<Vec<u8>, Fa
 }
 
 /// A checkpoint over a disk, with a statement as its input, which it doesn't read.
-fn checkpoint<R: Threads + Wait + Sync + AllocGlobal>(rt: &R, disk: FailDisk) -> Result<Ran, Fail> {
+fn checkpoint<R: Threads + Wait + Sync + AllocGlobal>(
+    rt: &R,
+    disk: FailDisk,
+) -> Result<CallRecord, Fail> {
     let input = lines(rt.alloc(), 3, 4)?;
     call(rt, "checkpoint", &input, ALL, (0, 0), disk)
 }

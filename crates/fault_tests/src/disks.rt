@@ -1,6 +1,6 @@
 //! A run over a disk that fails. A header takes a write and a sync. An event takes two of both: its frame is
 //! written behind the closed gate that ends the journal, and once it is synced that gate is opened.
-use crate::calls::{ALL, Ran, call, lines, replies, sound_disk, stands_for};
+use crate::calls::{ALL, CallRecord, call, lines, replies, sound_disk, stands_for};
 use crate::script::SCRIPT;
 use std::sync::Wait;
 use std::test::Fail;
@@ -19,7 +19,7 @@ fn runs_to<R: Threads + Wait + Sync + AllocGlobal>(
     disk: FailDisk,
     status: Status,
     counts: Counts,
-) -> Result<(bool, Ran), Fail> {
+) -> Result<(bool, CallRecord), Fail> {
     let input = lines(rt.alloc(), first, SCRIPT.len())?;
     let text = replies(rt.alloc(), first, counts.0)?;
     let ran = call(rt, "run", &input, ALL, (0, 0), disk)?;

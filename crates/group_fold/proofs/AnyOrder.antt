@@ -8,8 +8,8 @@ use Rattle.ts_bucket.specs.Bucket.{IsWidth}
 use Rattle.ts_model.specs.declared.views.Fold.{Fold}
 use Rattle.ts_model.specs.Groups.{groups_of}
 use Rattle.partial_agg.specs.declared.groups.Group.{Group}
-use Rattle.group_fold.specs.Merging.{taken, with_group}
-use Rattle.group_fold.specs.Gathering.{ordered}
+use Rattle.group_fold.specs.Merging.{groups_with_row, with_group}
+use Rattle.group_fold.specs.Gathering.{in_group_order}
 use Rattle.group_fold.proofs.Insertions.{with_group-commutes}
 use Rattle.group_fold.proofs.RowGroups.{groups_of-more, taken-commutes}
 
@@ -49,18 +49,18 @@ module _ {X S : Type 0} (step : X → S → S) (none : S) (commutes : (x y : X) 
   gathered-permuted xs ys p =
       IsPermutation-keeps xs (λ zs. gathered xs ≡ gathered zs) refl (λ zs i j h k e. e ∙ sym (swapped zs i j h k)) ys p
 
-groups_gathered : (fold : Fold) (wide : IsWidth fold.width) (rows : List Row) → groups_of fold rows ≡ gathered (taken fold) [] (taken-commutes fold wide) rows
+groups_gathered : (fold : Fold) (wide : IsWidth fold.width) (rows : List Row) → groups_of fold rows ≡ gathered (groups_with_row fold) [] (taken-commutes fold wide) rows
 groups_gathered fold wide [] = refl
-groups_gathered fold wide (row ∷ rows) = groups_of-more fold wide row rows ∙ ap (taken fold row) (groups_gathered fold wide rows)
+groups_gathered fold wide (row ∷ rows) = groups_of-more fold wide row rows ∙ ap (groups_with_row fold row) (groups_gathered fold wide rows)
 
 pub groups_of-permuted : (fold : Fold) → IsWidth fold.width → (rows others : List Row) → IsPermutation rows others → groups_of fold rows ≡ groups_of fold others
 groups_of-permuted fold wide rows others p =
-    groups_gathered fold wide rows ∙ (gathered-permuted (taken fold) [] (taken-commutes fold wide) rows others p ∙ sym (groups_gathered fold wide others))
+    groups_gathered fold wide rows ∙ (gathered-permuted (groups_with_row fold) [] (taken-commutes fold wide) rows others p ∙ sym (groups_gathered fold wide others))
 
-ordered_gathered : (groups : List Group) → ordered groups ≡ gathered with_group [] with_group-commutes groups
+ordered_gathered : (groups : List Group) → in_group_order groups ≡ gathered with_group [] with_group-commutes groups
 ordered_gathered [] = refl
 ordered_gathered (g ∷ gs) = ap (with_group g) (ordered_gathered gs)
 
-pub ordered-permuted : (groups others : List Group) → IsPermutation groups others → ordered groups ≡ ordered others
+pub ordered-permuted : (groups others : List Group) → IsPermutation groups others → in_group_order groups ≡ in_group_order others
 ordered-permuted groups others p =
     ordered_gathered groups ∙ (gathered-permuted with_group [] with_group-commutes groups others p ∙ sym (ordered_gathered others))

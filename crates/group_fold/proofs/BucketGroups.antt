@@ -30,7 +30,7 @@ use Rattle.partial_agg.specs.declared.groups.Group.{Group}
 use Rattle.partial_agg.specs.Groups.{group_cmp, AreInOrder}
 use Rattle.partial_agg.proofs.GroupLaws.{group_cmp_total, group_cmp-place, less_start}
 use Rattle.group_fold.specs.Grouping.{row_group, IsOfTime}
-use Rattle.group_fold.specs.Merging.{taken, with_group}
+use Rattle.group_fold.specs.Merging.{groups_with_row, with_group}
 use Rattle.group_fold.specs.Laws.{OrderPlaysNoPart, GroupsOfSomeBuckets, GroupsOfSpans, GroupsOfOneBucket, SpansKeepGroups, GroupsOfAsked, LastGroupEnds, end_of_last}
 use Rattle.group_fold.proofs.Insertions.{by_order, at_less, at_equal, at_greater, with_group-front}
 use Rattle.group_fold.proofs.Occurring.{all_above, all-map, any-once, is_eq-swap, sorted-once}
@@ -47,9 +47,9 @@ groups_of-with_row fold wide row (x ∷ xs) =
     elim (is_gt (row_cmp row x)) as (λ b. groups_of fold (cond b (x ∷ with_row row xs) (row ∷ x ∷ xs)) ≡ groups_of fold (row ∷ x ∷ xs)) [
       | true ↦
           groups_of-more fold wide x (with_row row xs)
-          ∙ (ap (taken fold x) (groups_of-with_row fold wide row xs ∙ groups_of-more fold wide row xs)
+          ∙ (ap (groups_with_row fold x) (groups_of-with_row fold wide row xs ∙ groups_of-more fold wide row xs)
           ∙ (taken-commutes fold wide x row (groups_of fold xs)
-          ∙ (ap (taken fold row) (sym (groups_of-more fold wide x xs)) ∙ sym (groups_of-more fold wide row (x ∷ xs)))))
+          ∙ (ap (groups_with_row fold row) (sym (groups_of-more fold wide x xs)) ∙ sym (groups_of-more fold wide row (x ∷ xs)))))
       | false ↦ refl
     ]
 
@@ -57,7 +57,7 @@ groups_of-in_order : (fold : Fold) → IsWidth fold.width → (rows : List Row) 
 groups_of-in_order fold wide [] = refl
 groups_of-in_order fold wide (row ∷ rows) =
     groups_of-with_row fold wide row (in_order rows)
-    ∙ (groups_of-more fold wide row (in_order rows) ∙ (ap (taken fold row) (groups_of-in_order fold wide rows) ∙ sym (groups_of-more fold wide row rows)))
+    ∙ (groups_of-more fold wide row (in_order rows) ∙ (ap (groups_with_row fold row) (groups_of-in_order fold wide rows) ∙ sym (groups_of-more fold wide row rows)))
 
 pub order_plays_no_part : OrderPlaysNoPart
 order_plays_no_part fold xs ys wide same = sym (groups_of-in_order fold wide xs) ∙ (ap (groups_of fold) same ∙ groups_of-in_order fold wide ys)
@@ -139,9 +139,9 @@ only_passing fold wide test (row ∷ rows) =
           by_test (passes_all row fold.tests)
           (λ pass.
           ap (λ t. groups_of fold (cond t (row ∷ some) some)) pass
-          ∙ (groups_of-more fold wide row some ∙ (ap (taken fold row) rest ∙ sym (groups_of-more fold wide row kept))))
+          ∙ (groups_of-more fold wide row some ∙ (ap (groups_with_row fold row) rest ∙ sym (groups_of-more fold wide row kept))))
           (λ fail.
-          let left_out : taken fold row (groups_of fold kept) ≡ groups_of fold kept = rw fail refl in
+          let left_out : groups_with_row fold row (groups_of fold kept) ≡ groups_of fold kept = rw fail refl in
           ap (λ t. groups_of fold (cond t (row ∷ some) some)) fail ∙ (rest ∙ sym (groups_of-more fold wide row kept ∙ left_out)))
       | false ↦ rest
     ]

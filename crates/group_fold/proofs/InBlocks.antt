@@ -12,13 +12,13 @@ use Rattle.partial_agg.specs.declared.groups.Group.{Group}
 use Rattle.partial_agg.specs.Groups.{group_cmp}
 use Rattle.partial_agg.specs.Summaries.{Summary}
 use Rattle.group_fold.specs.declared.heads.Head.{Head}
-use Rattle.group_fold.specs.declared.heads.Place.{Place}
+use Rattle.group_fold.specs.declared.heads.PartsPlace.{PartsPlace}
 use Rattle.group_fold.specs.Gathering.{HaveParts, IsAt, IsBelow}
 use Rattle.group_fold.specs.Grouping.{row_parts}
 use Rattle.group_fold.specs.Merging.{joined_parts}
 use Rattle.group_fold.proofs.Counts.{length-row_parts}
 use Rattle.group_fold.proofs.Parts.{length-joined_parts}
-use Rattle.group_fold.specs.Blocks.{AreHeadsApart, ArePartsApart, HasPartsAt, IsHeadAt, IsPlaceApart, IsPutAt, Keeps, StandIn, grown, parts_at, shown_group, shown_groups}
+use Rattle.group_fold.specs.Blocks.{AreHeadsApart, ArePartsApart, HasPartsAt, IsHeadAt, IsPlaceApart, IsPutAt, Keeps, StandIn, group_with_row, parts_at, shown_group, shown_groups}
 use Rattle.ts_schema.proofs.Cases.{all_weaker}
 
 -- ---- a part of a list replaced
@@ -134,7 +134,7 @@ keeps_longer old new b block more h was is n p has =
     (cases_order p.block b))
 
 -- what is put behind a block stands there, apart from all that stood before
-pub put_behind : (old new : List (List Summary)) (b : ℕ) (block parts : List Summary) (p : Place) → b < length old → block ≡ get_or old b block → new ≡ set old b (block ++ parts) → p.block ≡ b → p.from ≡ length block → IsPutAt parts old new p
+pub put_behind : (old new : List (List Summary)) (b : ℕ) (block parts : List Summary) (p : PartsPlace) → b < length old → block ≡ get_or old b block → new ≡ set old b (block ++ parts) → p.block ≡ b → p.from ≡ length block → IsPutAt parts old new p
 put_behind old new b block parts p h was is at from =
     let own : get_or new p.block [] ≡ block ++ parts = ap (λ bs. get_or bs p.block []) is ∙ (ap (λ k. get_or (set old b (block ++ parts)) k []) at ∙ get_or-set_same old b (block ++ parts) [] h) in
     record {
@@ -151,7 +151,7 @@ put_behind old new b block parts p h was is at from =
     }
 
 -- blocks to which nothing was put are kept, and those that grew before that too
-pub put_later : (parts : List Summary) (old mid new : List (List Summary)) (p : Place) → Keeps old mid → IsPutAt parts mid new p → IsPutAt parts old new p
+pub put_later : (parts : List Summary) (old mid new : List (List Summary)) (p : PartsPlace) → Keeps old mid → IsPutAt parts mid new p → IsPutAt parts old new p
 put_later parts old mid new p keeps put = record {
   there = put.there;
   are = put.are;
@@ -177,10 +177,10 @@ shown_kept n old new (h ∷ hs) keeps all =
 
 -- ---- one more group
 
-apart_back : (n : ℕ) (p q : Place) → ArePartsApart n p q → ArePartsApart n q p
+apart_back : (n : ℕ) (p q : PartsPlace) → ArePartsApart n p q → ArePartsApart n q p
 apart_back n p q apart same low high = apart (sym same) high low
 
-apart_all : (n : ℕ) (p : Place) (blocks : List (List Summary)) (heads : List Head) → ((q : Place) → HasPartsAt n blocks q → ArePartsApart n p q) → AllByRecursion (λ h. HasPartsAt n blocks h.place) heads → IsPlaceApart n p heads
+apart_all : (n : ℕ) (p : PartsPlace) (blocks : List (List Summary)) (heads : List Head) → ((q : PartsPlace) → HasPartsAt n blocks q → ArePartsApart n p q) → AllByRecursion (λ h. HasPartsAt n blocks h.place) heads → IsPlaceApart n p heads
 apart_all n p blocks heads apart all = all_weaker (λ (h : Head). HasPartsAt n blocks h.place) (λ h. ArePartsApart n p h.place) (λ h has. apart h.place has) heads all
 
 all-insert : (P : Head → Type 0) (heads : List Head) (at : ℕ) (h : Head) → AllByRecursion P heads → P h → AllByRecursion P (insert heads at h)
@@ -202,7 +202,7 @@ shown-insert n blocks (x ∷ heads) (suc at) h = ap (λ gs. shown_group n blocks
 pub stand-insert : (n : ℕ) (old new : List (List Summary)) (heads : List Head) (at : ℕ) (h : Head) (parts : List Summary) → length parts ≡ n → Keeps old new → IsPutAt parts old new h.place → StandIn n old heads → StandIn n new (insert heads at h)
 stand-insert n old new heads at h parts many keeps put stand =
     let there : HasPartsAt n new h.place = subst (λ m. HasPartsAt m new h.place) many put.there in
-    let apart : (q : Place) → HasPartsAt n old q → ArePartsApart n h.place q = subst (λ m. (q : Place) → HasPartsAt m old q → ArePartsApart m h.place q) many put.apart in
+    let apart : (q : PartsPlace) → HasPartsAt n old q → ArePartsApart n h.place q = subst (λ m. (q : PartsPlace) → HasPartsAt m old q → ArePartsApart m h.place q) many put.apart in
     record {
       within = all-insert (λ g. HasPartsAt n new g.place) heads at h (within_kept n old new heads keeps stand.within) there;
       apart = apart-insert n heads at h stand.apart (apart_all n h.place old heads apart stand.within);
@@ -224,7 +224,7 @@ stand_tried (Err x) n blocks old new at h put kept with without = subst (StandIn
 
 -- ---- how many parts each group has
 
-length-parts_at : (n : ℕ) (blocks : List (List Summary)) (p : Place) → HasPartsAt n blocks p → length (parts_at n blocks p) ≡ n
+length-parts_at : (n : ℕ) (blocks : List (List Summary)) (p : PartsPlace) → HasPartsAt n blocks p → length (parts_at n blocks p) ≡ n
 length-parts_at n blocks p has =
     let xs = get_or blocks p.block [] in
     omega (arith, has.within, length-take n (drop p.from xs), length-drop p.from xs)
@@ -243,12 +243,12 @@ shown_renumbered n m blocks (h ∷ hs) stand alike = ap (λ k. shown_groups k bl
 
 -- ---- a row added to one group
 
-apart_from : (n : ℕ) (q p : Place) (heads : List Head) (at : ℕ) (d : Head) → IsPlaceApart n q heads → at < length heads → p ≡ (get_or heads at d).place → ArePartsApart n p q
+apart_from : (n : ℕ) (q p : PartsPlace) (heads : List Head) (at : ℕ) (d : Head) → IsPlaceApart n q heads → at < length heads → p ≡ (get_or heads at d).place → ArePartsApart n p q
 apart_from n q p [] at d all low own = absurd (omega arith)
 apart_from n q p (h ∷ hs) zero d all low own = apart_back n q p (subst (ArePartsApart n q) (sym own) all.0)
 apart_from n q p (h ∷ hs) (suc at) d all low own = apart_from n q p hs at d all.1 (omega arith) own
 
-module _ (n : ℕ) (old new : List (List Summary)) (p : Place) (block js : List Summary) (has : HasPartsAt n old p) (many : length js ≡ n) (was : block ≡ get_or old p.block block) (is : new ≡ set old p.block (replaced p.from n js block)) where
+module _ (n : ℕ) (old new : List (List Summary)) (p : PartsPlace) (block js : List Summary) (has : HasPartsAt n old p) (many : length js ≡ n) (was : block ≡ get_or old p.block block) (is : new ≡ set old p.block (replaced p.from n js block)) where
   was_too : get_or old p.block [] ≡ block
   was_too = get_or_default old p.block [] block has.block ∙ sym was
 
@@ -261,7 +261,7 @@ module _ (n : ℕ) (old new : List (List Summary)) (p : Place) (block js : List 
   as_many : length new ≡ length old
   as_many = ap length is ∙ length-set old p.block (replaced p.from n js block)
 
-  elsewhere_now : (q : Place) → HasPartsAt n old q → ArePartsApart n p q → HasPartsAt n new q × (parts_at n new q ≡ parts_at n old q)
+  elsewhere_now : (q : PartsPlace) → HasPartsAt n old q → ArePartsApart n p q → HasPartsAt n new q × (parts_at n new q ≡ parts_at n old q)
   elsewhere_now q there apart =
       ⊎_elim
       (λ e.
@@ -376,12 +376,12 @@ module _ (n : ℕ) (blocks : List (List Summary)) (heads : List Head) (at : ℕ)
           stand_added n blocks (set blocks head.place.block made) head.place block (joined_parts (take n (drop head.place.from block)) (row_parts aggs row)) own_there many_more was
           (ap (set blocks head.place.block) made_so) heads at head low (ap (λ (h : Head). h.place) is) stand
 
-      pub shown_grown : (d : Group) → shown_groups n (set blocks head.place.block made) heads ≡ set groups at (grown fold row (get_or groups at d))
+      pub shown_grown : (d : Group) → shown_groups n (set blocks head.place.block made) heads ≡ set groups at (group_with_row fold row (get_or groups at d))
       shown_grown d =
           let js = joined_parts (take n (drop head.place.from block)) (row_parts aggs row) in
-          let now : with_parts head js ≡ grown fold row (get_or groups at d) =
+          let now : with_parts head js ≡ group_with_row fold row (get_or groups at d) =
           ap (λ ps. with_parts head (joined_parts ps (row_parts aggs row))) own_part
-          ∙ (ap (λ more. with_parts head (joined_parts (parts_at n blocks head.place) (row_parts more row))) aggs_are ∙ ap (grown fold row) (sym (shown_there groups are d))) in
+          ∙ (ap (λ more. with_parts head (joined_parts (parts_at n blocks head.place) (row_parts more row))) aggs_are ∙ ap (group_with_row fold row) (sym (shown_there groups are d))) in
           shown_added n blocks (set blocks head.place.block made) head.place block js own_there many_more was
           (ap (set blocks head.place.block) made_so) heads at head low (ap (λ (h : Head). h.place) is) stand
           ∙ (ap (λ gs. set gs at (with_parts (get_or heads at head) js)) are ∙ (ap (λ h. set groups at (with_parts h js)) (sym is) ∙ ap (set groups at) now))

@@ -6,11 +6,11 @@ use Rattle.std.specs.declared.cmp.Ordering.{Ordering}
 use Rattle.std.specs.declared.cmp.Ordering.TheVariants.{Less, Equal, Greater}
 use Rattle.std.proofs.lemmas.Cmp.{tied_back, alike_right}
 use Rattle.partial_agg.specs.declared.groups.Group.{Group}
-use Rattle.partial_agg.specs.Summaries.{Summary, joined}
+use Rattle.partial_agg.specs.Summaries.{Summary, summary_of_both}
 use Rattle.partial_agg.specs.Groups.{group_cmp}
 use Rattle.partial_agg.proofs.GroupLaws.{group_cmp_total, group_cmp-place}
 use Rattle.partial_agg.proofs.Joined.{joined_assoc, joined_comm}
-use Rattle.group_fold.specs.Merging.{joined_parts, merged, with_group, with_groups}
+use Rattle.group_fold.specs.Merging.{joined_parts, merge_of, with_group, with_groups}
 
 -- ---- cases on an order
 
@@ -46,7 +46,7 @@ alike_to g h k e = alike_right group_cmp_total g h k e
 pub at_less : (g x : Group) (xs : List Group) → group_cmp g x ≡ Less → with_group g (x ∷ xs) ≡ g ∷ x ∷ xs
 at_less g x xs e = rw e refl
 
-pub at_equal : (g x : Group) (xs : List Group) → group_cmp g x ≡ Equal → with_group g (x ∷ xs) ≡ merged g x ∷ xs
+pub at_equal : (g x : Group) (xs : List Group) → group_cmp g x ≡ Equal → with_group g (x ∷ xs) ≡ merge_of g x ∷ xs
 at_equal g x xs e = rw e refl
 
 pub at_greater : (g x : Group) (xs : List Group) → group_cmp g x ≡ Greater → with_group g (x ∷ xs) ≡ x ∷ with_group g xs
@@ -77,20 +77,20 @@ joined_parts_assoc [] qs rs = refl
 joined_parts_assoc (p ∷ ps) [] rs = refl
 joined_parts_assoc (p ∷ ps) (q ∷ qs) [] = refl
 joined_parts_assoc (p ∷ ps) (q ∷ qs) (r ∷ rs) =
-    ap (λ s. s ∷ joined_parts (joined_parts ps qs) rs) (joined_assoc p q r) ∙ ap (λ ss. joined p (joined q r) ∷ ss) (joined_parts_assoc ps qs rs)
+    ap (λ s. s ∷ joined_parts (joined_parts ps qs) rs) (joined_assoc p q r) ∙ ap (λ ss. summary_of_both p (summary_of_both q r) ∷ ss) (joined_parts_assoc ps qs rs)
 
 pub joined_parts_comm : (ps qs : List Summary) → joined_parts ps qs ≡ joined_parts qs ps
 joined_parts_comm [] [] = refl
 joined_parts_comm [] (q ∷ qs) = refl
 joined_parts_comm (p ∷ ps) [] = refl
-joined_parts_comm (p ∷ ps) (q ∷ qs) = ap (λ s. s ∷ joined_parts ps qs) (joined_comm p q) ∙ ap (λ ss. joined q p ∷ ss) (joined_parts_comm ps qs)
+joined_parts_comm (p ∷ ps) (q ∷ qs) = ap (λ s. s ∷ joined_parts ps qs) (joined_comm p q) ∙ ap (λ ss. summary_of_both q p ∷ ss) (joined_parts_comm ps qs)
 
-merged_assoc : (f g h : Group) → merged (merged f g) h ≡ merged f (merged g h)
+merged_assoc : (f g h : Group) → merge_of (merge_of f g) h ≡ merge_of f (merge_of g h)
 merged_assoc f g h =
     let made : List Summary → Group = λ ps. record { start = f.start; keys = f.keys; parts = ps } in
     ap made (joined_parts_assoc f.parts g.parts h.parts)
 
-pub merged_comm : (g h : Group) → group_cmp g h ≡ Equal → merged g h ≡ merged h g
+pub merged_comm : (g h : Group) → group_cmp g h ≡ Equal → merge_of g h ≡ merge_of h g
 merged_comm g h e =
     let place = group_cmp-place g h e in
     rw (place.0, place.1, joined_parts_comm g.parts h.parts) refl
@@ -98,20 +98,20 @@ merged_comm g h e =
 -- ---- the order in which groups are put in
 
 -- a group and one of its own place: put in one by one, or merged first
-pub with_group-twice : (g h : Group) (xs : List Group) → group_cmp g h ≡ Equal → with_group (merged g h) xs ≡ with_group g (with_group h xs)
+pub with_group-twice : (g h : Group) (xs : List Group) → group_cmp g h ≡ Equal → with_group (merge_of g h) xs ≡ with_group g (with_group h xs)
 with_group-twice g h [] e = sym (at_equal g h [] e)
 with_group-twice g h (x ∷ xs) e =
     by_order (group_cmp h x)
     (λ o.
-    let p : group_cmp (merged g h) x ≡ Less = alike g h x e ∙ o in
-    at_less (merged g h) x xs p ∙ sym (at_equal g h (x ∷ xs) e) ∙ ap (with_group g) (sym (at_less h x xs o)))
+    let p : group_cmp (merge_of g h) x ≡ Less = alike g h x e ∙ o in
+    at_less (merge_of g h) x xs p ∙ sym (at_equal g h (x ∷ xs) e) ∙ ap (with_group g) (sym (at_less h x xs o)))
     (λ o.
-    let p : group_cmp (merged g h) x ≡ Equal = alike g h x e ∙ o in
-    at_equal (merged g h) x xs p ∙ ap (λ m. m ∷ xs) (merged_assoc g h x) ∙ sym (at_equal g (merged h x) xs e) ∙ ap (with_group g) (sym (at_equal h x xs o)))
+    let p : group_cmp (merge_of g h) x ≡ Equal = alike g h x e ∙ o in
+    at_equal (merge_of g h) x xs p ∙ ap (λ m. m ∷ xs) (merged_assoc g h x) ∙ sym (at_equal g (merge_of h x) xs e) ∙ ap (with_group g) (sym (at_equal h x xs o)))
     (λ o.
-    let p : group_cmp (merged g h) x ≡ Greater = alike g h x e ∙ o in
+    let p : group_cmp (merge_of g h) x ≡ Greater = alike g h x e ∙ o in
     let q : group_cmp g x ≡ Greater = alike g h x e ∙ o in
-    at_greater (merged g h) x xs p ∙ ap (λ zs. x ∷ zs) (with_group-twice g h xs e) ∙ sym (at_greater g x (with_group h xs) q) ∙ ap (with_group g) (sym (at_greater h x xs o)))
+    at_greater (merge_of g h) x xs p ∙ ap (λ zs. x ∷ zs) (with_group-twice g h xs e) ∙ sym (at_greater g x (with_group h xs) q) ∙ ap (with_group g) (sym (at_greater h x xs o)))
 
 -- of two groups of different places, the lesser first or the greater first
 less_first : (g h : Group) (xs : List Group) → group_cmp g h ≡ Less → with_group g (with_group h xs) ≡ with_group h (with_group g xs)
@@ -125,7 +125,7 @@ less_first g h (x ∷ xs) e =
     -- g < h = x
     (λ o.
     let p : group_cmp g x ≡ Less = sym (alike_to h x g o) ∙ e in
-    ap (with_group g) (at_equal h x xs o) ∙ at_less g (merged h x) xs e ∙ ap (λ zs. g ∷ zs) (sym (at_equal h x xs o)) ∙ sym (at_greater h g (x ∷ xs) (less_back g h e)) ∙ ap (with_group h) (sym (at_less g x xs p)))
+    ap (with_group g) (at_equal h x xs o) ∙ at_less g (merge_of h x) xs e ∙ ap (λ zs. g ∷ zs) (sym (at_equal h x xs o)) ∙ sym (at_greater h g (x ∷ xs) (less_back g h e)) ∙ ap (with_group h) (sym (at_less g x xs p)))
     -- x < h, and g anywhere below h
     (λ o.
     ap (with_group g) (at_greater h x xs o)
@@ -133,7 +133,7 @@ less_first g h (x ∷ xs) e =
     (λ p.
     at_less g x (with_group h xs) p ∙ ap (λ zs. g ∷ zs) (sym (at_greater h x xs o)) ∙ sym (at_greater h g (x ∷ xs) (less_back g h e)) ∙ ap (with_group h) (sym (at_less g x xs p)))
     (λ p.
-    at_equal g x (with_group h xs) p ∙ sym (at_greater h (merged g x) xs (less_back g h e)) ∙ ap (with_group h) (sym (at_equal g x xs p)))
+    at_equal g x (with_group h xs) p ∙ sym (at_greater h (merge_of g x) xs (less_back g h e)) ∙ ap (with_group h) (sym (at_equal g x xs p)))
     (λ p.
     at_greater g x (with_group h xs) p ∙ ap (λ zs. x ∷ zs) (less_first g h xs e) ∙ sym (at_greater h x (with_group g xs) o) ∙ ap (with_group h) (sym (at_greater g x xs p))))
 

@@ -13,7 +13,7 @@ use Rattle.partial_agg.specs.Summaries.{Summary}
 use Rattle.partial_agg.specs.Groups.{group_cmp}
 use Rattle.partial_agg.proofs.GroupLaws.{group_cmp_total}
 use Rattle.group_fold.specs.declared.joins.Next.TheVariants.{Mine, Theirs, Both}
-use Rattle.group_fold.specs.Merging.{AreGroupsOfBoth, CanJoin, PartsFit, joined_parts, merged, next_of_lists, with_group, with_groups}
+use Rattle.group_fold.specs.Merging.{AreGroupsOfBoth, CanJoin, PartsFit, joined_parts, merge_of, next_of_lists, with_group, with_groups}
 use Rattle.group_fold.proofs.Insertions.{by_order, less_back, greater_back, equal_back, at_equal, at_greater, with_group-front}
 use Rattle.group_fold.proofs.Occurring.{all_above, all_above_tied}
 use Rattle.group_fold.proofs.RowGroups.{all-with_groups, sorted-groups_of, groups_of-append}
@@ -59,7 +59,7 @@ unfolding IsStrictlySortedBy
 theirs_first g gs h hs c e =
     past h (g ∷ gs) hs (e, all_back h gs (all_above group_cmp group_cmp_total h g gs (greater_back g h e) c.mine.0))
 
-pub both_first : (g : Group) (gs : List Group) (h : Group) (hs : List Group) → CanJoin (g ∷ gs) (h ∷ hs) → group_cmp g h ≡ Equal → with_groups (g ∷ gs) (h ∷ hs) ≡ merged g h ∷ with_groups gs hs
+pub both_first : (g : Group) (gs : List Group) (h : Group) (hs : List Group) → CanJoin (g ∷ gs) (h ∷ hs) → group_cmp g h ≡ Equal → with_groups (g ∷ gs) (h ∷ hs) ≡ merge_of g h ∷ with_groups gs hs
 unfolding IsStrictlySortedBy
 both_first g gs h hs c e =
     ap (with_group g) (past h gs hs (all_back h gs (all_above_tied group_cmp group_cmp_total h g gs (equal_back g h e) c.mine.0))) ∙ at_equal g h (with_groups gs hs) e
@@ -113,7 +113,7 @@ both_taken g h parts gs gs' hs hs' p q e c made =
     let made' : List Summary → Group = λ ps. record { start = g.start; keys = g.keys; parts = ps } in
     (ap (λ xs. with_groups xs hs) p ∙ ap (with_groups (g ∷ gs')) q ∙ both_first g gs' h hs' c' tied ∙ ap (λ ps. made' ps ∷ with_groups gs' hs') (sym made), without_theirs gs' h hs' (without_mine g gs' (h ∷ hs') c'))
 
-pub merged_taken : (g h both : Group) (gs gs' hs hs' : List Group) → gs ≡ g ∷ gs' → hs ≡ h ∷ hs' → next_of_lists gs hs ≡ Both → CanJoin gs hs → both ≡ merged g h → (with_groups gs hs ≡ both ∷ with_groups gs' hs') × CanJoin gs' hs'
+pub merged_taken : (g h both : Group) (gs gs' hs hs' : List Group) → gs ≡ g ∷ gs' → hs ≡ h ∷ hs' → next_of_lists gs hs ≡ Both → CanJoin gs hs → both ≡ merge_of g h → (with_groups gs hs ≡ both ∷ with_groups gs' hs') × CanJoin gs' hs'
 merged_taken g h both gs gs' hs hs' p q e c made =
     let taken = both_taken g h (joined_parts g.parts h.parts) gs gs' hs hs' p q e c refl in
     (taken.0 ∙ ap (λ x. x ∷ with_groups gs' hs') (sym made), taken.1)

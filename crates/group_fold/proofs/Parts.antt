@@ -3,7 +3,7 @@ use Rattle.std.proofs.Common.{◌≡◌, ℕ, zero, suc, ◌+◌, ◌<◌, ◌^�
 use Rattle.std.specs.List.{AllByRecursion}
 use Rattle.std.proofs.lemmas.List.{take_all, take_more}
 use Rattle.std.proofs.lemmas.List.Elements.{All-from_recursion, length_all_zip, AllZip-get_or}
-use Rattle.partial_agg.specs.Summaries.{Summary, joined}
+use Rattle.partial_agg.specs.Summaries.{Summary, summary_of_both}
 use Rattle.group_fold.specs.Merging.{joined_parts, PartsFit}
 
 pub length-joined_parts : (ps qs : List Summary) → length ps ≡ length qs → length (joined_parts ps qs) ≡ length ps
@@ -11,7 +11,7 @@ length-joined_parts [] qs e = refl
 length-joined_parts (p ∷ ps) [] e = absurd (omega (arith, e))
 length-joined_parts (p ∷ ps) (q ∷ qs) e = let h : length ps ≡ length qs = omega (arith, e) in ap suc (length-joined_parts ps qs h)
 
-joined_parts-at : (ps qs : List Summary) (k : ℕ) (d e f : Summary) → k < length ps → k < length qs → get_or (joined_parts ps qs) k f ≡ joined (get_or ps k d) (get_or qs k e)
+joined_parts-at : (ps qs : List Summary) (k : ℕ) (d e f : Summary) → k < length ps → k < length qs → get_or (joined_parts ps qs) k f ≡ summary_of_both (get_or ps k d) (get_or qs k e)
 joined_parts-at [] qs k d e f h i = absurd (omega arith)
 joined_parts-at (p ∷ ps) [] k d e f h i = absurd (omega arith)
 joined_parts-at (p ∷ ps) (q ∷ qs) zero d e f h i = refl
@@ -50,11 +50,11 @@ part_before k ps qs now d e is h =
     ap (λ xs. get_or xs k d) is ∙ cut_at k (joined_parts ps qs) ps d (omega (arith, many)) h
 
 -- place k is joined
-pub part_step : (k : ℕ) (ps qs now next : List Summary) (old new d e : Summary) → length ps ≡ length qs → now ≡ take k (joined_parts ps qs) ++ drop k ps → k < length ps → old ≡ get_or now k d → new ≡ joined old (get_or qs k e) → next ≡ set now k new → next ≡ take (k + 1) (joined_parts ps qs) ++ drop (k + 1) ps
+pub part_step : (k : ℕ) (ps qs now next : List Summary) (old new d e : Summary) → length ps ≡ length qs → now ≡ take k (joined_parts ps qs) ++ drop k ps → k < length ps → old ≡ get_or now k d → new ≡ summary_of_both old (get_or qs k e) → next ≡ set now k new → next ≡ take (k + 1) (joined_parts ps qs) ++ drop (k + 1) ps
 part_step k ps qs now next old new d e same is h was made put =
     let many = length-joined_parts ps qs same in
     let at : old ≡ get_or ps k d = was ∙ part_before k ps qs now d same is h in
-    let value : new ≡ get_or (joined_parts ps qs) k d = made ∙ ap (λ o. joined o (get_or qs k e)) at ∙ sym (joined_parts-at ps qs k d e d h (omega (arith, same))) in
+    let value : new ≡ get_or (joined_parts ps qs) k d = made ∙ ap (λ o. summary_of_both o (get_or qs k e)) at ∙ sym (joined_parts-at ps qs k d e d h (omega (arith, same))) in
     rw add-one (put ∙ ap (λ xs. set xs k new) is ∙ ap (set (take k (joined_parts ps qs) ++ drop k ps) k) value ∙ cut_set k (joined_parts ps qs) ps d (omega (arith, many)) h)
 
 pub part_within : (k : ℕ) (ps qs now : List Summary) → length ps ≡ length qs → now ≡ take k (joined_parts ps qs) ++ drop k ps → k < length ps → k < length now
@@ -82,12 +82,12 @@ part_room k ps qs mine theirs fit h is are =
     subst (λ p. p.count + theirs.count < 2 ^ 62) (sym is) (subst (λ q. (get_or ps k mine).count + q.count < 2 ^ 62) (sym are) (AllZip-get_or (λ p q. p.count + q.count < 2 ^ 62) ps qs k mine theirs fit h))
 
 -- one more of the joined parts
-pub joined_more : (k : ℕ) (ps qs now : List Summary) (mine theirs both : Summary) → PartsFit ps qs → k < length ps → now ≡ take k (joined_parts ps qs) → mine ≡ get_or ps k mine → theirs ≡ get_or qs k theirs → both ≡ joined mine theirs → now ++ both ∷ [] ≡ take (k + 1) (joined_parts ps qs)
+pub joined_more : (k : ℕ) (ps qs now : List Summary) (mine theirs both : Summary) → PartsFit ps qs → k < length ps → now ≡ take k (joined_parts ps qs) → mine ≡ get_or ps k mine → theirs ≡ get_or qs k theirs → both ≡ summary_of_both mine theirs → now ++ both ∷ [] ≡ take (k + 1) (joined_parts ps qs)
 joined_more k ps qs now mine theirs both fit h so_far is are made =
     let same = parts_fit-length ps qs fit in
     let many = length-joined_parts ps qs same in
     let at : get_or (joined_parts ps qs) k both ≡ both =
-    joined_parts-at ps qs k mine theirs both h (omega (arith, same)) ∙ (ap (λ p. joined p (get_or qs k theirs)) (sym is) ∙ (ap (joined mine) (sym are) ∙ sym made)) in
+    joined_parts-at ps qs k mine theirs both h (omega (arith, same)) ∙ (ap (λ p. summary_of_both p (get_or qs k theirs)) (sym is) ∙ (ap (summary_of_both mine) (sym are) ∙ sym made)) in
     ap (λ xs. xs ++ both ∷ []) so_far ∙ (ap (λ x. take k (joined_parts ps qs) ++ x ∷ []) (sym at) ∙ sym (take_more (joined_parts ps qs) k both (omega (arith, many))))
 
 pub joined_all : (k : ℕ) (ps qs now : List Summary) → PartsFit ps qs → now ≡ take k (joined_parts ps qs) → k ≡ length ps → now ≡ joined_parts ps qs

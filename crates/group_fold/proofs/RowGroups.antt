@@ -20,7 +20,7 @@ use Rattle.partial_agg.specs.Groups.{group_cmp, AreInOrder}
 use Rattle.partial_agg.proofs.GroupLaws.{group_cmp_total}
 use Rattle.group_fold.specs.Grouping.{row_group}
 use Rattle.ts_model.specs.Groups.{bucket_groups, groups_in, groups_of}
-use Rattle.group_fold.specs.Merging.{merged, with_group, with_groups, taken}
+use Rattle.group_fold.specs.Merging.{merge_of, with_group, with_groups, groups_with_row}
 use Rattle.group_fold.proofs.Insertions.{by_order, with_group-commutes, with_groups-with_group}
 use Rattle.group_fold.proofs.Occurring.{all-map, all-once, sorted-once, any-once, flat_map-same, is_eq-swap, all_above, all_above_tied}
 use Rattle.group_fold.proofs.Steps.{put_bucket, untied_number}
@@ -68,13 +68,13 @@ module _ (fold : Fold) (wide : IsWidth fold.width) where
       out b row rows fail = rw (fail, and-false (holds fold.width b row.at)) refl
 
   -- a row in front is taken in
-  pub groups_of-more : (row : Row) (rows : List Row) → groups_of fold (row ∷ rows) ≡ taken fold row (groups_of fold rows)
+  pub groups_of-more : (row : Row) (rows : List Row) → groups_of fold (row ∷ rows) ≡ groups_with_row fold row (groups_of fold rows)
   groups_of-more row rows =
       by_test (passes_all row fold.tests)
       (λ e. passing row rows e ∙ sym (rw e refl))
       (λ e. failing row rows e ∙ sym (rw e refl))
 
-  pub taken-commutes : (row other : Row) (groups : List Group) → taken fold row (taken fold other groups) ≡ taken fold other (taken fold row groups)
+  pub taken-commutes : (row other : Row) (groups : List Group) → groups_with_row fold row (groups_with_row fold other groups) ≡ groups_with_row fold other (groups_with_row fold row groups)
   taken-commutes row other groups = both (passes_all row fold.tests) (passes_all other fold.tests)
     where
       both : (s t : Bool) → cond s (with_group (row_group fold row) (cond t (with_group (row_group fold other) groups) groups)) (cond t (with_group (row_group fold other) groups) groups) ≡ cond t (with_group (row_group fold other) (cond s (with_group (row_group fold row) groups) groups)) (cond s (with_group (row_group fold row) groups) groups)
@@ -84,22 +84,22 @@ module _ (fold : Fold) (wide : IsWidth fold.width) where
       both false false = refl
 
   -- a row at the end is taken in too
-  pub groups_of-push : (rows : List Row) (row : Row) → groups_of fold (rows ++ row ∷ []) ≡ taken fold row (groups_of fold rows)
+  pub groups_of-push : (rows : List Row) (row : Row) → groups_of fold (rows ++ row ∷ []) ≡ groups_with_row fold row (groups_of fold rows)
   groups_of-push [] row = groups_of-more row []
   groups_of-push (x ∷ rows) row =
-      groups_of-more x (rows ++ row ∷ []) ∙ ap (taken fold x) (groups_of-push rows row) ∙ taken-commutes x row (groups_of fold rows) ∙ ap (taken fold row) (sym (groups_of-more x rows))
+      groups_of-more x (rows ++ row ∷ []) ∙ ap (groups_with_row fold x) (groups_of-push rows row) ∙ taken-commutes x row (groups_of fold rows) ∙ ap (groups_with_row fold row) (sym (groups_of-more x rows))
 
   -- the groups of two lists of rows are those of each put together
   pub groups_of-append : (xs ys : List Row) → groups_of fold (xs ++ ys) ≡ with_groups (groups_of fold xs) (groups_of fold ys)
   groups_of-append [] ys = refl
   groups_of-append (x ∷ xs) ys =
-      groups_of-more x (xs ++ ys) ∙ ap (taken fold x) (groups_of-append xs ys)
+      groups_of-more x (xs ++ ys) ∙ ap (groups_with_row fold x) (groups_of-append xs ys)
       ∙ by_test (passes_all x fold.tests)
       (λ e. rw e refl ∙ sym (with_groups-with_group (row_group fold x) (groups_of fold xs) (groups_of fold ys)) ∙ ap (λ gs. with_groups gs (groups_of fold ys)) (sym (passing x xs e)))
       (λ e. rw e refl ∙ ap (λ gs. with_groups gs (groups_of fold ys)) (sym (failing x xs e)))
 
 -- after one more row of a list
-pub groups_of_step : (fold : Fold) → IsWidth fold.width → (rows : List Row) (i : ℕ) (row : Row) → i < length rows → row ≡ get_or rows i row → groups_of fold (take (i + 1) rows) ≡ taken fold row (groups_of fold (take i rows))
+pub groups_of_step : (fold : Fold) → IsWidth fold.width → (rows : List Row) (i : ℕ) (row : Row) → i < length rows → row ≡ get_or rows i row → groups_of fold (take (i + 1) rows) ≡ groups_with_row fold row (groups_of fold (take i rows))
 groups_of_step fold wide rows i row h is = ap (groups_of fold) (take_more rows i row h ∙ ap (λ x. take i rows ++ x ∷ []) (sym is)) ∙ groups_of-push fold wide (take i rows) row
 
 pub row_passed : (fold : Fold) → IsWidth fold.width → (rows : List Row) (i : ℕ) (row : Row) (before after : List Group) → i < length rows → row ≡ get_or rows i row → passes_all row fold.tests ≡ true → before ≡ groups_of fold (take i rows) → after ≡ with_group (row_group fold row) before → after ≡ groups_of fold (take (i + 1) rows)
@@ -112,7 +112,7 @@ row_failed fold wide rows i row before h is fail was =
 
 -- ---- their order
 
-pub all-with_group : (P : Group → Type 0) → ((g h : Group) → P g → P (merged g h)) → (g : Group) (xs : List Group) → P g → AllByRecursion P xs → AllByRecursion P (with_group g xs)
+pub all-with_group : (P : Group → Type 0) → ((g h : Group) → P g → P (merge_of g h)) → (g : Group) (xs : List Group) → P g → AllByRecursion P xs → AllByRecursion P (with_group g xs)
 all-with_group P keeps g [] p h = (p, tt)
 all-with_group P keeps g (x ∷ xs) p h =
     by_order (group_cmp g x)
@@ -120,7 +120,7 @@ all-with_group P keeps g (x ∷ xs) p h =
     (λ e. rw e (keeps g x p, h.1))
     (λ e. rw e (h.0, all-with_group P keeps g xs p h.1))
 
-pub all-with_groups : (P : Group → Type 0) → ((g h : Group) → P g → P (merged g h)) → (gs hs : List Group) → AllByRecursion P gs → AllByRecursion P hs → AllByRecursion P (with_groups gs hs)
+pub all-with_groups : (P : Group → Type 0) → ((g h : Group) → P g → P (merge_of g h)) → (gs hs : List Group) → AllByRecursion P gs → AllByRecursion P hs → AllByRecursion P (with_groups gs hs)
 all-with_groups P keeps [] hs p h = h
 all-with_groups P keeps (g ∷ gs) hs p h = all-with_group P keeps g (with_groups gs hs) p.0 (all-with_groups P keeps gs hs p.1 h)
 
@@ -139,7 +139,7 @@ pub sorted-with_groups : (gs hs : List Group) → AreInOrder hs → AreInOrder (
 sorted-with_groups [] hs h = h
 sorted-with_groups (g ∷ gs) hs h = sorted-with_group g (with_groups gs hs) (sorted-with_groups gs hs h)
 
-pub sorted-taken : (fold : Fold) (row : Row) (groups : List Group) → AreInOrder groups → AreInOrder (taken fold row groups)
+pub sorted-taken : (fold : Fold) (row : Row) (groups : List Group) → AreInOrder groups → AreInOrder (groups_with_row fold row groups)
 sorted-taken fold row groups h =
     by_test (passes_all row fold.tests)
     (λ e. rw e (sorted-with_group (row_group fold row) groups h))

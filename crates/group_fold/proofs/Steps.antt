@@ -19,12 +19,12 @@ use Rattle.ts_model.specs.declared.views.Agg.{Agg}
 use Rattle.ts_model.specs.declared.views.Fold.{Fold}
 use Rattle.ts_model.specs.Scratch.{keys_of, bucket_rows, key_lists, with_keys}
 use Rattle.partial_agg.specs.declared.groups.Group.{Group}
-use Rattle.partial_agg.specs.Summaries.{Summary, summary, joined}
+use Rattle.partial_agg.specs.Summaries.{Summary, summary, summary_of_both}
 use Rattle.partial_agg.specs.Groups.{group_cmp}
 use Rattle.partial_agg.proofs.Joined.{summary-append}
 use Rattle.group_fold.specs.Grouping.{row_at, row_group}
 use Rattle.ts_model.specs.Groups.{column, group_at, bucket_groups, groups_in}
-use Rattle.group_fold.specs.Merging.{joined_parts, merged, with_group}
+use Rattle.group_fold.specs.Merging.{joined_parts, merge_of, with_group}
 use Rattle.group_fold.proofs.Insertions.{by_order, at_less, at_equal, at_greater, with_group-front, with_group-low, with_group-past}
 use Rattle.group_fold.proofs.Occurring.{all-map, all-flat_map, map-same, flat_map-same, none_from_all, not_eq-less, not_eq-greater, is_eq-swap, all_above, all_above_tied, all_untied, sorted-once, any-once, key_less, key_equal, key_greater}
 use Rattle.ts_schema.proofs.Cases.{all_weaker}
@@ -35,8 +35,8 @@ use Rattle.ts_schema.proofs.Cases.{all_weaker}
 parts_more : (row : Row) (rows : List Row) (aggs : List Agg) → map (λ agg. summary (column (row ∷ rows) agg)) aggs ≡ joined_parts (map (λ agg. summary (field_of row agg.col ∷ [])) aggs) (map (λ agg. summary (column rows agg)) aggs)
 parts_more row rows [] = refl
 parts_more row rows (agg ∷ aggs) =
-    let first : summary (column (row ∷ rows) agg) ≡ joined (summary (field_of row agg.col ∷ [])) (summary (column rows agg)) = summary-append (field_of row agg.col ∷ []) (column rows agg) in
-    ap (λ s. s ∷ map (λ agg. summary (column (row ∷ rows) agg)) aggs) first ∙ ap (λ ss. joined (summary (field_of row agg.col ∷ [])) (summary (column rows agg)) ∷ ss) (parts_more row rows aggs)
+    let first : summary (column (row ∷ rows) agg) ≡ summary_of_both (summary (field_of row agg.col ∷ [])) (summary (column rows agg)) = summary-append (field_of row agg.col ∷ []) (column rows agg) in
+    ap (λ s. s ∷ map (λ agg. summary (column (row ∷ rows) agg)) aggs) first ∙ ap (λ ss. summary_of_both (summary (field_of row agg.col ∷ [])) (summary (column rows agg)) ∷ ss) (parts_more row rows aggs)
 
 module _ (fold : Fold) (b : ℤ) (row : Row) (found : List Row) where
   -- the group of other keys stays
@@ -48,7 +48,7 @@ module _ (fold : Fold) (b : ℤ) (row : Row) (found : List Row) where
   group_at-new none = rw (tied_itself values_cmp_total (keys_of fold.keys row), none) refl
 
   -- a group takes the row in
-  group_at-more : (q : List (Option ℤ)) → values_cmp (keys_of fold.keys row) q ≡ Equal → group_at fold b (row ∷ found) q ≡ merged (row_at fold b row) (group_at fold b found q)
+  group_at-more : (q : List (Option ℤ)) → values_cmp (keys_of fold.keys row) q ≡ Equal → group_at fold b (row ∷ found) q ≡ merge_of (row_at fold b row) (group_at fold b found q)
   group_at-more q e =
       let same : keys_of fold.keys row ≡ q = values_cmp_exact (keys_of fold.keys row) q e in
       let made : List (Option ℤ) → List Summary → Group = λ ks ps. record { start = b; keys = ks; parts = ps } in
@@ -82,7 +82,7 @@ module _ (fold : Fold) (b : ℤ) (row : Row) (found : List Row) where
       let place : group_cmp (row_at fold b row) (group_at fold b found q) ≡ Equal = by_keys q ∙ e in
       ap (map (group_at fold b (row ∷ found))) (key_equal values_cmp values_cmp_total (keys_of fold.keys row) q qs e)
       ∙ ap (λ g. g ∷ map (group_at fold b (row ∷ found)) qs) (group_at-more q e)
-      ∙ ap (λ gs. merged (row_at fold b row) (group_at fold b found q) ∷ gs) (groups_others qs above)
+      ∙ ap (λ gs. merge_of (row_at fold b row) (group_at fold b found q) ∷ gs) (groups_others qs above)
       ∙ sym (at_equal (row_at fold b row) (group_at fold b found q) (map (group_at fold b found) qs) place))
       (λ e.
       let place : group_cmp (row_at fold b row) (group_at fold b found q) ≡ Greater = by_keys q ∙ e in

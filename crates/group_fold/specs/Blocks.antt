@@ -8,18 +8,18 @@ use Rattle.partial_agg.specs.declared.groups.Group.{Group}
 use Rattle.partial_agg.specs.Groups.{group_cmp}
 use Rattle.partial_agg.specs.Summaries.{Summary}
 use Rattle.group_fold.specs.declared.heads.Head.{Head}
-use Rattle.group_fold.specs.declared.heads.Place.{Place}
+use Rattle.group_fold.specs.declared.heads.PartsPlace.{PartsPlace}
 use Rattle.group_fold.specs.Grouping.{row_parts}
 use Rattle.group_fold.specs.Merging.{joined_parts}
 
 -- ---- what stands in blocks
 
 -- the partial aggregates at a place, so many
-abbrev pub parts_at : ℕ → List (List Summary) → Place → List Summary
+abbrev pub parts_at : ℕ → List (List Summary) → PartsPlace → List Summary
 parts_at n blocks p = take n (drop p.from (slice_index_or blocks p.block []))
 
 -- there are so many at a place
-pub record HasPartsAt (n : ℕ) (blocks : List (List Summary)) (p : Place) : Type 0 where
+pub record HasPartsAt (n : ℕ) (blocks : List (List Summary)) (p : PartsPlace) : Type 0 where
   pub block : p.block < length blocks
   pub within : p.from + n ≤ length (slice_index_or blocks p.block [])
 
@@ -33,11 +33,11 @@ shown_groups n blocks heads = map (shown_group n blocks) heads
 -- ---- what groups in blocks have
 
 -- the partial aggregates at two places don't meet
-abbrev pub ArePartsApart : ℕ → Place → Place → Type 0
+abbrev pub ArePartsApart : ℕ → PartsPlace → PartsPlace → Type 0
 ArePartsApart n p q = p.block ≡ q.block → p.from < q.from + n → q.from < p.from + n → ⊥
 
 -- those at a place don't meet those of these groups
-abbrev pub IsPlaceApart : ℕ → Place → List Head → Type 0
+abbrev pub IsPlaceApart : ℕ → PartsPlace → List Head → Type 0
 IsPlaceApart n p heads = AllByRecursion (λ h. ArePartsApart n p h.place) heads
 
 -- those of no two groups meet
@@ -55,13 +55,13 @@ pub record StandIn (n : ℕ) (blocks : List (List Summary)) (heads : List Head) 
 -- what stood in the blocks stands there still
 abbrev pub Keeps : List (List Summary) → List (List Summary) → Type 0
 Keeps old new =
-    (n : ℕ) (p : Place) → HasPartsAt n old p → HasPartsAt n new p × (parts_at n new p ≡ parts_at n old p)
+    (n : ℕ) (p : PartsPlace) → HasPartsAt n old p → HasPartsAt n new p × (parts_at n new p ≡ parts_at n old p)
 
 -- these were put at a place where none stood before
-pub record IsPutAt (parts : List Summary) (old new : List (List Summary)) (p : Place) : Type 0 where
+pub record IsPutAt (parts : List Summary) (old new : List (List Summary)) (p : PartsPlace) : Type 0 where
   pub there : HasPartsAt (length parts) new p
   pub are : parts_at (length parts) new p ≡ parts
-  pub apart : (q : Place) → HasPartsAt (length parts) old q → ArePartsApart (length parts) p q
+  pub apart : (q : PartsPlace) → HasPartsAt (length parts) old q → ArePartsApart (length parts) p q
 
 -- ---- one of the groups
 
@@ -71,5 +71,5 @@ pub record IsHeadAt (g : Group) (heads : List Head) (at : ℕ) : Type 0 where
   pub same : (d : Head) → group_cmp (shown_group 0 [] (slice_index_or heads at d)) g ≡ Equal
 
 -- a group that has taken in a row
-abbrev pub grown : Fold → Row → Group → Group
-grown fold row g = record { start = g.start; keys = g.keys; parts = joined_parts g.parts (row_parts fold.aggs row) }
+abbrev pub group_with_row : Fold → Row → Group → Group
+group_with_row fold row g = record { start = g.start; keys = g.keys; parts = joined_parts g.parts (row_parts fold.aggs row) }

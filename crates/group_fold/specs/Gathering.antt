@@ -13,8 +13,8 @@ use Rattle.ts_model.specs.Groups.{groups_of}
 use Rattle.group_fold.specs.Merging.{with_group, with_groups}
 
 -- groups of no order put in order, where those of the same bucket and keys are merged
-abbrev pub ordered : List Group → List Group
-ordered groups = with_groups groups []
+abbrev pub in_group_order : List Group → List Group
+in_group_order groups = with_groups groups []
 
 -- the bucket of a time starts here, or one before all times
 abbrev pub IsStart : WidthValue → ℤ → Type 0
@@ -35,9 +35,9 @@ most_counted [] = 0
 most_counted (p ∷ ps) = max p.count (most_counted ps)
 
 -- the counts of groups taken together
-abbrev pub counted : List Group → ℕ
-counted [] = 0
-counted (g ∷ gs) = most_counted g.parts + counted gs
+abbrev pub total_rows : List Group → ℕ
+total_rows [] = 0
+total_rows (g ∷ gs) = most_counted g.parts + total_rows gs
 
 -- every group has so many parts
 abbrev pub HaveParts : ℕ → List Group → Type 0
@@ -51,24 +51,24 @@ parts_each (g ∷ gs) = length g.parts
 -- groups of no order can be put in order: they have as many parts, and their counts can be added up
 pub record CanOrder (groups : List Group) : Type 0 where
   pub alike : HaveParts (parts_each groups) groups
-  pub few : counted groups < 2 ^ 62
+  pub few : total_rows groups < 2 ^ 62
 
 -- groups of a plan, with room for so many rows more
 pub record HasRoom (more : ℕ) (fold : Fold) (groups : List Group) : Type 0 where
   pub alike : HaveParts (length fold.aggs) groups
-  pub few : counted groups + more < 2 ^ 62
+  pub few : total_rows groups + more < 2 ^ 62
 
 -- these are, in some order, the groups of these rows
 pub record IsGathered (fold : Fold) (rows : List Row) (groups : List Group) : Type 0 where
-  pub groups_are : ordered groups ≡ groups_of fold rows
+  pub groups_are : in_group_order groups ≡ groups_of fold rows
   pub alike : HaveParts (length fold.aggs) groups
-  pub few : counted groups ≤ length rows
+  pub few : total_rows groups ≤ length rows
 
 -- one row was taken in
 pub record Takes (fold : Fold) (row : Row) (old new : List Group) : Type 0 where
-  pub groups_are : ordered new ≡ with_group (row_group fold row) (ordered old)
+  pub groups_are : in_group_order new ≡ with_group (row_group fold row) (in_group_order old)
   pub alike : HaveParts (length fold.aggs) new
-  pub few : counted new ≤ suc (counted old)
+  pub few : total_rows new ≤ suc (total_rows old)
 
 -- these rows were taken in: what were the groups of some rows are now those of these rows too
 abbrev pub TakesAll : Fold → List Row → List Group → List Group → Type 0

@@ -12,23 +12,23 @@ use Rattle.ts_model.specs.Groups.{groups_of}
 use Rattle.group_fold.specs.declared.joins.Next.{Next}
 use Rattle.group_fold.specs.declared.joins.Next.TheVariants.{Rest, Mine, Theirs, Both}
 use Rattle.partial_agg.specs.declared.groups.Group.{Group}
-use Rattle.partial_agg.specs.Summaries.{Summary, joined}
+use Rattle.partial_agg.specs.Summaries.{Summary, summary_of_both}
 use Rattle.partial_agg.specs.Groups.{group_cmp, AreInOrder}
 
 -- partial aggregates joined, place by place
 abbrev pub joined_parts : List Summary → List Summary → List Summary
 joined_parts [] qs = []
 joined_parts (p ∷ ps) [] = []
-joined_parts (p ∷ ps) (q ∷ qs) = joined p q ∷ joined_parts ps qs
+joined_parts (p ∷ ps) (q ∷ qs) = summary_of_both p q ∷ joined_parts ps qs
 
 -- a group that has taken in another of the same bucket and keys
-abbrev pub merged : Group → Group → Group
-merged g h = record { start = g.start; keys = g.keys; parts = joined_parts g.parts h.parts }
+abbrev pub merge_of : Group → Group → Group
+merge_of g h = record { start = g.start; keys = g.keys; parts = joined_parts g.parts h.parts }
 
 -- groups in order, with one more in its place, or merged with the group that has the place
 abbrev pub with_group : Group → List Group → List Group
 with_group g [] = g ∷ []
-with_group g (x ∷ xs) = match_ordering (group_cmp g x) (g ∷ x ∷ xs) (merged g x ∷ xs) (x ∷ with_group g xs)
+with_group g (x ∷ xs) = match_ordering (group_cmp g x) (g ∷ x ∷ xs) (merge_of g x ∷ xs) (x ∷ with_group g xs)
 
 -- groups in order, with these in their places
 abbrev pub with_groups : List Group → List Group → List Group
@@ -66,9 +66,9 @@ next_of_lists (g ∷ gs) [] = Mine
 next_of_lists (g ∷ gs) (h ∷ hs) = match_ordering (group_cmp g h) Mine Both Theirs
 
 -- groups that have taken in one more row, where it passes every test
-abbrev pub taken : Fold → Row → List Group → List Group
-taken fold row groups = cond (passes_all row fold.tests) (with_group (row_group fold row) groups) groups
+abbrev pub groups_with_row : Fold → Row → List Group → List Group
+groups_with_row fold row groups = cond (passes_all row fold.tests) (with_group (row_group fold row) groups) groups
 
 -- the first item of a list was taken, or none, where the list is a rest
 abbrev pub TakesFirst : {X : Type 0} → Option X → List X → List X → List X → Type 0
-TakesFirst taken old new rest = MatchOption taken (old ≡ rest) (λ first. old ≡ first ∷ new)
+TakesFirst groups_with_row old new rest = MatchOption groups_with_row (old ≡ rest) (λ first. old ≡ first ∷ new)

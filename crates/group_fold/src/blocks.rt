@@ -5,7 +5,7 @@ ghost use Rattle.group_fold.specs.Grouping.{row_parts};
 ghost use Rattle.group_fold.specs.Merging.{joined_parts};
 ghost use Rattle.group_fold.specs.Blocks.{IsPutAt, Keeps};
 
-use crate::heads::Place;
+use crate::heads::PartsPlace;
 use crate::members::add_to_parts;
 use partial_agg::Partial;
 use std::alloc::Global;
@@ -72,7 +72,7 @@ impl Block {
     }
 
     /// The same list, whose parts groups can share. Room that wasn't needed is given back.
-    pub(crate) fn shared(self, alloc: Global) -> Result<SharedSlice<Partial>, NoMemory>
+    pub(crate) fn share(self, alloc: Global) -> Result<SharedSlice<Partial>, NoMemory>
         ensures { IfOk result (λ parts. parts ≡ self) }
     {
         let mut parts = self.parts;
@@ -96,7 +96,7 @@ pub(crate) fn put_parts(
     blocks: &mut Vec<Block>,
     aggs: &[Agg],
     row: &Row,
-) -> Result<Place, NoMemory>
+) -> Result<PartsPlace, NoMemory>
     ensures kept { Keeps blocks.old.items blocks.new.items }
     ensures put { IfOk result (IsPutAt (row_parts aggs.now row.now) blocks.old.items blocks.new.items) }
 {
@@ -105,7 +105,7 @@ pub(crate) fn put_parts(
 }
 
 /// The same, into the last block.
-fn put_last(blocks: &mut Vec<Block>, aggs: &[Agg], row: &Row) -> Result<Place, NoMemory>
+fn put_last(blocks: &mut Vec<Block>, aggs: &[Agg], row: &Row) -> Result<PartsPlace, NoMemory>
     requires { 0 < length blocks.old.items }
     ensures kept { Keeps blocks.old.items blocks.new.items }
     ensures put { IfOk result (IsPutAt (row_parts aggs.now row.now) blocks.old.items blocks.new.items) }
@@ -117,12 +117,12 @@ fn put_last(blocks: &mut Vec<Block>, aggs: &[Agg], row: &Row) -> Result<Place, N
 }
 
 /// A place, where 32 bits hold its numbers.
-fn place_of(block: usize, from: usize) -> Result<Place, NoMemory>
+fn place_of(block: usize, from: usize) -> Result<PartsPlace, NoMemory>
     ensures block { IfOk result (λ place. place.block ≡ block) }
     ensures from { IfOk result (λ place. place.from ≡ from) }
 {
     match (u32::try_from(block), u32::try_from(from)) {
-        (Ok(block), Ok(from)) => Ok(Place { block, from }),
+        (Ok(block), Ok(from)) => Ok(PartsPlace { block, from }),
         (Err(_), _) => Err(NoMemory),
         (_, Err(_)) => Err(NoMemory),
     }

@@ -5,7 +5,7 @@ ghost use Rattle.ts_bucket.specs.Bucket.{IsWidth};
 ghost use Rattle.group_fold.specs.Grouping.{AreGroupsInAnyOrder, AreTimes, ShowScratch};
 ghost use Rattle.ts_model.specs.Groups.{groups_of};
 
-use crate::gathered::Gathered;
+use crate::group_table::GroupTable;
 use crate::orders::in_order;
 use partial_agg::Group;
 use std::alloc::Global;
@@ -31,7 +31,7 @@ fn fold_rows(alloc: Global, plan: &Fold, rows: &[Row]) -> Result<Vec<Group>, NoM
     requires width { IsWidth plan.now.width }
     ensures { IfOk result (λ groups. groups.items ≡ groups_of plan.now rows.now) }
 {
-    let mut gathered = Gathered::new(alloc);
+    let mut gathered = GroupTable::new(alloc);
     gathered.take_rows(alloc, plan, rows)?;
     in_order(alloc, gathered.groups.settle(alloc)?)
 }

@@ -4,7 +4,7 @@ use partial_agg::Keys;
 
 /// Where the partial aggregates of a group begin.
 #[derive(Drop, Clone, Copy)]
-pub(crate) struct Place {
+pub(crate) struct PartsPlace {
     /// The number of the block.
     pub(crate) block: u32,
     /// The place in the block.
@@ -16,5 +16,5 @@ pub(crate) struct Place {
 pub(crate) struct Head {
     pub(crate) start: i64,
     pub(crate) keys: Keys,
-    pub(crate) place: Place,
+    pub(crate) place: PartsPlace,
 }

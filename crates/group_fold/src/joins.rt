@@ -3,7 +3,7 @@ ghost use Rattle.std.specs.Prelude.{◌≡◌, ◌+◌, ◌<◌, ◌≤◌, IfOk
 ghost use Rattle.std.specs.VecDeque.{deque_len};
 ghost use Rattle.partial_agg.specs.Groups.{AreInOrder};
 ghost use Rattle.group_fold.specs.Merging.{AreBefore, AreGroupsOfBoth, CanJoin, PartsFit, TakesFirst};
-ghost use Rattle.group_fold.specs.Merging.{joined_parts, merged, next_of_lists, with_groups};
+ghost use Rattle.group_fold.specs.Merging.{joined_parts, merge_of, next_of_lists, with_groups};
 
 use partial_agg::{Group, Partial, group_order};
 use std::alloc::Global;
@@ -127,7 +127,7 @@ fn merge_firsts(
         (deque_len mine.new + deque_len theirs.new < deque_len mine.old + deque_len theirs.old)) }
 {
     match (mine.pop_front(), theirs.pop_front()) {
-        (Some(group), Some(other)) => Ok(Some(merged(alloc, group, &other)?)),
+        (Some(group), Some(other)) => Ok(Some(merge_groups(alloc, group, &other)?)),
         (None, _) => Ok(None),
         (_, None) => Ok(None),
     }
@@ -135,9 +135,9 @@ fn merge_firsts(
 
 /// A group that has taken in another of the same bucket and keys. Its partial aggregates are a list of its own,
 /// since others share those of both.
-fn merged(alloc: Global, group: Group, other: &Group) -> Result<Group, NoMemory>
+fn merge_groups(alloc: Global, group: Group, other: &Group) -> Result<Group, NoMemory>
     requires { PartsFit group.parts other.now.parts }
-    ensures { IfOk result (λ both. both ≡ merged group other.now) }
+    ensures { IfOk result (λ both. both ≡ merge_of group other.now) }
 {
     let parts = merge_parts(alloc, group.parts.items(), other.parts.items())?;
     Ok(Group {

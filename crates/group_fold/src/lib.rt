@@ -2,8 +2,8 @@
 //! in many.
 //!
 //! - `folds`: the groups of a list of rows.
-//! - `foldings`: the same of rows that come list after list.
-//! - `gathered`: groups as rows are taken in, in order while rows come nearly in order, and else as they come up.
+//! - `fold_builder`: the same of rows that come list after list.
+//! - `group_table`: groups as rows are taken in, in order while rows come nearly in order, and else as they come up.
 //! - `open_groups`: groups that take rows in, `heads` and `blocks`: their buckets and keys, and what they sum up to.
 //! - `near_places`: where the group of a row stands, while rows come nearly in order.
 //! - `members`: one row beside the groups: which is its own, and what it adds to it.
@@ -16,9 +16,9 @@
 #![tactic(auto)]
 
 mod blocks;
-mod foldings;
+mod fold_builder;
 mod folds;
-mod gathered;
+mod group_table;
 mod heads;
 mod joins;
 pub mod laws;
@@ -30,7 +30,7 @@ mod pieces;
 mod scans;
 mod spans;
 
-pub use foldings::Folding;
+pub use fold_builder::FoldBuilder;
 pub use folds::fold;
 pub use joins::join_parts;
 pub use pieces::fold_pieces;

@@ -4,7 +4,7 @@ ghost use Rattle.std.specs.List.{AllByRecursion, insert};
 ghost use Rattle.partial_agg.specs.declared.groups.Group.{Group as GroupValue};
 ghost use Rattle.group_fold.specs.Grouping.{row_at};
 ghost use Rattle.group_fold.specs.Gathering.{HaveParts, IsAt, IsBelow};
-ghost use Rattle.group_fold.specs.Blocks.{HasPartsAt, IsHeadAt, grown, shown_group, shown_groups};
+ghost use Rattle.group_fold.specs.Blocks.{HasPartsAt, IsHeadAt, group_with_row, shown_group, shown_groups};
 
 use crate::blocks::{Block, put_parts};
 use crate::heads::Head;
@@ -71,7 +71,7 @@ impl OpenGroups {
         requires within { at < length self.old }
         requires room { (d : GroupValue) → IsBelow (2 ^ 62 - 1) plan.now (slice_index_or self.old at d) }
         ensures { (d : GroupValue)
-            → self.new ≡ slice_set self.old at (grown plan.now row.now (slice_index_or self.old at d)) }
+            → self.new ≡ slice_set self.old at (group_with_row plan.now row.now (slice_index_or self.old at d)) }
     {
         let place = self.heads[at].place;
         self.blocks[place.block as usize].add_row(place.from as usize, plan.aggs.items(), row);
@@ -126,7 +126,7 @@ fn shared_blocks(alloc: Global, blocks: Vec<Block>) -> Result<Vec<SharedSlice<Pa
     let mut shared = Vec::with_capacity(alloc, blocks.len())?;
     let mut left = VecDeque::from(blocks);
     while let Some(block) = left.pop_front() {
-        shared.push(block.shared(alloc)?)?;
+        shared.push(block.share(alloc)?)?;
     }
     Ok(shared)
 }

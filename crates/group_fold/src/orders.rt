@@ -2,7 +2,7 @@
 ghost use Rattle.std.specs.Prelude.{◌≡◌, ◌∷◌, true, IfOk};
 ghost use Rattle.std.specs.declared.cmp.Ordering.TheVariants.{Less};
 ghost use Rattle.partial_agg.specs.Groups.{group_cmp, AreInOrder};
-ghost use Rattle.group_fold.specs.Gathering.{CanOrder, ordered};
+ghost use Rattle.group_fold.specs.Gathering.{CanOrder, in_group_order};
 
 use crate::joins::join_lists;
 use partial_agg::Group;
@@ -13,7 +13,7 @@ use ts_schema::{NoMemory, values_order};
 /// Groups in order by bucket and keys, where those of the same bucket and keys are merged.
 pub(crate) fn in_order(alloc: Global, groups: Vec<Group>) -> Result<Vec<Group>, NoMemory>
     requires { CanOrder groups.items }
-    ensures { IfOk result (λ sorted. sorted.items ≡ ordered groups.items) }
+    ensures { IfOk result (λ sorted. sorted.items ≡ in_group_order groups.items) }
 {
     if rises(groups.as_slice()) {
         return Ok(groups);
@@ -23,7 +23,7 @@ pub(crate) fn in_order(alloc: Global, groups: Vec<Group>) -> Result<Vec<Group>, 
     if rises(sorted.as_slice()) {
         return Ok(sorted);
     }
-    merged(alloc, sorted)
+    merge_equal(alloc, sorted)
 }
 
 /// Whether each group stands before the next one, so that no two have the same bucket and keys.
@@ -68,16 +68,16 @@ fn order_of_groups(a: &Group, b: &Group) -> Ordering
 }
 
 /// The same of groups of which some have the same bucket and keys.
-fn merged(alloc: Global, groups: Vec<Group>) -> Result<Vec<Group>, NoMemory>
+fn merge_equal(alloc: Global, groups: Vec<Group>) -> Result<Vec<Group>, NoMemory>
     requires { CanOrder groups.items }
-    ensures { IfOk result (λ sorted. sorted.items ≡ ordered groups.items) }
+    ensures { IfOk result (λ sorted. sorted.items ≡ in_group_order groups.items) }
 {
     if groups.len() < 2 {
         return Ok(groups);
     }
     let mut front = groups;
     let back = front.split_off(front.len() / 2)?;
-    let mine = merged(alloc, front)?;
-    let theirs = merged(alloc, back)?;
+    let mine = merge_equal(alloc, front)?;
+    let theirs = merge_equal(alloc, back)?;
     join_lists(alloc, mine, theirs)
 }

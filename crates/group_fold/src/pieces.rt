@@ -6,7 +6,7 @@ ghost use Rattle.group_fold.specs.Grouping.{AreGroupsInAnyOrder, PiecesAreTimes,
 ghost use Rattle.ts_model.specs.Groups.{groups_of};
 ghost use denote.Param.Send.{IsSync};
 
-use crate::gathered::Gathered;
+use crate::group_table::GroupTable;
 use crate::joins::join_lists;
 use crate::orders::in_order;
 use partial_agg::Group;
@@ -112,7 +112,7 @@ fn fold_each(
     requires few { length (all_rows pieces.now) < 2 ^ 62 }
     ensures { IfOk result (λ groups. groups.items ≡ groups_of plan.now (all_rows pieces.now)) }
 {
-    let mut gathered = Gathered::new(alloc);
+    let mut gathered = GroupTable::new(alloc);
     for piece in pieces {
         gathered.take_rows(alloc, plan, piece.items())?;
     }

@@ -10,8 +10,8 @@ use Rattle.ts_model.specs.declared.views.Agg.{Agg}
 use Rattle.ts_model.specs.Groups.{shown_each}
 use Rattle.partial_agg.specs.declared.groups.Group.{Group}
 use Rattle.partial_agg.specs.Groups.{group_cmp}
-use Rattle.partial_agg.specs.Summaries.{Summary, summary, joined, shown, sum_shown, value_of}
-use Rattle.group_fold.specs.Merging.{joined_parts, merged, with_group}
+use Rattle.partial_agg.specs.Summaries.{Summary, summary, summary_of_both, datum_of, sum_shown, value_of}
+use Rattle.group_fold.specs.Merging.{joined_parts, merge_of, with_group}
 use Rattle.group_fold.proofs.Insertions.{by_order}
 use Rattle.ts_schema.specs.Rows.{values_cmp}
 use Rattle.std.specs.Ordering.{int_cmp, ordering_then}
@@ -49,7 +49,7 @@ same_shown zero (suc n) s t e to back = let h : suc n ≡ 0 = to refl in absurd 
 same_shown (suc m) zero s t e to back = let h : suc m ≡ 0 = back refl in absurd (omega (arith, h))
 same_shown (suc m) (suc n) s t e to back = ap Int e
 
-alike_shown : (fun : Fun) (p q : Summary) → Alike fun p q → shown (added_by fun) p ≡ shown fun q
+alike_shown : (fun : Fun) (p q : Summary) → Alike fun p q → datum_of (added_by fun) p ≡ datum_of fun q
 alike_shown CountAll p q h = some_shown p.values p.sum (pos q.count) h.0 h.1
 alike_shown Count p q h = some_shown p.values p.sum (pos q.values) h.0 h.1
 alike_shown Sum p q h = same_shown p.values q.values p.sum q.sum h.0 h.1 h.2
@@ -57,7 +57,7 @@ alike_shown Min p q h = ap shown_or_null h
 alike_shown Max p q h = ap shown_or_null h
 alike_shown Avg p q h = absurd (cc h)
 
-alike_joined : (fun : Fun) (p q r s : Summary) → Alike fun p q → Alike fun r s → Alike fun (joined p r) (joined q s)
+alike_joined : (fun : Fun) (p q r s : Summary) → Alike fun p q → Alike fun r s → Alike fun (summary_of_both p r) (summary_of_both q s)
 alike_joined CountAll p q r s h k = (omega (arith, ints, h.0, k.0), omega (arith, h.1))
 alike_joined Count p q r s h k = (omega (arith, ints, h.0, k.0), omega (arith, h.1))
 alike_joined Sum p q r s h k =
@@ -86,7 +86,7 @@ most_cell : (v : Option ℤ) → (summary (value_of (shown_or_null v) ∷ [])).m
 most_cell None = refl
 most_cell (Some v) = refl
 
-pub alike_cell : (fun : Fun) (q : Summary) → is_additive fun ≡ true → NoneIsZero q → Alike fun (summary (value_of (shown fun q) ∷ [])) q
+pub alike_cell : (fun : Fun) (q : Summary) → is_additive fun ≡ true → NoneIsZero q → Alike fun (summary (value_of (datum_of fun q) ∷ [])) q
 alike_cell CountAll q e none = (omega (arith, ints), omega arith)
 alike_cell Count q e none = (omega (arith, ints), omega arith)
 alike_cell Sum q e none = sum_cell q.values q.sum none
@@ -116,8 +116,8 @@ parts_shown lower upper by [] ps qs h = refl
 parts_shown lower upper by (x ∷ xs) [] qs h = absurd (cc h)
 parts_shown lower upper by (x ∷ xs) (p ∷ ps) [] h = absurd (cc h)
 parts_shown lower upper by (x ∷ xs) (p ∷ ps) (q ∷ qs) h =
-    ap (λ d. d ∷ shown_each (map upper xs) ps) (ap (λ f. shown f p) (by x) ∙ alike_shown (lower x).fun p q h.0)
-    ∙ ap (λ ds. shown (lower x).fun q ∷ ds) (parts_shown lower upper by xs ps qs h.1)
+    ap (λ d. d ∷ shown_each (map upper xs) ps) (ap (λ f. datum_of f p) (by x) ∙ alike_shown (lower x).fun p q h.0)
+    ∙ ap (λ ds. datum_of (lower x).fun q ∷ ds) (parts_shown lower upper by xs ps qs h.1)
 
 -- ---- groups
 
@@ -130,7 +130,7 @@ pub record AlikeGroup (aggs : List Agg) (g h : Group) : Type 0 where
 abbrev pub AlikeGroups : List Agg → List Group → List Group → Type 0
 AlikeGroups aggs gs hs = AllZip (AlikeGroup aggs) gs hs
 
-alike_merged : (aggs : List Agg) (g h x y : Group) → AlikeGroup aggs g h → AlikeGroup aggs x y → AlikeGroup aggs (merged g x) (merged h y)
+alike_merged : (aggs : List Agg) (g h x y : Group) → AlikeGroup aggs g h → AlikeGroup aggs x y → AlikeGroup aggs (merge_of g x) (merge_of h y)
 alike_merged aggs g h x y p q = record { start = p.start; keys = p.keys; parts = parts_joined aggs g.parts h.parts x.parts y.parts p.parts q.parts }
 
 same_order : (aggs : List Agg) (g h x y : Group) → AlikeGroup aggs g h → AlikeGroup aggs x y → group_cmp g x ≡ group_cmp h y

@@ -12,7 +12,7 @@ use Rattle.ts_model.specs.declared.views.Fold.{Fold}
 use Rattle.ts_model.specs.Groups.{cells_of, shown_each}
 use Rattle.ts_model.specs.Results.{cell_at}
 use Rattle.partial_agg.specs.declared.groups.Group.{Group}
-use Rattle.partial_agg.specs.Summaries.{Summary, shown, value_of}
+use Rattle.partial_agg.specs.Summaries.{Summary, datum_of, value_of}
 use Rattle.ts_bucket.specs.Bucket.{IsWidth}
 use Rattle.ts_bucket.specs.declared.spans.Span.{Span}
 use Rattle.cell_groups.specs.Groups.{row_shown, rows_shown}
@@ -33,7 +33,7 @@ parts_read (a ∷ aggs) [] e = refl
 parts_read (a ∷ aggs) (p ∷ parts) e =
     let both = and_parts (is_additive a.fun) (list_all (λ x. is_additive x.fun) aggs) e in
     ap (λ d. d ∷ map shown_or_null (map value_of (shown_each aggs parts))) (part_read a.fun p both.0)
-    ∙ ap (λ ds. shown a.fun p ∷ ds) (parts_read aggs parts both.1)
+    ∙ ap (λ ds. datum_of a.fun p ∷ ds) (parts_read aggs parts both.1)
 
 -- as many are shown as there are aggregates and parts
 shown_length : (aggs : List Agg) (parts : List Summary) (n : ℕ) → n ≡ length aggs → n ≡ length parts → n ≡ length (map value_of (shown_each aggs parts))
@@ -94,9 +94,9 @@ module _ (lower : Fold) (plan : UpperPlan) (wide : IsWidth lower.width) (takes :
   same_rows : (rows : List (List Datum)) → AreRowsOf lower rows → upper_rows lower plan rows ≡ rows
   same_rows rows are = rows_alone lower plan wide takes.kept rows are ∙ all_shown are.groups are.each ∙ sym are.shown
 
-pub whole_roll_ups_are_the_lower_answer : (lower : Fold) (plan : UpperPlan) (shown : Answer) → IsWidth lower.width → takes_all lower plan ≡ true → AreRowsOf lower shown.rows → AreWholeRanges lower.width shown.stale → upper_answer lower plan shown ≡ shown
-whole_roll_ups_are_the_lower_answer lower plan shown wide takes rows whole =
+pub whole_roll_ups_are_the_lower_answer : (lower : Fold) (plan : UpperPlan) (datum_of : Answer) → IsWidth lower.width → takes_all lower plan ≡ true → AreRowsOf lower datum_of.rows → AreWholeRanges lower.width datum_of.stale → upper_answer lower plan datum_of ≡ datum_of
+whole_roll_ups_are_the_lower_answer lower plan datum_of wide takes rows whole =
     let all = all_taken lower plan takes in
     let made : List (List Datum) → List Span → Answer = λ found stale. record { rows = found; stale = stale } in
-    ap (λ found. made found (upper_stale plan.width shown.stale)) (same_rows lower plan wide all shown.rows rows)
-    ∙ ap (made shown.rows) (same_ranges lower plan wide all.kept shown.stale whole)
+    ap (λ found. made found (upper_stale plan.width datum_of.stale)) (same_rows lower plan wide all datum_of.rows rows)
+    ∙ ap (made datum_of.rows) (same_ranges lower plan wide all.kept datum_of.stale whole)

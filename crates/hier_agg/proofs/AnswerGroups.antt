@@ -27,7 +27,7 @@ use Rattle.ts_model.specs.declared.views.Fold.{Fold}
 use Rattle.ts_model.specs.declared.views.ViewDef.{ViewDef}
 use Rattle.ts_model.specs.Allowed.{all_consistent}
 use Rattle.ts_model.specs.Answers.{answer_of_view, buckets_in, left_by, shown}
-use Rattle.ts_model.specs.Groups.{cells_of, column, group_at, groups_at, groups_in, groups_of, stood}
+use Rattle.ts_model.specs.Groups.{cells_of, column, group_at, groups_at, groups_in, groups_of, groups_at_last}
 use Rattle.ts_model.specs.History.{History, start, resumed, ◌▸◌, position, prefix}
 use Rattle.ts_model.specs.Refreshes.{last, stale, watermark}
 use Rattle.ts_model.specs.Roster.{IsOf, roster, view_of}
@@ -143,7 +143,7 @@ image_stand n def i b ok is =
     is
 
 -- and those of what stood in the bucket
-stood_stand : (n : ℕ) (def : ViewDef) (g : History) (s : ℕ) (b : ℤ) → IsWidth def.fold.width → is_bucket def.fold.width b ≡ true → all_consistent g ≡ true → IsOf def (view_of (roster g) n) → StandIn def.fold b (stood n def g s b)
+stood_stand : (n : ℕ) (def : ViewDef) (g : History) (s : ℕ) (b : ℤ) → IsWidth def.fold.width → is_bucket def.fold.width b ≡ true → all_consistent g ≡ true → IsOf def (view_of (roster g) n) → StandIn def.fold b (groups_at_last n def g s b)
 stood_stand n def start s b wide at ok is = rows_stand def.fold (rows def.table start) b wide at
 stood_stand n def (resumed i) s b wide at ok is =
     by_test (nat_lt s i.pos && is_dirty n i b)

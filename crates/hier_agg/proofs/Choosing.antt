@@ -14,7 +14,7 @@ use Rattle.ts_model.specs.Groups.{cells_of, shown_each}
 use Rattle.ts_model.specs.Results.{cell_at}
 use Rattle.ts_model.proofs.ResultLaws.{cell_behind, cell_of_part, value_of_cell}
 use Rattle.partial_agg.specs.declared.groups.Group.{Group}
-use Rattle.partial_agg.specs.Summaries.{shown, summary, value_of}
+use Rattle.partial_agg.specs.Summaries.{datum_of, summary, value_of}
 use Rattle.ts_bucket.specs.Bucket.{IsWidth}
 use Rattle.ts_bucket.specs.declared.spans.Span.{Span}
 use Rattle.cell_groups.specs.Groups.{row_shown, rows_shown}
@@ -63,7 +63,7 @@ cell_kept lower group c is kept =
     let past : length group.keys < suc c = omega (arith, keys) in
     let at : suc c - 1 - length group.keys ≡ n = omega (arith, keys) in
     let has_part : n < length group.parts = omega (arith, parts) in
-    let shows : cell_or_null (columns lower group) c ≡ shown (agg_at lower c).fun part =
+    let shows : cell_or_null (columns lower group) c ≡ datum_of (agg_at lower c).fun part =
     cell_behind (Int group.start) group.keys (shown_each lower.aggs group.parts) (suc c) past
     ∙ ap (cell_or_null (shown_each lower.aggs group.parts)) at
     ∙ cell_of_part lower.aggs group.parts n row_count (summary []) within has_part in
@@ -109,9 +109,9 @@ module _ (lower : Fold) (plan : UpperPlan) (wide : IsWidth lower.width) (takes :
   chosen_rows rows are =
       rows_alone lower plan wide takes.kept rows are ∙ all_chosen are.groups are.each ∙ ap (map (chosen_cells (chosen_places plan))) (sym are.shown)
 
-pub roll_ups_of_groups_choose_cells : (lower : Fold) (plan : UpperPlan) (shown : Answer) → IsWidth lower.width → takes_groups lower plan ≡ true → AreRowsOf lower shown.rows → AreWholeRanges lower.width shown.stale → upper_answer lower plan shown ≡ chosen_answer plan shown
-roll_ups_of_groups_choose_cells lower plan shown wide takes rows whole =
+pub roll_ups_of_groups_choose_cells : (lower : Fold) (plan : UpperPlan) (datum_of : Answer) → IsWidth lower.width → takes_groups lower plan ≡ true → AreRowsOf lower datum_of.rows → AreWholeRanges lower.width datum_of.stale → upper_answer lower plan datum_of ≡ chosen_answer plan datum_of
+roll_ups_of_groups_choose_cells lower plan datum_of wide takes rows whole =
     let taken = groups_taken lower plan takes in
     let made : List (List Datum) → List Span → Answer = λ found stale. record { rows = found; stale = stale } in
-    ap (λ found. made found (upper_stale plan.width shown.stale)) (chosen_rows lower plan wide taken shown.rows rows)
-    ∙ ap (made (map (chosen_cells (chosen_places plan)) shown.rows)) (same_ranges lower plan wide taken.kept shown.stale whole)
+    ap (λ found. made found (upper_stale plan.width datum_of.stale)) (chosen_rows lower plan wide taken datum_of.rows rows)
+    ∙ ap (made (map (chosen_cells (chosen_places plan)) datum_of.rows)) (same_ranges lower plan wide taken.kept datum_of.stale whole)

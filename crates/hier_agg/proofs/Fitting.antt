@@ -23,7 +23,7 @@ use Rattle.stmt_syntax.specs.declared.statements.Stmt.TheVariants as stmts
 use Rattle.stmt_check.specs.Check.{no_view}
 use Rattle.stmt_check.specs.Folds.{columns_before, is_shift, is_step, output_count, width_of}
 use Rattle.stmt_check.specs.Queries.{is_bucket_column}
-use Rattle.stmt_check.specs.Refusals.{marked, missing, refused}
+use Rattle.stmt_check.specs.Refusals.{marked_refusal, refusal_if_none, refusal_if}
 use Rattle.stmt_check.proofs.FoundLaws.{RelationAt, relation_at}
 use Rattle.stmt_check.proofs.PassedLaws.{has_to_be, neither, not_missing}
 use Rattle.hier_agg.specs.declared.plans.UpperPlan.{UpperPlan}
@@ -32,7 +32,7 @@ use Rattle.hier_agg.specs.Plans.{IsAdditive, PlanFits, added_by, agg_at, is_addi
 use Rattle.hier_agg.specs.ReadLaws.{FitsWhereSound}
 use Rattle.ts_model.specs.Answers.{can_ask}
 use Rattle.hier_agg.specs.Reads.{argument_of, fold_read, key_number, plan_of, read_as, test_of, upper_read, view_numbered}
-use Rattle.hier_agg.specs.Refusals.{agg_named, agg_place, agg_refusal, aggs_refusal, argument_refusal, divided, fits, key_named, key_place, key_refusal, keys_refusal, tests_refusal, upper_refusal, width_refusal}
+use Rattle.hier_agg.specs.Refusals.{agg_named, agg_place, agg_refusal, aggs_refusal, argument_refusal, divides_evenly, fits, key_named, key_place, key_refusal, keys_refusal, tests_refusal, upper_refusal, width_refusal}
 use Rattle.hier_agg.specs.Upper.{adds_up, upper_fold}
 use Rattle.ts_schema.specs.Counts.{raised_by}
 
@@ -96,20 +96,20 @@ keys_fit : (p : ℕ) (def : ViewDef) (count others : ℕ) (keys : List (List ℕ
 keys_fit p def count others [] e = tt
 keys_fit p def count others (k ∷ keys) e =
     let parts = neither (key_refusal p def count others k) _ e in
-    let own = neither (missing p 8 (key_named def k)) _ parts.0 in
+    let own = neither (refusal_if_none p 8 (key_named def k)) _ parts.0 in
     (key_below def (view_column_of def k) (not_missing p 8 (key_named def k) own.0), keys_fit p def count (raised_by 1 others) keys parts.1)
 
 tests_fit : (p : ℕ) (def : ViewDef) (tests : List NamedTest) → tests_refusal p def tests ≡ None → AllByRecursion (λ t. t.col < length def.fold.keys) (map (test_of def) tests)
 tests_fit p def [] e = tt
 tests_fit p def (t ∷ tests) e =
-    let parts = neither (missing p 8 (key_named def t.col)) _ e in
+    let parts = neither (refusal_if_none p 8 (key_named def t.col)) _ e in
     (key_below def (view_column_of def t.col) (not_missing p 8 (key_named def t.col) parts.0), tests_fit p def tests parts.1)
 
 -- the argument of a function that isn't refused
 argument_fits : (p : ℕ) (def : ViewDef) (fun : Fun) (col : Option (List ℕ)) → argument_refusal p def fun col ≡ None → IsAdditive def.fold (argument_of def col) × (fun ≡ added_by (agg_at def.fold (argument_of def col)).fun)
 argument_fits p def fun None e = absurd (cc e)
 argument_fits p def fun (Some name) e =
-    let parts = neither (missing p 8 (agg_named def name)) _ e in
+    let parts = neither (refusal_if_none p 8 (agg_named def name)) _ e in
     let there = agg_there def (view_column_of def name) (not_missing p 8 (agg_named def name) parts.0) in
     let adds = fits_adds fun (agg_at def.fold (argument_of def (Some name))).fun (has_to_be p 28 0 (fits fun (agg_at def.fold (argument_of def (Some name))).fun) parts.1) in
     (record { behind_keys = there.behind; within = there.within; additive = adds.0 }, adds.1)
@@ -118,14 +118,14 @@ aggs_fit : (p : ℕ) (def : ViewDef) (count others : ℕ) (aggs : List NamedAgg)
 aggs_fit p def count others [] e = tt
 aggs_fit p def count others (a ∷ aggs) e =
     let parts = neither (agg_refusal p def count others a) _ e in
-    let own = neither (marked p 21 count (nat_le 16 others)) _ parts.0 in
+    let own = neither (marked_refusal p 21 count (nat_le 16 others)) _ parts.0 in
     ((argument_fits p def a.fun a.col own.1).0, aggs_fit p def count (raised_by 1 others) aggs parts.1)
 
 aggs_written : (p : ℕ) (def : ViewDef) (count others : ℕ) (aggs : List NamedAgg) → aggs_refusal p def count others aggs ≡ None → map (λ a. a.fun) aggs ≡ map (λ g. g.fun) (map (adds_up def.fold) (map (λ a. argument_of def a.col) aggs))
 aggs_written p def count others [] e = refl
 aggs_written p def count others (a ∷ aggs) e =
     let parts = neither (agg_refusal p def count others a) _ e in
-    let own = neither (marked p 21 count (nat_le 16 others)) _ parts.0 in
+    let own = neither (marked_refusal p 21 count (nat_le 16 others)) _ parts.0 in
     ap₂ (λ f fs. f ∷ fs) (argument_fits p def a.fun a.col own.1).1 (aggs_written p def count (raised_by 1 others) aggs parts.1)
 
 -- ---- the width
@@ -136,12 +136,12 @@ in_range step shift a b = record { positive = grind (arith, ints); bounded = gri
 width_fits : (p : ℕ) (def : ViewDef) (f : NamedFold) → width_refusal p def f ≡ None → IsWidth (width_of f) × (nests def.fold.width (width_of f) ≡ true)
 width_fits p def f e =
     let low = def.fold.width in
-    let one = neither (refused p 14 (not (is_step f.step))) _ e in
-    let two = neither (refused p 14 (not (divided f.step low.step))) _ one.1 in
-    let three = neither (refused p 8 (not (is_bucket_column (view_column_of def f.at)))) _ two.1 in
-    let four = neither (refused p 14 (not (is_shift f.step f.shift))) _ three.1 in
-    let steps = has_to_be p 14 0 (divided f.step low.step) two.0 in
-    let shifts = has_to_be p 14 0 (divided (f.shift -ℤ low.shift) low.step) four.1 in
+    let one = neither (refusal_if p 14 (not (is_step f.step))) _ e in
+    let two = neither (refusal_if p 14 (not (divides_evenly f.step low.step))) _ one.1 in
+    let three = neither (refusal_if p 8 (not (is_bucket_column (view_column_of def f.at)))) _ two.1 in
+    let four = neither (refusal_if p 14 (not (is_shift f.step f.shift))) _ three.1 in
+    let steps = has_to_be p 14 0 (divides_evenly f.step low.step) two.0 in
+    let shifts = has_to_be p 14 0 (divides_evenly (f.shift -ℤ low.shift) low.step) four.1 in
     (in_range f.step f.shift (has_to_be p 14 0 (is_step f.step) one.0) (has_to_be p 14 0 (is_shift f.step f.shift) four.0), rw (steps, shifts) refl)
 
 -- ---- the plan

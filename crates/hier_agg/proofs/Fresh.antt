@@ -25,11 +25,11 @@ use Rattle.ts_model.specs.Answers.{answer_of_view, buckets_in, left_by, ranges, 
 use Rattle.ts_model.specs.History.{History, start, resumed, ◌▸◌, prefix}
 use Rattle.ts_model.specs.Refreshes.{last, stale, watermark}
 use Rattle.ts_model.specs.Rows.{rows}
-use Rattle.ts_model.specs.Saved.{groups_among, is_dirty, saved}
+use Rattle.ts_model.specs.Saved.{groups_among, is_dirty, saved_view}
 use Rattle.ts_model.specs.declared.images.SavedGroup.{SavedGroup}
 use Rattle.ts_model.specs.Scratch.{bucket_rows, fold_rows, key_lists, occurring_buckets, scratch, scratch_of}
 use Rattle.partial_agg.specs.declared.groups.Group.{Group}
-use Rattle.ts_model.specs.Groups.{cells_of, group_at, groups_at, groups_in, groups_of, stood}
+use Rattle.ts_model.specs.Groups.{cells_of, group_at, groups_at, groups_in, groups_of, groups_at_last}
 use Rattle.ts_model.proofs.GroupLaws.{cells_are_scratch}
 use Rattle.ts_model.proofs.RangeLaws.{among, among-buckets_in, ranges_are_maximal}
 use Rattle.group_fold.proofs.BucketGroups.{groups_of_asked}
@@ -38,7 +38,7 @@ use Rattle.group_fold.proofs.Scratches.{filter-all, groups_show_scratch}
 use Rattle.hier_agg.specs.declared.plans.UpperPlan.{UpperPlan}
 use Rattle.hier_agg.specs.Laws.{IsRolledUp, IsShownWhole}
 use Rattle.hier_agg.specs.Plans.{all_starts}
-use Rattle.hier_agg.specs.Plans.{PlanFits, composed}
+use Rattle.hier_agg.specs.Plans.{PlanFits, composed_fold}
 use Rattle.hier_agg.specs.Stale.{holds_stale}
 use Rattle.hier_agg.specs.Upper.{row_of, rows_within}
 use Rattle.hier_agg.proofs.Held.{any_reached}
@@ -115,12 +115,12 @@ saved_start (g ∷ gs) b =
     (λ e. rw e (saved_start gs b))
 
 -- and so does what stood in it
-stood_start : (n : ℕ) (def : ViewDef) (g : History) (s : ℕ) (b : ℤ) → AllByRecursion (λ x. x.start ≡ b) (stood n def g s b)
+pub stood_start : (n : ℕ) (def : ViewDef) (g : History) (s : ℕ) (b : ℤ) → AllByRecursion (λ x. x.start ≡ b) (groups_at_last n def g s b)
 stood_start n def start s b = group_starts def.fold b (bucket_rows def.fold b (rows def.table start)) (key_lists def.fold (bucket_rows def.fold b (rows def.table start)))
 stood_start n def (resumed i) s b =
     let here = rows def.table (resumed i) in
     by_test (nat_lt s i.pos && is_dirty n i b)
-    (λ e. rw e (saved_start (saved n i).groups b))
+    (λ e. rw e (saved_start (saved_view n i).groups b))
     (λ e. rw e (group_starts def.fold b (bucket_rows def.fold b here) (key_lists def.fold (bucket_rows def.fold b here))))
 stood_start n def (g ▸ e) s b = group_starts def.fold b (bucket_rows def.fold b (rows def.table (g ▸ e))) (key_lists def.fold (bucket_rows def.fold b (rows def.table (g ▸ e))))
 
@@ -142,7 +142,7 @@ module _ (n : ℕ) (def : ViewDef) (h : History) (w : Width) (b x : ℤ) where
   left_outside None out = refl
   left_outside (Some s) out = none_within w b x def.fold (groups_at n def h s x) (stood_start n def (prefix h s) s x) out
 
-  shown_outside : holds w b x ≡ false → rows_within w b (shown n def h x) ≡ []
+  pub shown_outside : holds w b x ≡ false → rows_within w b (shown n def h x) ≡ []
   shown_outside out =
       by_test (stale n def h x)
       (λ e. rw e (left_outside (last n h x) out))
@@ -193,7 +193,7 @@ module _ (n : ℕ) (def : ViewDef) (h : History) (w : Width) (b : ℤ) (fresh : 
       ∙ ap (λ xs. rows_within w b (scratch def h x) ++ xs) (all_within bs a.1)
       ∙ sym (filter-append (λ cells. holds w b (row_of cells).at) (scratch def h x) (flat_map (scratch def h) bs))
 
-pub fresh_buckets_show_the_composed_fold : (n : ℕ) (def : ViewDef) (h : History) (plan : UpperPlan) (upper : Answer) (b : ℤ) → PlanFits def.fold plan → list_all (λ row. is_time row.at) (rows def.table h) ≡ true → IsRolledUp def.fold plan (answer_of_view n h all_starts (Some def)) upper → is_bucket plan.width b ≡ true → lies_in upper.stale b ≡ false → IsShownWhole n def h plan.width b → rows_within plan.width b upper.rows ≡ scratch_of (composed def.fold plan) b (rows def.table h)
+pub fresh_buckets_show_the_composed_fold : (n : ℕ) (def : ViewDef) (h : History) (plan : UpperPlan) (upper : Answer) (b : ℤ) → PlanFits def.fold plan → list_all (λ row. is_time row.at) (rows def.table h) ≡ true → IsRolledUp def.fold plan (answer_of_view n h all_starts (Some def)) upper → is_bucket plan.width b ≡ true → lies_in upper.stale b ≡ false → IsShownWhole n def h plan.width b → rows_within plan.width b upper.rows ≡ scratch_of (composed_fold def.fold plan) b (rows def.table h)
 fresh_buckets_show_the_composed_fold n def h plan upper b fits times made at fresh whole =
     let lower = answer_of_view n h all_starts (Some def) in
     let none : holds_stale plan.width lower.stale b ≡ false = sym (made.stale.exact b at) ∙ fresh in

@@ -19,8 +19,8 @@ use Rattle.ts_model.specs.Groups.{cells_of, shown_each}
 use Rattle.ts_model.specs.Results.{cell_at}
 use Rattle.partial_agg.specs.declared.groups.Group.{Group}
 use Rattle.partial_agg.specs.Groups.{AreInOrder, group_cmp}
-use Rattle.partial_agg.specs.Summaries.{Summary, shown, sum_shown, summary, value_of}
-use Rattle.group_fold.specs.Gathering.{ordered}
+use Rattle.partial_agg.specs.Summaries.{Summary, datum_of, sum_shown, summary, value_of}
+use Rattle.group_fold.specs.Gathering.{in_group_order}
 use Rattle.group_fold.proofs.Gathers.{ordered_already}
 use Rattle.ts_schema.specs.Rows.{values_cmp}
 use Rattle.ts_bucket.specs.Bucket.{IsWidth, WidthValue, bucket_of}
@@ -28,7 +28,7 @@ use Rattle.ts_bucket.specs.declared.spans.Span.{Span}
 use Rattle.ts_bucket.proofs.BucketLaws.{bucket_of-bucket}
 use Rattle.cell_groups.specs.Cells.{cells_pass}
 use Rattle.cell_groups.specs.Groups.{keys_at, row_shown, rows_shown}
-use Rattle.cell_groups.specs.Kept.{needed, row_needs}
+use Rattle.cell_groups.specs.KeptSummaries.{needed_summary, row_needs}
 use Rattle.hier_agg.specs.declared.plans.UpperPlan.{UpperPlan}
 use Rattle.hier_agg.specs.Plans.{added_by, agg_at, is_additive}
 use Rattle.hier_agg.specs.Stale.{AreWholeRanges, upper_stale}
@@ -55,7 +55,7 @@ bound_read : (v : Option ℤ) → shown_or_null (value_of (shown_or_null v)) ≡
 bound_read None = refl
 bound_read (Some v) = refl
 
-pub part_read : (fun : Fun) (p : Summary) → is_additive fun ≡ true → shown_or_null (value_of (shown fun p)) ≡ shown fun p
+pub part_read : (fun : Fun) (p : Summary) → is_additive fun ≡ true → shown_or_null (value_of (datum_of fun p)) ≡ datum_of fun p
 part_read CountAll p e = refl
 part_read Count p e = refl
 part_read Sum p e = sum_read p.values p.sum
@@ -69,10 +69,10 @@ parts_read (a ∷ aggs) [] e = refl
 parts_read (a ∷ aggs) (p ∷ parts) e =
     let both = and_parts (is_additive a.fun) (list_all (λ x. is_additive x.fun) aggs) e in
     ap (λ d. d ∷ map shown_or_null (map value_of (shown_each aggs parts))) (part_read a.fun p both.0)
-    ∙ ap (λ ds. shown a.fun p ∷ ds) (parts_read aggs parts both.1)
+    ∙ ap (λ ds. datum_of a.fun p ∷ ds) (parts_read aggs parts both.1)
 
 -- what adds up shows one value as it is
-alone_shown : (fun : Fun) (v : Option ℤ) → shown (added_by fun) (needed (added_by fun) (summary (v ∷ []))) ≡ shown_or_null v
+alone_shown : (fun : Fun) (v : Option ℤ) → datum_of (added_by fun) (needed_summary (added_by fun) (summary (v ∷ []))) ≡ shown_or_null v
 alone_shown CountAll None = refl
 alone_shown CountAll (Some v) = ap Int (omega (arith, ints))
 alone_shown Count None = refl
@@ -181,11 +181,11 @@ module _ (lower : Fold) (plan : UpperPlan) (wide : IsWidth lower.width) (keeps :
   -- each group is shown again by itself
   pub rows_alone : (rows : List (List Datum)) → (are : AreRowsOf lower rows) → upper_rows lower plan rows ≡ rows_shown (shape_of lower plan) (map (again lower plan) are.groups)
   rows_alone rows are =
-      let shown : List (List Datum) = map (cells_of lower) are.groups in
+      let datum_of : List (List Datum) = map (cells_of lower) are.groups in
       let plan_wide : IsWidth plan.width = subst IsWidth (sym keeps.width) wide in
       ap (upper_rows lower plan) are.shown
-      ∙ sym (gathered_is_upper lower plan plan_wide shown)
-      ∙ ap (λ gs. rows_shown (shape_of lower plan) (ordered gs)) (all_pass are.groups)
+      ∙ sym (gathered_is_upper lower plan plan_wide datum_of)
+      ∙ ap (λ gs. rows_shown (shape_of lower plan) (in_group_order gs)) (all_pass are.groups)
       ∙ ap (rows_shown (shape_of lower plan)) (ordered_already (map (again lower plan) are.groups) (still_in_order are.groups are.each are.order))
 
   -- ranges of the fold's width are those of the roll-up

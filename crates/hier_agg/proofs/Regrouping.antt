@@ -16,17 +16,17 @@ use Rattle.ts_model.specs.Scratch.{keys_of, bucket_rows, key_lists, occurring_bu
 use Rattle.ts_model.specs.Groups.{column, group_at, groups_in, groups_of}
 use Rattle.partial_agg.specs.declared.groups.Group.{Group}
 use Rattle.partial_agg.specs.Groups.{group_cmp}
-use Rattle.partial_agg.specs.Summaries.{Summary, summary, joined}
+use Rattle.partial_agg.specs.Summaries.{Summary, summary, summary_of_both}
 use Rattle.partial_agg.proofs.GroupLaws.{group_cmp_total, group_cmp-place}
 use Rattle.group_fold.specs.Grouping.{row_group, row_parts}
 use Rattle.group_fold.specs.Gathering.{HaveParts}
-use Rattle.group_fold.specs.Merging.{joined_parts, merged, taken, with_group}
+use Rattle.group_fold.specs.Merging.{joined_parts, merge_of, groups_with_row, with_group}
 use Rattle.group_fold.proofs.Counts.{length-row_parts, row_parts-at}
 use Rattle.group_fold.proofs.Insertions.{by_order, at_less, at_equal, at_greater, with_group-commutes, with_group-twice}
 use Rattle.group_fold.proofs.Occurring.{all-map, all-flat_map}
 use Rattle.group_fold.proofs.RowGroups.{groups_of-more}
 use Rattle.hier_agg.specs.declared.plans.UpperPlan.{UpperPlan}
-use Rattle.hier_agg.specs.Plans.{IsAdditive, PlanFits, agg_at, composed, key_at, row_count, table_test}
+use Rattle.hier_agg.specs.Plans.{IsAdditive, PlanFits, agg_at, composed_fold, key_at, row_count, table_test}
 use Rattle.hier_agg.specs.Regroup.{coarse, keys_pass, regroup}
 use Rattle.hier_agg.proofs.Nesting.{buckets_nest}
 
@@ -48,7 +48,7 @@ groups_have_parts fold rows =
 -- ---- parts
 
 -- the part at a place, joined with the part of another group at this place
-joined_at : (ps qs : List Summary) (k : ℕ) → length ps ≡ length qs → get_or (joined_parts ps qs) k (summary []) ≡ joined (get_or ps k (summary [])) (get_or qs k (summary []))
+joined_at : (ps qs : List Summary) (k : ℕ) → length ps ≡ length qs → get_or (joined_parts ps qs) k (summary []) ≡ summary_of_both (get_or ps k (summary [])) (get_or qs k (summary []))
 joined_at [] [] k e = refl
 joined_at [] (q ∷ qs) k e = absurd (omega (arith, e))
 joined_at (p ∷ ps) [] k e = absurd (omega (arith, e))
@@ -59,7 +59,7 @@ joined_picked : (n : ℕ) (ps qs : List Summary) (cols : List ℕ) → length ps
 joined_picked n ps qs [] e = refl
 joined_picked n ps qs (c ∷ cols) e =
     ap (λ p. p ∷ map (λ c. get_or (joined_parts ps qs) (c - n) (summary [])) cols) (joined_at ps qs (c - n) e)
-    ∙ ap (λ rest. joined (get_or ps (c - n) (summary [])) (get_or qs (c - n) (summary [])) ∷ rest) (joined_picked n ps qs cols e)
+    ∙ ap (λ rest. summary_of_both (get_or ps (c - n) (summary [])) (get_or qs (c - n) (summary [])) ∷ rest) (joined_picked n ps qs cols e)
 
 -- groups of one start with the same keys have one place
 tied_same : (g h : Group) → g.start ≡ h.start → g.keys ≡ h.keys → group_cmp g h ≡ Equal
@@ -88,12 +88,12 @@ module _ (lower : Fold) (plan : UpperPlan) where
       both false false = refl
 
   -- two groups of one place, coarse and merged or merged and coarse
-  coarse-merged : (g h : Group) → length g.parts ≡ length h.parts → coarse lower plan (merged g h) ≡ merged (coarse lower plan g) (coarse lower plan h)
+  coarse-merged : (g h : Group) → length g.parts ≡ length h.parts → coarse lower plan (merge_of g h) ≡ merge_of (coarse lower plan g) (coarse lower plan h)
   coarse-merged g h e =
       let made : List Summary → Group = λ ps. record { start = bucket_of plan.width g.start; keys = map (λ k. get_or g.keys k None) plan.keys; parts = ps } in
       ap made (joined_picked (length lower.keys) g.parts h.parts plan.cols e)
 
-  took-twice : (g h : Group) (groups : List Group) → group_cmp g h ≡ Equal → length g.parts ≡ length h.parts → took (merged g h) groups ≡ took g (took h groups)
+  took-twice : (g h : Group) (groups : List Group) → group_cmp g h ≡ Equal → length g.parts ≡ length h.parts → took (merge_of g h) groups ≡ took g (took h groups)
   took-twice g h groups e same =
       let place = group_cmp-place g h e in
       let tests : keys_pass plan.tests g.keys ≡ keys_pass plan.tests h.keys = ap (keys_pass plan.tests) place.1 in
@@ -110,7 +110,7 @@ module _ (lower : Fold) (plan : UpperPlan) where
   regroup-with_group n g (x ∷ xs) p h =
       by_order (group_cmp g x)
       (λ e. ap (regroup lower plan) (at_less g x xs e) ∙ regroup-more g (x ∷ xs))
-      (λ e. ap (regroup lower plan) (at_equal g x xs e) ∙ regroup-more (merged g x) xs ∙ took-twice g x (regroup lower plan xs) e (p ∙ sym h.0) ∙ ap (took g) (sym (regroup-more x xs)))
+      (λ e. ap (regroup lower plan) (at_equal g x xs e) ∙ regroup-more (merge_of g x) xs ∙ took-twice g x (regroup lower plan xs) e (p ∙ sym h.0) ∙ ap (took g) (sym (regroup-more x xs)))
       (λ e. ap (regroup lower plan) (at_greater g x xs e) ∙ regroup-more x (with_group g xs) ∙ ap (took x) (regroup-with_group n g xs p h.1) ∙ took-commutes x g (regroup lower plan xs) ∙ ap (took g) (sym (regroup-more x xs)))
 
 -- ---- the group of one row
@@ -136,32 +136,32 @@ module _ (lower : Fold) (row : Row) where
       ap (λ v. compares t.cmp v t.num && keys_pass ts (keys_of lower.keys row)) (key_is t.col h.0) ∙ ap (λ b. passes_one row (table_test lower t) && b) (tests_are ts h.1)
 
   module _ (plan : UpperPlan) (fits : PlanFits lower plan) where
-    coarse_row : coarse lower plan (row_group lower row) ≡ row_group (composed lower plan) row
+    coarse_row : coarse lower plan (row_group lower row) ≡ row_group (composed_fold lower plan) row
     coarse_row =
         let made : ℤ → List (Option ℤ) → List Summary → Group = λ s ks ps. record { start = s; keys = ks; parts = ps } in
         let parts = map (λ c. get_or (row_parts lower.aggs row) (c - length lower.keys) (summary [])) plan.cols in
         let keys = map (λ k. get_or (keys_of lower.keys row) k None) plan.keys in
         ap (λ s. made s keys parts) (buckets_nest lower.width plan.width row.at fits.lower_width fits.width fits.nested)
         ∙ ap (λ ks. made (bucket_of plan.width row.at) ks parts) (keys_are plan.keys fits.keys)
-        ∙ ap (λ ps. made (bucket_of plan.width row.at) (keys_of (composed lower plan).keys row) ps) (parts_are plan.cols fits.cols)
+        ∙ ap (λ ps. made (bucket_of plan.width row.at) (keys_of (composed_fold lower plan).keys row) ps) (parts_are plan.cols fits.cols)
 
     -- the composed fold takes in a row that passes as its group is taken in
-    took_row : (groups : List Group) → passes_all row lower.tests ≡ true → took lower plan (row_group lower row) groups ≡ taken (composed lower plan) row groups
+    took_row : (groups : List Group) → passes_all row lower.tests ≡ true → took lower plan (row_group lower row) groups ≡ groups_with_row (composed_fold lower plan) row groups
     took_row groups e =
-        let tests : keys_pass plan.tests (keys_of lower.keys row) ≡ passes_all row (composed lower plan).tests =
+        let tests : keys_pass plan.tests (keys_of lower.keys row) ≡ passes_all row (composed_fold lower plan).tests =
         tests_are plan.tests fits.tests ∙ sym (list_all-append (passes_one row) lower.tests (map (table_test lower) plan.tests) ∙ ap (λ b. b && passes_all row (map (table_test lower) plan.tests)) e) in
         ap (λ b. cond b (with_group (coarse lower plan (row_group lower row)) groups) groups) tests
-        ∙ ap (λ g. cond (passes_all row (composed lower plan).tests) (with_group g groups) groups) coarse_row
+        ∙ ap (λ g. cond (passes_all row (composed_fold lower plan).tests) (with_group g groups) groups) coarse_row
 
-    left_row : (groups : List Group) → passes_all row lower.tests ≡ false → taken (composed lower plan) row groups ≡ groups
+    left_row : (groups : List Group) → passes_all row lower.tests ≡ false → groups_with_row (composed_fold lower plan) row groups ≡ groups
     left_row groups e =
-        let tests : passes_all row (composed lower plan).tests ≡ false =
+        let tests : passes_all row (composed_fold lower plan).tests ≡ false =
         list_all-append (passes_one row) lower.tests (map (table_test lower) plan.tests) ∙ ap (λ b. b && passes_all row (map (table_test lower) plan.tests)) e in
-        ap (λ b. cond b (with_group (row_group (composed lower plan) row) groups) groups) tests
+        ap (λ b. cond b (with_group (row_group (composed_fold lower plan) row) groups) groups) tests
 
 -- ---- the law
 
-pub grouping_in_two_steps : (lower : Fold) (plan : UpperPlan) (rows : List Row) → PlanFits lower plan → regroup lower plan (groups_of lower rows) ≡ groups_of (composed lower plan) rows
+pub grouping_in_two_steps : (lower : Fold) (plan : UpperPlan) (rows : List Row) → PlanFits lower plan → regroup lower plan (groups_of lower rows) ≡ groups_of (composed_fold lower plan) rows
 grouping_in_two_steps lower plan [] fits = refl
 grouping_in_two_steps lower plan (row ∷ rows) fits =
     let before = grouping_in_two_steps lower plan rows fits in
@@ -171,9 +171,9 @@ grouping_in_two_steps lower plan (row ∷ rows) fits =
     ap (λ b. regroup lower plan (cond b (with_group (row_group lower row) (groups_of lower rows)) (groups_of lower rows))) e
     ∙ regroup-with_group lower plan (length lower.aggs) (row_group lower row) (groups_of lower rows) (length-row_parts lower.aggs row) (groups_have_parts lower rows)
     ∙ ap (took lower plan (row_group lower row)) before
-    ∙ took_row lower row plan fits (groups_of (composed lower plan) rows) e)
+    ∙ took_row lower row plan fits (groups_of (composed_fold lower plan) rows) e)
     (λ e.
     ap (λ b. regroup lower plan (cond b (with_group (row_group lower row) (groups_of lower rows)) (groups_of lower rows))) e
     ∙ before
-    ∙ sym (left_row lower row plan fits (groups_of (composed lower plan) rows) e))
-    ∙ sym (groups_of-more (composed lower plan) fits.width row rows)
+    ∙ sym (left_row lower row plan fits (groups_of (composed_fold lower plan) rows) e))
+    ∙ sym (groups_of-more (composed_fold lower plan) fits.width row rows)

@@ -21,14 +21,14 @@ use Rattle.ts_model.specs.declared.views.Fold.{Fold}
 use Rattle.ts_model.specs.Scratch.{bucket_rows, fold_rows, group_rows, key_lists, keys_of, occurring_buckets, scratch_of, with_keys}
 use Rattle.ts_model.specs.Groups.{cells_of, column, group_at, groups_in, groups_of, shown_each}
 use Rattle.partial_agg.specs.declared.groups.Group.{Group}
-use Rattle.partial_agg.specs.Summaries.{Summary, summary, shown, value_of}
+use Rattle.partial_agg.specs.Summaries.{Summary, summary, datum_of, value_of}
 use Rattle.group_fold.specs.Grouping.{row_group, row_parts}
 use Rattle.group_fold.specs.Merging.{with_group}
 use Rattle.group_fold.proofs.Occurring.{all-map, all-flat_map, all-once}
 use Rattle.group_fold.proofs.RowGroups.{groups_of-more, starts_are_buckets}
 use Rattle.group_fold.proofs.Scratches.{groups_show_scratch}
 use Rattle.hier_agg.specs.declared.plans.UpperPlan.{UpperPlan}
-use Rattle.hier_agg.specs.Plans.{IsAdditive, PlanFits, agg_at, composed, row_count}
+use Rattle.hier_agg.specs.Plans.{IsAdditive, PlanFits, agg_at, composed_fold, row_count}
 use Rattle.hier_agg.specs.Regroup.{coarse, keys_pass, regroup}
 use Rattle.hier_agg.specs.Upper.{adds_up, answer_test, row_of, rows_within, upper_fold, upper_rows}
 use Rattle.hier_agg.proofs.Alike.{AlikeGroup, AlikeGroups, AlikeParts, Alike, NoneIsZero, alike_cell, alike_with_group, none_is_zero, parts_shown}
@@ -80,7 +80,7 @@ part_cell (k ∷ keys) ds (suc c) h =
     let e : c - length keys ≡ suc c - suc (length keys) = omega arith in
     part_cell keys ds c (omega (arith, h)) ∙ ap (λ i. get_or (map value_of ds) i None) e
 
-shown_cell : (aggs : List Agg) (parts : List Summary) (i : ℕ) → i < length aggs → length parts ≡ length aggs → get_or (map value_of (shown_each aggs parts)) i None ≡ value_of (shown (get_or aggs i row_count).fun (get_or parts i (summary [])))
+shown_cell : (aggs : List Agg) (parts : List Summary) (i : ℕ) → i < length aggs → length parts ≡ length aggs → get_or (map value_of (shown_each aggs parts)) i None ≡ value_of (datum_of (get_or aggs i row_count).fun (get_or parts i (summary [])))
 shown_cell [] parts i h e = absurd (omega (arith, h))
 shown_cell (a ∷ aggs) [] i h e = absurd (omega (arith, e))
 shown_cell (a ∷ aggs) (p ∷ parts) zero h e = refl
@@ -101,7 +101,7 @@ module _ (lower : Fold) (g : Group) (own : IsOfFold lower g) where
   key_field : (k : ℕ) → k < length lower.keys → field_of (up lower g) (suc k) ≡ get_or g.keys k None
   key_field k h = key_cell g.keys (shown_each lower.aggs g.parts) k (omega (arith, h, own.keys))
 
-  part_field : (c : ℕ) → IsAdditive lower c → field_of (up lower g) (suc c) ≡ value_of (shown (agg_at lower c).fun (get_or g.parts (c - length lower.keys) (summary [])))
+  part_field : (c : ℕ) → IsAdditive lower c → field_of (up lower g) (suc c) ≡ value_of (datum_of (agg_at lower c).fun (get_or g.parts (c - length lower.keys) (summary [])))
   part_field c h =
       let behind : length lower.keys ≤ c = h.behind_keys in
       part_cell g.keys (shown_each lower.aggs g.parts) c (omega (arith, behind, own.keys))
@@ -127,43 +127,43 @@ module _ (lower : Fold) (g : Group) (own : IsOfFold lower g) where
 -- ---- all groups
 
 module _ (lower : Fold) (plan : UpperPlan) (fits : PlanFits lower plan) where
-  group_alike : (g : Group) → IsOfFold lower g → AlikeGroup (composed lower plan).aggs (row_group (upper_fold lower plan) (up lower g)) (coarse lower plan g)
+  group_alike : (g : Group) → IsOfFold lower g → AlikeGroup (composed_fold lower plan).aggs (row_group (upper_fold lower plan) (up lower g)) (coarse lower plan g)
   group_alike g own = record {
     start = refl;
     keys = fields_are lower g own plan.keys fits.keys;
     parts = parts_alike lower g own plan.cols fits.cols;
   }
 
-  groups_alike : (gs : List Group) → AllByRecursion (IsOfFold lower) gs → AlikeGroups (composed lower plan).aggs (groups_of (upper_fold lower plan) (map (up lower) gs)) (regroup lower plan gs)
+  groups_alike : (gs : List Group) → AllByRecursion (IsOfFold lower) gs → AlikeGroups (composed_fold lower plan).aggs (groups_of (upper_fold lower plan) (map (up lower) gs)) (regroup lower plan gs)
   groups_alike [] h = tt
   groups_alike (g ∷ gs) h =
       let before = groups_alike gs h.1 in
       let upper = groups_of (upper_fold lower plan) (map (up lower) gs) in
       let tests : passes_all (up lower g) (upper_fold lower plan).tests ≡ keys_pass plan.tests g.keys = tests_pass lower g h.0 plan.tests fits.tests in
-      subst (λ xs. AlikeGroups (composed lower plan).aggs xs (regroup lower plan (g ∷ gs))) (sym (groups_of-more (upper_fold lower plan) fits.width (up lower g) (map (up lower) gs)))
-      (subst (λ ys. AlikeGroups (composed lower plan).aggs (cond (passes_all (up lower g) (upper_fold lower plan).tests) (with_group (row_group (upper_fold lower plan) (up lower g)) upper) upper) ys) (sym (regroup-more lower plan g gs))
+      subst (λ xs. AlikeGroups (composed_fold lower plan).aggs xs (regroup lower plan (g ∷ gs))) (sym (groups_of-more (upper_fold lower plan) fits.width (up lower g) (map (up lower) gs)))
+      (subst (λ ys. AlikeGroups (composed_fold lower plan).aggs (cond (passes_all (up lower g) (upper_fold lower plan).tests) (with_group (row_group (upper_fold lower plan) (up lower g)) upper) upper) ys) (sym (regroup-more lower plan g gs))
       (by_test (keys_pass plan.tests g.keys)
       (λ e. let f : passes_all (up lower g) (upper_fold lower plan).tests ≡ true = tests ∙ e in
-      rw (f, e) (alike_with_group (composed lower plan).aggs (row_group (upper_fold lower plan) (up lower g)) (coarse lower plan g) upper (regroup lower plan gs) (group_alike g h.0) before))
+      rw (f, e) (alike_with_group (composed_fold lower plan).aggs (row_group (upper_fold lower plan) (up lower g)) (coarse lower plan g) upper (regroup lower plan gs) (group_alike g h.0) before))
       (λ e. let f : passes_all (up lower g) (upper_fold lower plan).tests ≡ false = tests ∙ e in rw (f, e) before)))
 
   -- alike groups show the same
-  cells_alike : (g h : Group) → AlikeGroup (composed lower plan).aggs g h → cells_of (upper_fold lower plan) g ≡ cells_of (composed lower plan) h
+  cells_alike : (g h : Group) → AlikeGroup (composed_fold lower plan).aggs g h → cells_of (upper_fold lower plan) g ≡ cells_of (composed_fold lower plan) h
   cells_alike g h alike =
       let made : ℤ → List (Option ℤ) → List Datum → List Datum = λ s ks ds. Int s ∷ (map shown_or_null ks ++ ds) in
       ap (λ s. made s g.keys (shown_each (upper_fold lower plan).aggs g.parts)) alike.start
       ∙ ap (λ ks. made h.start ks (shown_each (upper_fold lower plan).aggs g.parts)) alike.keys
       ∙ ap (made h.start h.keys) (parts_shown (agg_at lower) (adds_up lower) (λ c. refl) plan.cols g.parts h.parts alike.parts)
 
-  all_cells_alike : (gs hs : List Group) → AlikeGroups (composed lower plan).aggs gs hs → map (cells_of (upper_fold lower plan)) gs ≡ map (cells_of (composed lower plan)) hs
+  all_cells_alike : (gs hs : List Group) → AlikeGroups (composed_fold lower plan).aggs gs hs → map (cells_of (upper_fold lower plan)) gs ≡ map (cells_of (composed_fold lower plan)) hs
   all_cells_alike [] [] h = refl
   all_cells_alike [] (y ∷ hs) h = absurd h
   all_cells_alike (x ∷ gs) [] h = absurd h
   all_cells_alike (x ∷ gs) (y ∷ hs) h =
-      ap (λ d. d ∷ map (cells_of (upper_fold lower plan)) gs) (cells_alike x y h.0) ∙ ap (λ ds. cells_of (composed lower plan) y ∷ ds) (all_cells_alike gs hs h.1)
+      ap (λ d. d ∷ map (cells_of (upper_fold lower plan)) gs) (cells_alike x y h.0) ∙ ap (λ ds. cells_of (composed_fold lower plan) y ∷ ds) (all_cells_alike gs hs h.1)
 
   -- those of a bucket are alike
-  bucket_alike : (b : ℤ) (gs hs : List Group) → AlikeGroups (composed lower plan).aggs gs hs → AlikeGroups (composed lower plan).aggs (filter (λ g. int_eq g.start b) gs) (filter (λ g. int_eq g.start b) hs)
+  bucket_alike : (b : ℤ) (gs hs : List Group) → AlikeGroups (composed_fold lower plan).aggs gs hs → AlikeGroups (composed_fold lower plan).aggs (filter (λ g. int_eq g.start b) gs) (filter (λ g. int_eq g.start b) hs)
   bucket_alike b [] [] h = tt
   bucket_alike b [] (y ∷ hs) h = absurd h
   bucket_alike b (x ∷ gs) [] h = absurd h
@@ -184,27 +184,27 @@ module _ (lower : Fold) (plan : UpperPlan) (rows : List Row) (fits : PlanFits lo
   answer_rows : map row_of (fold_rows lower rows) ≡ map (up lower) (groups_of lower rows)
   answer_rows = ap (map row_of) (sym (groups_show_scratch lower fits.lower_width rows).of_all) ∙ rows_of_groups lower (groups_of lower rows)
 
-  alike : AlikeGroups (composed lower plan).aggs (groups_of (upper_fold lower plan) (map row_of (fold_rows lower rows))) (groups_of (composed lower plan) rows)
+  alike : AlikeGroups (composed_fold lower plan).aggs (groups_of (upper_fold lower plan) (map row_of (fold_rows lower rows))) (groups_of (composed_fold lower plan) rows)
   alike =
-      subst (λ xs. AlikeGroups (composed lower plan).aggs (groups_of (upper_fold lower plan) xs) (groups_of (composed lower plan) rows)) (sym answer_rows)
-      (subst (λ ys. AlikeGroups (composed lower plan).aggs (groups_of (upper_fold lower plan) (map (up lower) (groups_of lower rows))) ys) (grouping_in_two_steps lower plan rows fits)
+      subst (λ xs. AlikeGroups (composed_fold lower plan).aggs (groups_of (upper_fold lower plan) xs) (groups_of (composed_fold lower plan) rows)) (sym answer_rows)
+      (subst (λ ys. AlikeGroups (composed_fold lower plan).aggs (groups_of (upper_fold lower plan) (map (up lower) (groups_of lower rows))) ys) (grouping_in_two_steps lower plan rows fits)
       (groups_alike lower plan fits (groups_of lower rows) (groups_are_of_fold lower rows)))
 
-  shows_all : upper_rows lower plan (fold_rows lower rows) ≡ fold_rows (composed lower plan) rows
+  shows_all : upper_rows lower plan (fold_rows lower rows) ≡ fold_rows (composed_fold lower plan) rows
   shows_all =
       sym (groups_show_scratch (upper_fold lower plan) fits.width (map row_of (fold_rows lower rows))).of_all
-      ∙ all_cells_alike lower plan fits (groups_of (upper_fold lower plan) (map row_of (fold_rows lower rows))) (groups_of (composed lower plan) rows) alike
-      ∙ (groups_show_scratch (composed lower plan) fits.width rows).of_all
+      ∙ all_cells_alike lower plan fits (groups_of (upper_fold lower plan) (map row_of (fold_rows lower rows))) (groups_of (composed_fold lower plan) rows) alike
+      ∙ (groups_show_scratch (composed_fold lower plan) fits.width rows).of_all
 
-  shows_bucket : (b : ℤ) → is_bucket plan.width b ≡ true → scratch_of (upper_fold lower plan) b (map row_of (fold_rows lower rows)) ≡ scratch_of (composed lower plan) b rows
+  shows_bucket : (b : ℤ) → is_bucket plan.width b ≡ true → scratch_of (upper_fold lower plan) b (map row_of (fold_rows lower rows)) ≡ scratch_of (composed_fold lower plan) b rows
   shows_bucket b e =
       let upper = groups_of (upper_fold lower plan) (map row_of (fold_rows lower rows)) in
-      let whole = groups_of (composed lower plan) rows in
+      let whole = groups_of (composed_fold lower plan) rows in
       sym ((groups_show_scratch (upper_fold lower plan) fits.width (map row_of (fold_rows lower rows))).of_bucket b e)
       ∙ all_cells_alike lower plan fits (filter (λ g. int_eq g.start b) upper) (filter (λ g. int_eq g.start b) whole) (bucket_alike lower plan fits b upper whole alike)
-      ∙ (groups_show_scratch (composed lower plan) fits.width rows).of_bucket b e
+      ∙ (groups_show_scratch (composed_fold lower plan) fits.width rows).of_bucket b e
 
-pub roll_ups_show_the_composed_fold : (lower : Fold) (plan : UpperPlan) (rows : List Row) → PlanFits lower plan → upper_rows lower plan (fold_rows lower rows) ≡ fold_rows (composed lower plan) rows
+pub roll_ups_show_the_composed_fold : (lower : Fold) (plan : UpperPlan) (rows : List Row) → PlanFits lower plan → upper_rows lower plan (fold_rows lower rows) ≡ fold_rows (composed_fold lower plan) rows
 roll_ups_show_the_composed_fold lower plan rows fits = shows_all lower plan rows fits
 
 -- ---- a bucket takes no notice of rows elsewhere
@@ -253,7 +253,7 @@ rows_of_bucket fold rows b wide at =
     ∙ cells_within fold b (groups_of fold rows) wide at (groups_are_buckets fold wide rows)
     ∙ show.of_bucket b at
 
-pub wider_buckets_show_the_composed_fold : (lower : Fold) (plan : UpperPlan) (rows : List Row) (found : List (List Datum)) (b : ℤ) → PlanFits lower plan → is_bucket plan.width b ≡ true → rows_within plan.width b found ≡ rows_within plan.width b (fold_rows lower rows) → rows_within plan.width b (upper_rows lower plan found) ≡ scratch_of (composed lower plan) b rows
+pub wider_buckets_show_the_composed_fold : (lower : Fold) (plan : UpperPlan) (rows : List Row) (found : List (List Datum)) (b : ℤ) → PlanFits lower plan → is_bucket plan.width b ≡ true → rows_within plan.width b found ≡ rows_within plan.width b (fold_rows lower rows) → rows_within plan.width b (upper_rows lower plan found) ≡ scratch_of (composed_fold lower plan) b rows
 wider_buckets_show_the_composed_fold lower plan rows found b fits at same =
     rows_of_bucket (upper_fold lower plan) (map row_of found) b fits.width at
     ∙ rows_elsewhere (upper_fold lower plan) b found
@@ -263,12 +263,12 @@ wider_buckets_show_the_composed_fold lower plan rows found b fits at same =
 
 -- ---- roll-ups of everything
 
-pub whole_roll_ups_show_the_lower_rows : (lower : Fold) (plan : UpperPlan) (rows : List Row) (found : List (List Datum)) (b : ℤ) → PlanFits lower plan → composed lower plan ≡ lower → is_bucket lower.width b ≡ true → rows_within lower.width b found ≡ scratch_of lower b rows → rows_within lower.width b (upper_rows lower plan found) ≡ rows_within lower.width b found
-whole_roll_ups_show_the_lower_rows lower plan rows found b fits whole at shown =
+pub whole_roll_ups_show_the_lower_rows : (lower : Fold) (plan : UpperPlan) (rows : List Row) (found : List (List Datum)) (b : ℤ) → PlanFits lower plan → composed_fold lower plan ≡ lower → is_bucket lower.width b ≡ true → rows_within lower.width b found ≡ scratch_of lower b rows → rows_within lower.width b (upper_rows lower plan found) ≡ rows_within lower.width b found
+whole_roll_ups_show_the_lower_rows lower plan rows found b fits whole at datum_of =
     let same : plan.width ≡ lower.width = ap (λ (f : Fold). f.width) whole in
     let wide_at : is_bucket plan.width b ≡ true = subst (λ w. is_bucket w b ≡ true) (sym same) at in
-    let here : rows_within lower.width b found ≡ rows_within lower.width b (fold_rows lower rows) = shown ∙ sym (rows_of_bucket lower rows b fits.lower_width at) in
+    let here : rows_within lower.width b found ≡ rows_within lower.width b (fold_rows lower rows) = datum_of ∙ sym (rows_of_bucket lower rows b fits.lower_width at) in
     let wide_here : rows_within plan.width b found ≡ rows_within plan.width b (fold_rows lower rows) = subst (λ w. rows_within w b found ≡ rows_within w b (fold_rows lower rows)) (sym same) here in
     ap (λ w. rows_within w b (upper_rows lower plan found)) (sym same)
     ∙ wider_buckets_show_the_composed_fold lower plan rows found b fits wide_at wide_here
-    ∙ ap (λ f. scratch_of f b rows) whole ∙ sym shown
+    ∙ ap (λ f. scratch_of f b rows) whole ∙ sym datum_of

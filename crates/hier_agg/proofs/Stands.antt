@@ -16,8 +16,8 @@ use Rattle.partial_agg.specs.Summaries.{Summary, summary}
 use Rattle.group_fold.specs.Grouping.{row_parts}
 use Rattle.cell_groups.specs.Cells.{cells_pass}
 use Rattle.cell_groups.specs.Groups.{keys_at, rows_shown}
-use Rattle.cell_groups.specs.Kept.{needed, needed_parts, row_needs}
-use Rattle.cell_groups.specs.Taken.{with_rows}
+use Rattle.cell_groups.specs.KeptSummaries.{needed_summary, needed_parts, row_needs}
+use Rattle.cell_groups.specs.TakenRows.{with_rows}
 use Rattle.cell_groups.proofs.Shown.{StandFor, gathered_show}
 use Rattle.hier_agg.specs.declared.plans.UpperPlan.{UpperPlan}
 use Rattle.hier_agg.specs.Plans.{added_by, agg_at}
@@ -45,8 +45,8 @@ parts_stand : (lower : Fold) (cols : List ℕ) (cells : List Datum) → row_need
 parts_stand lower [] cells = refl
 parts_stand lower (c ∷ cols) cells =
     let fun = added_by (agg_at lower c).fun in
-    ap (λ v. needed fun (summary (v ∷ [])) ∷ row_needs (map (added_at lower) cols) (columns_of cells)) (cell_is cells c)
-    ∙ ap (λ ps. needed fun (summary (field_of (row_of cells) (suc c) ∷ [])) ∷ ps) (parts_stand lower cols cells)
+    ap (λ v. needed_summary fun (summary (v ∷ [])) ∷ row_needs (map (added_at lower) cols) (columns_of cells)) (cell_is cells c)
+    ∙ ap (λ ps. needed_summary fun (summary (field_of (row_of cells) (suc c) ∷ [])) ∷ ps) (parts_stand lower cols cells)
 
 tests_stand : (tests : List Test) (cells : List Datum) → cells_pass tests (columns_of cells) ≡ passes_all (row_of cells) (map answer_test tests)
 tests_stand [] cells = refl

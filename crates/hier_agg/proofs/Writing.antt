@@ -6,7 +6,7 @@ use Rattle.partial_agg.specs.declared.groups.Group.{Group}
 use Rattle.cell_groups.specs.declared.groups.CellGroup.{CellGroup}
 use Rattle.cell_groups.specs.declared.shapes.Shape.{Shape}
 use Rattle.cell_groups.specs.Groups.{HasTallies, rows_shown}
-use Rattle.cell_groups.specs.Taken.{taken_in, with_rows}
+use Rattle.cell_groups.specs.TakenRows.{taken_in, with_rows}
 use Rattle.cell_groups.specs.Written.{AreWritten}
 use Rattle.cell_groups.proofs.Gathering.{rows_step}
 use Rattle.hier_agg.specs.declared.plans.UpperPlan.{UpperPlan}

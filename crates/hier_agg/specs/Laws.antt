@@ -21,7 +21,7 @@ use Rattle.ts_model.specs.Groups.{groups_of}
 use Rattle.ts_model.specs.Scratch.{fold_rows, scratch_of}
 use Rattle.hier_agg.specs.declared.plans.UpperPlan.{UpperPlan}
 use Rattle.hier_agg.specs.Choices.{chosen_answer, takes_groups}
-use Rattle.hier_agg.specs.Plans.{PlanFits, all_starts, composed, nests}
+use Rattle.hier_agg.specs.Plans.{PlanFits, all_starts, composed_fold, nests}
 use Rattle.hier_agg.specs.Regroup.{regroup}
 use Rattle.hier_agg.specs.Stale.{AreUpperRanges, AreWholeRanges, holds_stale}
 use Rattle.hier_agg.specs.Upper.{rows_within, upper_answer, upper_rows}
@@ -44,13 +44,13 @@ pub record BucketsNest : Type 0 where
 abbrev pub GroupingInTwoSteps : Type 0
 GroupingInTwoSteps =
     (lower : Fold) (plan : UpperPlan) (rows : List Row) → PlanFits lower plan
-    → regroup lower plan (groups_of lower rows) ≡ groups_of (composed lower plan) rows
+    → regroup lower plan (groups_of lower rows) ≡ groups_of (composed_fold lower plan) rows
 
 -- a roll-up over the rows of the lower fold shows the rows of the composed fold
 abbrev pub RollUpsShowTheComposedFold : Type 0
 RollUpsShowTheComposedFold =
     (lower : Fold) (plan : UpperPlan) (rows : List Row) → PlanFits lower plan
-    → upper_rows lower plan (fold_rows lower rows) ≡ fold_rows (composed lower plan) rows
+    → upper_rows lower plan (fold_rows lower rows) ≡ fold_rows (composed_fold lower plan) rows
 
 -- a wider bucket in which an answer shows the rows of the lower fold shows the aggregation from scratch under the
 -- composed fold, whatever the answer shows elsewhere
@@ -59,14 +59,14 @@ WiderBucketsShowTheComposedFold =
     (lower : Fold) (plan : UpperPlan) (rows : List Row) (found : List (List Datum)) (b : ℤ) → PlanFits lower plan
     → is_bucket plan.width b ≡ true
     → rows_within plan.width b found ≡ rows_within plan.width b (fold_rows lower rows)
-    → rows_within plan.width b (upper_rows lower plan found) ≡ scratch_of (composed lower plan) b rows
+    → rows_within plan.width b (upper_rows lower plan found) ≡ scratch_of (composed_fold lower plan) b rows
 
 -- so a roll-up whose composed fold is the lower one itself, which has its width, all its keys and columns and no test,
 -- shows of a bucket what the lower answer shows of it, of whatever rows that is; and it names the same ranges stale
 pub record WholeRollUpsShowTheLowerAnswer : Type 0 where
   pub rows :
       (lower : Fold) (plan : UpperPlan) (rows : List Row) (found : List (List Datum)) (b : ℤ) → PlanFits lower plan
-      → composed lower plan ≡ lower → is_bucket lower.width b ≡ true
+      → composed_fold lower plan ≡ lower → is_bucket lower.width b ≡ true
       → rows_within lower.width b found ≡ scratch_of lower b rows
       → rows_within lower.width b (upper_rows lower plan found) ≡ rows_within lower.width b found
   pub stale :
@@ -144,4 +144,4 @@ FreshBucketsShowTheComposedFold =
     → list_all (λ row. is_time row.at) (rows def.table h) ≡ true
     → IsRolledUp def.fold plan (answer_of_view n h all_starts (Some def)) upper → is_bucket plan.width b ≡ true
     → lies_in upper.stale b ≡ false → IsShownWhole n def h plan.width b
-    → rows_within plan.width b upper.rows ≡ scratch_of (composed def.fold plan) b (rows def.table h)
+    → rows_within plan.width b upper.rows ≡ scratch_of (composed_fold def.fold plan) b (rows def.table h)

@@ -88,8 +88,8 @@ abbrev pub table_test : Fold → Test → Test
 table_test lower t = record { col = key_at lower t.col; cmp = t.cmp; num = t.num }
 
 -- the composed fold: the wider buckets, the chosen keys, the tests of both, and each function as it adds up
-abbrev pub composed : Fold → UpperPlan → Fold
-composed lower plan = record {
+abbrev pub composed_fold : Fold → UpperPlan → Fold
+composed_fold lower plan = record {
   width = plan.width;
   keys = map (key_at lower) plan.keys;
   aggs = map (agg_at lower) plan.cols;

@@ -18,8 +18,8 @@ use Rattle.hier_agg.specs.Refusals.{agg_named, key_named, upper_refusal}
 use Rattle.hier_agg.specs.declared.plans.UpperPlan.{UpperPlan}
 use Rattle.hier_agg.specs.declared.reads.UpperRead.{UpperRead}
 use Rattle.hier_agg.specs.declared.reads.UpperRead.TheVariants as reads
-use Rattle.hier_agg.specs.declared.stops.NotPlanned.{NotPlanned}
-use Rattle.hier_agg.specs.declared.stops.NotPlanned.TheVariants as stops
+use Rattle.hier_agg.specs.declared.stops.PlanStop.{PlanStop}
+use Rattle.hier_agg.specs.declared.stops.PlanStop.TheVariants as stops
 
 -- ---- the plan
 
@@ -100,7 +100,7 @@ IsRead read reads.NoMemory = ⊤
 -- ---- parts of it
 
 -- a part with this first refusal, if any, and this value
-abbrev pub Checks : {T : Type 0} → Option Refusal → T → Result T NotPlanned → Type 0
+abbrev pub Checks : {T : Type 0} → Option Refusal → T → Result T PlanStop → Type 0
 Checks refusal value (Ok v) = (refusal ≡ None) × (v ≡ value)
 Checks refusal value (Err (stops.Refused r)) = refusal ≡ Some r
 Checks refusal value (Err stops.NoMemory) = ⊤

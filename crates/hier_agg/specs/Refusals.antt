@@ -15,7 +15,7 @@ use Rattle.stmt_syntax.specs.declared.statements.NamedFold.{NamedFold}
 use Rattle.stmt_syntax.specs.declared.statements.NamedTest.{NamedTest}
 use Rattle.stmt_check.specs.Folds.{columns_before, is_shift, is_step, output_count}
 use Rattle.stmt_check.specs.Queries.{is_bucket_column}
-use Rattle.stmt_check.specs.Refusals.{◌⊳◌, marked, missing, refused}
+use Rattle.stmt_check.specs.Refusals.{◌⊳◌, marked_refusal, refusal_if_none, refusal_if}
 use Rattle.hier_agg.specs.Plans.{agg_at}
 
 -- ---- columns
@@ -80,7 +80,7 @@ fits Avg f = false
 -- one key after so many columns: it is a key, and there aren't too many columns
 abbrev pub key_refusal : ℕ → ViewDef → ℕ → ℕ → List ℕ → Option Refusal
 key_refusal pos def count others name =
-    missing pos no_column (key_named def name) ⊳ marked pos too_many count (nat_le most_columns others)
+    refusal_if_none pos no_column (key_named def name) ⊳ marked_refusal pos too_many count (nat_le most_columns others)
 
 -- keys from left to right, after so many columns
 abbrev pub keys_refusal : ℕ → ViewDef → ℕ → ℕ → List (List ℕ) → Option Refusal
@@ -91,15 +91,15 @@ keys_refusal pos def count others (k ∷ ks) =
 -- the argument of a function, or the function where it has none: it is an aggregate's column, and the function fits
 -- it
 abbrev pub argument_refusal : ℕ → ViewDef → Fun → Option (List ℕ) → Option Refusal
-argument_refusal pos def fun None = refused pos bad_rollup true
+argument_refusal pos def fun None = refusal_if pos bad_rollup true
 argument_refusal pos def fun (Some name) =
-    missing pos no_column (agg_named def name)
-    ⊳ refused pos bad_rollup (not (fits fun (agg_at def.fold (unwrap_or (agg_named def name) 0)).fun))
+    refusal_if_none pos no_column (agg_named def name)
+    ⊳ refusal_if pos bad_rollup (not (fits fun (agg_at def.fold (unwrap_or (agg_named def name) 0)).fun))
 
 -- one aggregate after so many columns: there aren't too many at its function, and then its argument
 abbrev pub agg_refusal : ℕ → ViewDef → ℕ → ℕ → NamedAgg → Option Refusal
 agg_refusal pos def count others a =
-    marked pos too_many count (nat_le most_columns others) ⊳ argument_refusal pos def a.fun a.col
+    marked_refusal pos too_many count (nat_le most_columns others) ⊳ argument_refusal pos def a.fun a.col
 
 -- aggregates from left to right, after so many columns
 abbrev pub aggs_refusal : ℕ → ViewDef → ℕ → ℕ → List NamedAgg → Option Refusal
@@ -108,22 +108,22 @@ aggs_refusal pos def count others (a ∷ left) =
     agg_refusal pos def count others a ⊳ aggs_refusal pos def count (raised_by 1 others) left
 
 -- a step divides a number
-abbrev pub divided : ℤ → ℤ → Bool
-divided z step = int_eq (int_rem_euclid z step) (nonneg 0)
+abbrev pub divides_evenly : ℤ → ℤ → Bool
+divides_evenly z step = int_eq (int_rem_euclid z step) (nonneg 0)
 
 -- the width and the offset are in range and fit those of the aggregate, with the bucket column between them; an offset
 -- that isn't written is 0, and is tried as one that is
 abbrev pub width_refusal : ℕ → ViewDef → NamedFold → Option Refusal
 width_refusal pos def f =
-    refused pos bad_width (not (is_step f.step)) ⊳ refused pos bad_width (not (divided f.step def.fold.width.step))
-    ⊳ refused pos no_column (not (is_bucket_column (view_column_of def f.at)))
-    ⊳ refused pos bad_width (not (is_shift f.step f.shift))
-    ⊳ refused pos bad_width (not (divided (f.shift -ℤ def.fold.width.shift) def.fold.width.step))
+    refusal_if pos bad_width (not (is_step f.step)) ⊳ refusal_if pos bad_width (not (divides_evenly f.step def.fold.width.step))
+    ⊳ refusal_if pos no_column (not (is_bucket_column (view_column_of def f.at)))
+    ⊳ refusal_if pos bad_width (not (is_shift f.step f.shift))
+    ⊳ refusal_if pos bad_width (not (divides_evenly (f.shift -ℤ def.fold.width.shift) def.fold.width.step))
 
 -- tests from left to right: each is on a key
 abbrev pub tests_refusal : ℕ → ViewDef → List NamedTest → Option Refusal
 tests_refusal pos def [] = None
-tests_refusal pos def (t ∷ ts) = missing pos no_column (key_named def t.col) ⊳ tests_refusal pos def ts
+tests_refusal pos def (t ∷ ts) = refusal_if_none pos no_column (key_named def t.col) ⊳ tests_refusal pos def ts
 
 -- a roll-up over an aggregate: the width, the bucket column and the offset, the keys, the aggregates, the tests
 abbrev pub upper_refusal : ℕ → ViewDef → NamedFold → Option Refusal

@@ -7,7 +7,7 @@ use Rattle.ts_schema.specs.declared.conditions.Test.{Test}
 use Rattle.ts_model.specs.declared.views.Fold.{Fold}
 use Rattle.partial_agg.specs.declared.groups.Group.{Group}
 use Rattle.partial_agg.specs.Summaries.{summary}
-use Rattle.group_fold.specs.Gathering.{ordered}
+use Rattle.group_fold.specs.Gathering.{in_group_order}
 use Rattle.hier_agg.specs.declared.plans.UpperPlan.{UpperPlan}
 
 -- keys pass every test
@@ -24,4 +24,4 @@ coarse lower plan g = record {
 
 -- groups whose keys pass, grouped more coarsely
 abbrev pub regroup : Fold → UpperPlan → List Group → List Group
-regroup lower plan groups = ordered (map (coarse lower plan) (filter (λ g. keys_pass plan.tests g.keys) groups))
+regroup lower plan groups = in_group_order (map (coarse lower plan) (filter (λ g. keys_pass plan.tests g.keys) groups))

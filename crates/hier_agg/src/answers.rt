@@ -1,7 +1,7 @@
 //! The upper answer of a lower one.
 ghost use Rattle.std.specs.Prelude.{◌≡◌, [], IfOk};
 ghost use Rattle.cell_groups.specs.Groups.{rows_shown};
-ghost use Rattle.cell_groups.specs.Taken.{with_rows};
+ghost use Rattle.cell_groups.specs.TakenRows.{with_rows};
 ghost use Rattle.hier_agg.specs.Plans.{agg_at};
 ghost use Rattle.hier_agg.specs.Stale.{AreUpperRanges, AreWholeRanges};
 ghost use Rattle.hier_agg.specs.Taken.{row_group_of, row_passes};

@@ -4,7 +4,7 @@ ghost use Rattle.hier_agg.specs.Reads.{Checks, argument_of, arguments_of, key_nu
 ghost use Rattle.hier_agg.specs.Refusals.{agg_place, agg_refusal, aggs_refusal, argument_refusal, fits, key_place, key_refusal, keys_refusal, tests_refusal};
 
 use crate::answers::function_at;
-use crate::stops::{NotPlanned, present, refuse_marked};
+use crate::stops::{PlanStop, present, refuse_marked};
 use std::alloc::Global;
 use stmt_syntax::{NamedAgg, NamedTest};
 use ts_catalog::view_column;
@@ -55,13 +55,7 @@ fn is_fit(fun: Fun, lower: Fun) -> bool
 }
 
 /// The number of a key, after so many columns.
-fn check_key(
-    pos: u64,
-    def: &ViewDef,
-    count: u64,
-    others: u64,
-    name: &Name,
-) -> Result<u32, NotPlanned>
+fn check_key(pos: u64, def: &ViewDef, count: u64, others: u64, name: &Name) -> Result<u32, PlanStop>
     requires { length def.now.names < 2 ^ 32 }
     ensures { Checks (key_refusal pos def.now count others name.now) (key_number def.now name.now) result }
 {
@@ -77,7 +71,7 @@ pub(crate) fn check_keys(
     def: &ViewDef,
     count: u64,
     names: &[Name],
-) -> Result<Seq<u32>, NotPlanned>
+) -> Result<Seq<u32>, PlanStop>
     requires { length def.now.names < 2 ^ 32 }
     ensures { Checks (keys_refusal pos def.now count 1 names.now) (map (key_number def.now) names.now) result }
 {
@@ -97,7 +91,7 @@ fn check_agg(
     count: u64,
     others: u64,
     agg: &NamedAgg,
-) -> Result<u32, NotPlanned>
+) -> Result<u32, PlanStop>
     requires { length def.now.names < 2 ^ 32 }
     ensures { Checks (agg_refusal pos def.now count others agg.now) (argument_of def.now agg.now.col) result }
 {
@@ -106,12 +100,12 @@ fn check_agg(
 }
 
 /// The number of the column that a function adds up.
-fn check_argument(pos: u64, def: &ViewDef, fun: Fun, name: &Option<Name>) -> Result<u32, NotPlanned>
+fn check_argument(pos: u64, def: &ViewDef, fun: Fun, name: &Option<Name>) -> Result<u32, PlanStop>
     requires { length def.now.names < 2 ^ 32 }
     ensures { Checks (argument_refusal pos def.now fun name.now) (argument_of def.now name.now) result }
 {
     match name {
-        None => Err(NotPlanned::Refused(Refusal {
+        None => Err(PlanStop::Refused(Refusal {
             code: BAD_ROLLUP,
             pos,
             mark: 0,
@@ -137,7 +131,7 @@ pub(crate) fn check_aggs(
     count: u64,
     before: u64,
     aggs: &[NamedAgg],
-) -> Result<Seq<u32>, NotPlanned>
+) -> Result<Seq<u32>, PlanStop>
     requires { length def.now.names < 2 ^ 32 }
     ensures { Checks (aggs_refusal pos def.now count before aggs.now) (arguments_of def.now aggs.now) result }
 {
@@ -156,7 +150,7 @@ pub(crate) fn check_tests(
     pos: u64,
     def: &ViewDef,
     tests: &[NamedTest],
-) -> Result<Seq<Test>, NotPlanned>
+) -> Result<Seq<Test>, PlanStop>
     requires { length def.now.names < 2 ^ 32 }
     ensures { Checks (tests_refusal pos def.now tests.now) (map (test_of def.now) tests.now) result }
 {

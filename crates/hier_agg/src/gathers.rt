@@ -1,8 +1,8 @@
 //! The groups of an answer's rows.
 ghost use Rattle.std.specs.Prelude.{◌≡◌, [], IfOk, OnOk};
 ghost use Rattle.cell_groups.specs.Groups.{as_groups};
-ghost use Rattle.cell_groups.specs.Taken.{AreGathered, taken_in, with_rows};
-ghost use Rattle.group_fold.specs.Gathering.{ordered};
+ghost use Rattle.cell_groups.specs.TakenRows.{AreGathered, taken_in, with_rows};
+ghost use Rattle.group_fold.specs.Gathering.{in_group_order};
 ghost use Rattle.ts_model.specs.Results.{row_cells};
 ghost use Rattle.hier_agg.specs.Taken.{row_group_of, row_passes};
 ghost use Rattle.hier_agg.specs.Wides.{HoldsItsNumbers};
@@ -22,7 +22,7 @@ pub(crate) fn gather<'a>(
     shape: &Shape,
     rows: &'a ResultRows,
 ) -> Result<CellGroups<'a>, NoMemory>
-    ensures groups { IfOk result (λ gathered. ordered (as_groups shape.now gathered.groups.items)
+    ensures groups { IfOk result (λ gathered. in_group_order (as_groups shape.now gathered.groups.items)
         ≡ with_rows (row_passes plan.now) (row_group_of plan.now shape.now) rows.now []) }
     ensures gathered { IfOk result (λ gathered. AreGathered shape.now gathered) }
 {
@@ -48,8 +48,8 @@ fn take_row<'a>(
     requires numbers { HoldsItsNumbers plan.now.width bucket.old }
     requires gathered { AreGathered shape.now gathered.old }
     ensures numbers { HoldsItsNumbers plan.now.width bucket.new }
-    ensures groups { OnOk result (ordered (as_groups shape.now gathered.new.groups.items)
-        ≡ taken_in (row_passes plan.now) (row_group_of plan.now shape.now) (row_cells row.entry) (ordered (as_groups shape.now gathered.old.groups.items))) }
+    ensures groups { OnOk result (in_group_order (as_groups shape.now gathered.new.groups.items)
+        ≡ taken_in (row_passes plan.now) (row_group_of plan.now shape.now) (row_cells row.entry) (in_group_order (as_groups shape.now gathered.old.groups.items))) }
     ensures gathered { OnOk result (AreGathered shape.now gathered.new) }
 {
     if !passes_to(plan, row, bucket)? {

@@ -8,7 +8,7 @@ ghost use Rattle.hier_agg.specs.Refusals.{upper_refusal};
 
 use crate::columns::{check_aggs, check_keys, check_tests};
 use crate::plans::UpperPlan;
-use crate::stops::NotPlanned;
+use crate::stops::PlanStop;
 use crate::widths::check_width;
 use std::alloc::Global;
 use stmt_syntax::{NamedFold, Stmt};
@@ -84,8 +84,8 @@ fn read_over(alloc: Global, pos: u64, number: u32, def: &ViewDef, fold: &NamedFo
 {
     match plan_over(alloc, pos, number, def, fold) {
         Ok(plan) => UpperRead::Plan(plan),
-        Err(NotPlanned::Refused(refusal)) => UpperRead::Refused(refusal),
-        Err(NotPlanned::NoMemory) => UpperRead::NoMemory,
+        Err(PlanStop::Refused(refusal)) => UpperRead::Refused(refusal),
+        Err(PlanStop::NoMemory) => UpperRead::NoMemory,
     }
 }
 
@@ -96,7 +96,7 @@ fn plan_over(
     number: u32,
     def: &ViewDef,
     fold: &NamedFold,
-) -> Result<UpperPlan, NotPlanned>
+) -> Result<UpperPlan, PlanStop>
     requires { length def.now.names < 2 ^ 32 }
     ensures { Checks (upper_refusal pos def.now fold.now) (plan_of number def.now fold.now) result }
 {

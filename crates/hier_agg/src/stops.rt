@@ -1,7 +1,7 @@
 //! Why the reading of a roll-up ends early.
 ghost use Rattle.std.specs.Prelude.{unwrap_or};
 ghost use Rattle.ts_model.specs.Numbers.{no_column};
-ghost use Rattle.stmt_check.specs.Refusals.{marked, missing};
+ghost use Rattle.stmt_check.specs.Refusals.{marked_refusal, refusal_if_none};
 ghost use Rattle.hier_agg.specs.Reads.{Checks};
 
 use ts_model::Refusal;
@@ -10,41 +10,41 @@ use ts_schema::NoMemory;
 
 /// Why the reading ended early.
 #[derive(Clone, Copy, Debug, PartialEq, Eq)]
-pub(crate) enum NotPlanned {
+pub(crate) enum PlanStop {
     /// This is refused.
     Refused(Refusal),
     /// There was no memory.
     NoMemory,
 }
 
-impl From<NoMemory> for NotPlanned {
+impl From<NoMemory> for PlanStop {
     ghost use Rattle.std.specs.Prelude.{◌≡◌};
-    ghost use Rattle.hier_agg.specs.declared.stops.NotPlanned.TheVariants.{NoMemory};
+    ghost use Rattle.hier_agg.specs.declared.stops.PlanStop.TheVariants.{NoMemory};
 
     ghost from_gives = { λ _ e. e ≡ NoMemory };
 
-    fn from(_refused: NoMemory) -> NotPlanned {
-        NotPlanned::NoMemory
+    fn from(_refused: NoMemory) -> PlanStop {
+        PlanStop::NoMemory
     }
 }
 
 /// Refuses with this number and mark where something is wrong.
-pub(crate) fn refuse_marked(pos: u64, code: u8, mark: u64, wrong: bool) -> Result<(), NotPlanned>
-    ensures { Checks (marked pos code mark wrong) tt result }
+pub(crate) fn refuse_marked(pos: u64, code: u8, mark: u64, wrong: bool) -> Result<(), PlanStop>
+    ensures { Checks (marked_refusal pos code mark wrong) tt result }
 {
     if wrong {
-        return Err(NotPlanned::Refused(Refusal { code, pos, mark }));
+        return Err(PlanStop::Refused(Refusal { code, pos, mark }));
     }
     Ok(())
 }
 
 /// What has to be there, or the refusal of a column.
-pub(crate) fn present(pos: u64, found: Option<u32>) -> Result<u32, NotPlanned>
-    ensures { Checks (missing pos no_column found) (unwrap_or found 0) result }
+pub(crate) fn present(pos: u64, found: Option<u32>) -> Result<u32, PlanStop>
+    ensures { Checks (refusal_if_none pos no_column found) (unwrap_or found 0) result }
 {
     match found {
         Some(number) => Ok(number),
-        None => Err(NotPlanned::Refused(Refusal {
+        None => Err(PlanStop::Refused(Refusal {
             code: NO_COLUMN,
             pos,
             mark: 0,

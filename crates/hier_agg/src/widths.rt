@@ -3,9 +3,9 @@ ghost use Rattle.std.specs.Prelude.{◌≡◌, ◌<◌, ◌-ℤ◌, ◌^◌, len
 ghost use Rattle.stmt_check.specs.Folds.{is_step, width_of};
 ghost use Rattle.stmt_check.specs.Queries.{is_bucket_column};
 ghost use Rattle.hier_agg.specs.Reads.{Checks};
-ghost use Rattle.hier_agg.specs.Refusals.{divided, width_refusal};
+ghost use Rattle.hier_agg.specs.Refusals.{divides_evenly, width_refusal};
 
-use crate::stops::{NotPlanned, refuse_marked};
+use crate::stops::{PlanStop, refuse_marked};
 use stmt_syntax::NamedFold;
 use ts_bucket::{MOST_STEP, Width, width};
 use ts_catalog::view_column;
@@ -13,7 +13,7 @@ use ts_model::codes::{BAD_WIDTH, NO_COLUMN};
 use ts_model::{Refusal, ViewDef};
 
 /// The width, where it fits that of the aggregate and the column is the bucket column.
-pub(crate) fn check_width(pos: u64, def: &ViewDef, fold: &NamedFold) -> Result<Width, NotPlanned>
+pub(crate) fn check_width(pos: u64, def: &ViewDef, fold: &NamedFold) -> Result<Width, PlanStop>
     requires { length def.now.names < 2 ^ 32 }
     ensures { Checks (width_refusal pos def.now fold.now) (width_of fold.now) result }
 {
@@ -26,7 +26,7 @@ pub(crate) fn check_width(pos: u64, def: &ViewDef, fold: &NamedFold) -> Result<W
             refuse_marked(pos, BAD_WIDTH, 0, !fits_offset(lower, &width))?;
             Ok(width)
         }
-        None => Err(NotPlanned::Refused(Refusal {
+        None => Err(PlanStop::Refused(Refusal {
             code: BAD_WIDTH,
             pos,
             mark: 0,
@@ -43,14 +43,14 @@ fn is_step_in_range(step: i64) -> bool
 
 /// Whether the step of a width divides a number.
 fn divides(lower: &Width, z: i64) -> bool
-    ensures { result ≡ divided z lower.now.step }
+    ensures { result ≡ divides_evenly z lower.now.step }
 {
     z.rem_euclid(lower.step) == 0
 }
 
 /// Whether the step of a width divides what lies between its offset and another.
 fn fits_offset(lower: &Width, upper: &Width) -> bool
-    ensures { result ≡ divided (upper.now.shift -ℤ lower.now.shift) lower.now.step }
+    ensures { result ≡ divides_evenly (upper.now.shift -ℤ lower.now.shift) lower.now.step }
 {
     (upper.shift - lower.shift).rem_euclid(lower.step) == 0
 }

@@ -2,7 +2,7 @@
 ghost use Rattle.std.specs.Prelude.{◌≡◌, List, [], true, IfOk, IfSome, OnOk};
 ghost use Rattle.partial_agg.specs.declared.groups.Group.{Group};
 ghost use Rattle.cell_groups.specs.Groups.{HasTallies, rows_shown};
-ghost use Rattle.cell_groups.specs.Taken.{taken_in, with_rows};
+ghost use Rattle.cell_groups.specs.TakenRows.{taken_in, with_rows};
 ghost use Rattle.cell_groups.specs.Written.{AreRows, AreWritten, rows_written};
 ghost use Rattle.ts_model.specs.Results.{row_cells};
 ghost use Rattle.hier_agg.specs.Taken.{row_group_of, row_passes};

@@ -16,7 +16,7 @@ use Rattle.ts_model.specs.declared.events.Event.{Event}
 use Rattle.ts_model.specs.History.{History}
 use Rattle.ts_model.specs.Refreshes.{last}
 use Rattle.ts_model.specs.Roster.{roster, view_of}
-use Rattle.ts_model.specs.Saved.{group_of, groups_among, nothing_saved, saved, summary_of}
+use Rattle.ts_model.specs.Saved.{group_of, groups_among, nothing_saved, saved_view, summary_of}
 use Rattle.ts_model.specs.Valid.{valid}
 use Rattle.ts_model.specs.Allowed.{all_allowed}
 use Rattle.base_image.specs.Outlines.{with_rows}
@@ -48,8 +48,8 @@ view_few (v ∷ views) (suc n) few = view_few views n (and_parts (few_in_view v)
 
 pub are_few : (h : History) (i : Image) → IsImage h i → few_in_image i ≡ true → AreFew h
 are_few h i is few n def b view whole left =
-    let there : groups_among (saved n i).groups b ≡ groups_left n def h b (last n h b) = (is.views n def view).groups b whole ∙ cond-true _ (groups_left n def h b (last n h b)) [] left in
-    ap (list_all is_few) (sym there) ∙ among_few (saved n i).groups b (view_few i.views n few)
+    let there : groups_among (saved_view n i).groups b ≡ groups_left n def h b (last n h b) = (is.views n def view).groups b whole ∙ cond-true _ (groups_left n def h b (last n h b)) [] left in
+    ap (list_all is_few) (sym there) ∙ among_few (saved_view n i).groups b (view_few i.views n few)
 
 -- the image of an allowed history is valid where its groups are of few rows
 pub is_valid : (h : History) (i : Image) → ImagesAreValid → all_allowed h ≡ true → IsImage h i → few_in_image i ≡ true → valid i ≡ true

@@ -33,7 +33,7 @@ use Rattle.ts_model.specs.Windows.{last_end, window_up_to, window}
 use Rattle.ts_model.specs.declared.outcomes.CutDone.TheVariants.{Cut as CutMade, Nothing as NothingDone}
 use Rattle.ts_model.specs.Effect.{appended_count, taken_count}
 use Rattle.ts_model.specs.Limits.{most_relations, last_position}
-use Rattle.ts_model.specs.Calls.{making, Act, refuses, returns, makes, new_relation, numbered, refusal, making_table, making_hyper, making_view, setting_mode, committed, committing, cut_over, cut_of_view, cutting, finish_of, finishing}
+use Rattle.ts_model.specs.Calls.{act_of_event, Act, refuses, returns, makes, new_relation, act_with_number, refusal, making_table, making_hyper, making_view, setting_mode, commit_result, act_of_commit, cut_over, cut_of_view, act_of_cut, finish_of, act_of_finish}
 use Rattle.ts_model.specs.Numbers.{name_taken, no_bucket, no_refresh, too_many, history_full}
 use Rattle.image_laws.specs.Alike.{AlikeView, Alike, AlikeAnswers}
 use Rattle.ts_model.proofs.RangeLaws.{RisingBuckets, rising-buckets_in}
@@ -112,18 +112,18 @@ pub refusal_same : (code mark : ℕ) (g h : History) → position g ≡ position
 refusal_same code mark g h e = ap (λ p. record { code = code; pos = p; mark = mark }) e
 
 -- an event is made at both, or at neither
-made_same : {A : Type 0} (g h : History) (e : Event) (a : ℕ → A) → position g ≡ position h → making g e (a (position g)) ≡ making h e (a (position h))
+made_same : {A : Type 0} (g h : History) (e : Event) (a : ℕ → A) → position g ≡ position h → act_of_event g e (a (position g)) ≡ act_of_event h e (a (position h))
 made_same g h e a p = ap (λ q. cond (nat_lt q last_position) (makes e (a q)) (refuses (record { code = history_full; pos = q; mark = 0 }))) p
 
 relation_same : (g h : History) (taken : Bool) (many : ℕ) (e : Event) → position g ≡ position h → new_relation g taken many e ≡ new_relation h taken many e
 relation_same g h true many e p = ap refuses (refusal_same name_taken 0 g h p)
 relation_same g h false many e p =
-    elim (nat_lt many most_relations) as (λ t. cond t (numbered g e) (refuses (refusal too_many g (suc most_relations))) ≡ cond t (numbered h e) (refuses (refusal too_many h (suc most_relations)))) [
+    elim (nat_lt many most_relations) as (λ t. cond t (act_with_number g e) (refuses (refusal too_many g (suc most_relations))) ≡ cond t (act_with_number h e) (refuses (refusal too_many h (suc most_relations)))) [
       | true ↦ made_same g h e suc p
       | false ↦ ap refuses (refusal_same too_many (suc most_relations) g h p)
     ]
 
-hyper_same : (g h : History) (was : Bool) (e : Event) → position g ≡ position h → cond was (refuses (refusal name_taken g 0)) (numbered g e) ≡ cond was (refuses (refusal name_taken h 0)) (numbered h e)
+hyper_same : (g h : History) (was : Bool) (e : Event) → position g ≡ position h → cond was (refuses (refusal name_taken g 0)) (act_with_number g e) ≡ cond was (refuses (refusal name_taken h 0)) (act_with_number h e)
 hyper_same g h true e p = ap refuses (refusal_same name_taken 0 g h p)
 hyper_same g h false e p = made_same g h e suc p
 
@@ -150,7 +150,7 @@ alike_answers = record {
       ∙ ap (λ r. new_relation h (is_taken r def.name) (length r.tables) (Table def)) a.relations;
   hypers = λ t hyper g h a.
       hyper_same g h (is_some (hyper_of (roster g) t)) (Hyper t hyper) a.places
-      ∙ ap (λ r. cond (is_some (hyper_of r t)) (refuses (refusal name_taken h 0)) (numbered h (Hyper t hyper))) a.relations;
+      ∙ ap (λ r. cond (is_some (hyper_of r t)) (refuses (refusal name_taken h 0)) (act_with_number h (Hyper t hyper))) a.relations;
   views_made = λ def g h a.
       relation_same g h (is_taken (roster g) def.name) (length (roster g).views) (View def) a.places
       ∙ ap (λ r. new_relation h (is_taken r def.name) (length r.views) (View def)) a.relations;

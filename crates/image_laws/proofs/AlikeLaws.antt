@@ -19,7 +19,7 @@ use Rattle.ts_model.specs.Saved.{is_dirty}
 use Rattle.ts_model.specs.Roster.{IsOf, roster_after, roster, view_of}
 use Rattle.ts_model.specs.Rows.{after_ops, rows, rows_at}
 use Rattle.ts_model.specs.Effect.{hull_of_ops}
-use Rattle.ts_model.specs.Groups.{groups_in, stood, groups_at}
+use Rattle.ts_model.specs.Groups.{groups_in, groups_at_last, groups_at}
 use Rattle.ts_model.specs.Pending.{finished_by, is_waiting, is_known, pending}
 use Rattle.ts_model.specs.Refreshes.{span_of_cut, is_covered, is_met, last, touches, last_touch, touched, top_in, top_of, watermark}
 use Rattle.ts_model.specs.Allowed.{allowed, all_allowed}
@@ -62,7 +62,7 @@ touched_same n def g h ops b s places stored e =
     ∙ sym (touched_further n def h ops b s)
 
 groups_further : (n : ℕ) (def : ViewDef) (h : History) (e : Event) (s : ℕ) (b : ℤ) → s ≤ position h → groups_at n def (h ▸ e) s b ≡ groups_at n def h s b
-groups_further n def h e s b l = ap (λ g. stood n def g s b) (prefix_further h e s l)
+groups_further n def h e s b l = ap (λ g. groups_at_last n def g s b) (prefix_further h e s l)
 
 -- what is left in a bucket that was touched, after an event that leaves its last refresh
 left_further : (n : ℕ) (def : ViewDef) (g h : History) (e : Event) (b : ℤ) (s : ℕ) → all_allowed g ≡ true → all_allowed h ≡ true → last n g b ≡ Some s → last n h b ≡ Some s → groups_at n def g s b ≡ groups_at n def h s b → groups_at n def (g ▸ e) s b ≡ groups_at n def (h ▸ e) s b

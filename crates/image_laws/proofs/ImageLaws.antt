@@ -28,10 +28,10 @@ use Rattle.ts_model.specs.declared.tables.TableDef.{TableDef}
 use Rattle.ts_model.specs.declared.tables.TableInfo.{TableInfo}
 use Rattle.ts_model.specs.declared.views.ViewDef.{ViewDef}
 use Rattle.ts_model.specs.History.{History, start, resumed, ◌▸◌, position, prefix}
-use Rattle.ts_model.specs.Saved.{appended_by, all_appended, appended_over, span_among, finished_among, pending_among, nothing_saved, saved, saved_last, is_dirty, saved_groups, pos_in}
+use Rattle.ts_model.specs.Saved.{appended_by, all_appended, appended_over, span_among, finished_among, pending_among, nothing_saved, saved_view, saved_last, is_dirty, saved_groups, pos_in}
 use Rattle.ts_model.specs.Roster.{IsOf, no_relations, change_at, made_hyper, roster_after, roster_over, roster, view_of, table_of, of_table}
 use Rattle.ts_model.specs.Rows.{in_order, rows}
-use Rattle.ts_model.specs.Groups.{groups_in, stood, groups_at}
+use Rattle.ts_model.specs.Groups.{groups_in, groups_at_last, groups_at}
 use Rattle.ts_model.specs.Pending.{finished_by, is_waiting, is_known, pending, waiting}
 use Rattle.ts_model.specs.Refreshes.{span_of_cut, is_covered, last, touches, last_touch, touched, top_of, is_invalid, invalid, watermark}
 use Rattle.ts_model.specs.Laws.{Rises, fits_table}
@@ -507,7 +507,7 @@ none_past [] n e = omega arith
 none_past (x ∷ xs) zero e = absurd (cc)
 none_past (x ∷ xs) (suc n) e = omega (arith, none_past xs n e)
 
-pub saved_none : (n : ℕ) (h : History) (i : Image) → IsImage h i → view_of (roster h) n ≡ None → saved n i ≡ nothing_saved
+pub saved_none : (n : ℕ) (h : History) (i : Image) → IsImage h i → view_of (roster h) n ≡ None → saved_view n i ≡ nothing_saved
 saved_none n h i is none =
     let past : length (roster h).views ≤ n = none_past (roster h).views n none in
     let as_many : length i.views ≡ length (roster h).views = is.as_many in
@@ -531,7 +531,7 @@ module _ (name : List ℕ) (names : List (List ℕ)) (only : Bool) (n : ℕ) (de
   touch_as (h ▸ Commit ops) b = ap (λ p. later p (cond (touches def ops h b) (Some (suc (position h))) None)) (touch_as h b)
   touch_as (h ▸ x) b = touch_as h b
 
-  stood_as : (h : History) (s : ℕ) (b : ℤ) → stood n (relabel name names only def) h s b ≡ stood n def h s b
+  stood_as : (h : History) (s : ℕ) (b : ℤ) → groups_at_last n (relabel name names only def) h s b ≡ groups_at_last n def h s b
   stood_as start s b = refl
   stood_as (resumed i) s b = refl
   stood_as (h ▸ x) s b = refl
@@ -563,7 +563,7 @@ last_before n (h ▸ Built cut snap) b s ok e =
     (later_is (last n h b) (cond (is_covered b (span_of_cut n h cut)) (Some snap) None) s e)
 last_before n (h ▸ x) b s ok e = omega (arith, last_before n h b s (and_parts (all_allowed h) _ ok).0 e)
 
-view_again : (n : ℕ) (def : ViewDef) (h : History) (i : Image) → all_allowed h ≡ true → i.pos ≡ position h → IsSavedView n def h (saved n i) → AlikeView n def h (resumed i)
+view_again : (n : ℕ) (def : ViewDef) (h : History) (i : Image) → all_allowed h ≡ true → i.pos ≡ position h → IsSavedView n def h (saved_view n i) → AlikeView n def h (resumed i)
 view_again n def h i ok pos v = record {
   marks = sym v.mark;
   lasts = λ b bucket. sym (v.lasts b bucket);
@@ -603,7 +603,7 @@ views_alike h i ok is n def None there of = record {
   left = λ b s bucket l t. absurd (none_some (sym (never_refreshed n h b ok there) ∙ l));
 }
   where
-    gone : saved n i ≡ nothing_saved
+    gone : saved_view n i ≡ nothing_saved
     gone = saved_none n h i is there
 
     none_some : {s : ℕ} → (let none : Option ℕ = None in none ≡ Some s) → ⊥

@@ -25,7 +25,7 @@ use Rattle.ts_model.specs.declared.images.Sums.{Sums}
 use Rattle.ts_model.specs.declared.views.ViewDef.{ViewDef}
 use Rattle.ts_model.specs.History.{History}
 use Rattle.ts_model.specs.Roster.{roster, view_of}
-use Rattle.ts_model.specs.Saved.{saved, nothing_saved, pos_in, summary_of, group_of, groups_among}
+use Rattle.ts_model.specs.Saved.{saved_view, nothing_saved, pos_in, summary_of, group_of, groups_among}
 use Rattle.ts_model.specs.Valid.{all_rise}
 use Rattle.image_laws.specs.Images.{LastsRise, IsSavedView, IsImage, OneImage}
 use Rattle.ts_model.proofs.SameRanges.{same_ranges}
@@ -242,7 +242,7 @@ views_one (u ∷ us) (v ∷ vs) e each =
 
 pub one_image : OneImage
 one_image h i j a b =
-    let saved_same : (n : ℕ) → saved n i ≡ saved n j = λ n. by_view n (view_of (roster h) n) refl in
+    let saved_same : (n : ℕ) → saved_view n i ≡ saved_view n j = λ n. by_view n (view_of (roster h) n) refl in
     let views = views_one i.views j.views (a.as_many ∙ sym b.as_many) saved_same in
     let pos = a.pos ∙ sym b.pos in
     let relations = a.relations ∙ sym b.relations in
@@ -251,6 +251,6 @@ one_image h i j a b =
     let done = a.done ∙ sym b.done in
     λ k. record { pos = pos k; roster = relations k; rows = held k; views = views k; waiting = waits k; done = done k }
   where
-    by_view : (n : ℕ) (o : Option ViewDef) → view_of (roster h) n ≡ o → saved n i ≡ saved n j
+    by_view : (n : ℕ) (o : Option ViewDef) → view_of (roster h) n ≡ o → saved_view n i ≡ saved_view n j
     by_view n None there = saved_none n h i a there ∙ sym (saved_none n h j b there)
-    by_view n (Some def) there = view_one n def h (saved n i) (saved n j) (a.views n def there) (b.views n def there)
+    by_view n (Some def) there = view_one n def h (saved_view n i) (saved_view n j) (a.views n def there) (b.views n def there)

@@ -22,12 +22,12 @@ use Rattle.ts_model.specs.declared.images.SavedView.{SavedView}
 use Rattle.ts_model.specs.declared.views.Fold.{Fold}
 use Rattle.ts_model.specs.declared.views.ViewDef.{ViewDef}
 use Rattle.ts_model.specs.History.{History, start, resumed, ◌▸◌, position, prefix, Begins}
-use Rattle.ts_model.specs.Saved.{appended_over, saved, nothing_saved, is_dirty, saved_groups, group_of, groups_among, pos_in}
+use Rattle.ts_model.specs.Saved.{appended_over, saved_view, nothing_saved, is_dirty, saved_groups, group_of, groups_among, pos_in}
 use Rattle.ts_model.specs.Roster.{IsOf, set_only, no_relations, roster, roster_over, view_of}
 use Rattle.ts_model.specs.Rows.{in_order, rows}
 use Rattle.ts_model.specs.Limits.{last_position}
 use Rattle.ts_model.specs.Scratch.{once, keys_of, key_lists, bucket_rows, scratch}
-use Rattle.ts_model.specs.Groups.{cells_of, group_at, groups_in, stood, groups_at, scratch_at}
+use Rattle.ts_model.specs.Groups.{cells_of, group_at, groups_in, groups_at_last, groups_at, scratch_at}
 use Rattle.ts_model.specs.Refreshes.{last, is_invalid, invalid, touched, watermark}
 use Rattle.ts_model.specs.Allowed.{all_allowed}
 use Rattle.ts_model.specs.Laws.{fits_table}
@@ -75,7 +75,7 @@ saved_shapes n def i b ok is =
     subst (λ (f : Fold). list_all (group_shape f) (groups_among v.groups b) ≡ true) is.1 (all_shapes found v.dirty v.groups b fits))
     is
 
-stood_shape : (n : ℕ) (def : ViewDef) (g : History) (s : ℕ) (b : ℤ) → all_allowed g ≡ true → IsOf def (view_of (roster g) n) → list_all (group_shape def.fold) (stood n def g s b) ≡ true
+stood_shape : (n : ℕ) (def : ViewDef) (g : History) (s : ℕ) (b : ℤ) → all_allowed g ≡ true → IsOf def (view_of (roster g) n) → list_all (group_shape def.fold) (groups_at_last n def g s b) ≡ true
 stood_shape n def start s b ok is = groups_have_shape def.fold [] b refl
 stood_shape n def (resumed i) s b ok is =
     elim (nat_lt s i.pos && is_dirty n i b) as (λ t. list_all (group_shape def.fold) (cond t (saved_groups n i b) (groups_in def.fold (rows def.table (resumed i)) b)) ≡ true) [
@@ -224,7 +224,7 @@ images_are_valid h i ok few is =
     let position_ok = ap (λ p. nat_le p last_position) is.pos ∙ position_fits h ok in
     let relations_ok = ap (make_relations no_relations) is.relations ∙ roster_follows (roster h) (rosters_are_sound h (consistent_of h ok)) (names_apart h ok) in
     let rows_ok = (λ j. hold_rows (r j) 0 (is.held j)) ∙ rows_are_held h 0 (length (roster h).tables) ok 0 (omega arith) in
-    let views_ok = (λ j. views_kept (is.pos j) (λ t. held t j) (r j).views i.views) ∙ views_from (position h) (λ t. rows t h) (roster h).views i.views is.as_many (λ n def there. view_is_kept n def h (saved n i) ok few there (is.views n def there)) in
+    let views_ok = (λ j. views_kept (is.pos j) (λ t. held t j) (r j).views i.views) ∙ views_from (position h) (λ t. rows t h) (roster h).views i.views is.as_many (λ n def there. view_is_kept n def h (saved_view n i) ok few there (is.views n def there)) in
     let waiting_ok = (λ j. waiting_fits (r j) (is.pos j) (is.waits j)) ∙ waiting_is_fit h ok in
     let done_ok = (λ j. done_fits (is.pos j) (is.waits j) (is.done j)) ∙ done_is_fit h ok in
     and_from _ _ (and_from _ _ (and_from _ _ (and_from _ _ (and_from _ _ position_ok relations_ok) rows_ok) views_ok) waiting_ok) done_ok

@@ -31,7 +31,7 @@ use Rattle.ts_model.specs.Windows.{window}
 use Rattle.ts_model.specs.Pending.{pending, waiting}
 use Rattle.ts_model.specs.Bytes.{event_bytes}
 use Rattle.ts_model.specs.Reads.{reads}
-use Rattle.ts_model.specs.Calls.{committed}
+use Rattle.ts_model.specs.Calls.{commit_result}
 use Rattle.ts_model.specs.declared.images.Finished.{Finished as FinishedRefresh}
 use Rattle.ts_model.specs.declared.images.Image.{Image}
 use Rattle.ts_model.specs.declared.images.SavedGroup.{SavedGroup}
@@ -40,7 +40,7 @@ use Rattle.ts_model.specs.declared.images.SavedView.{SavedView}
 use Rattle.ts_model.specs.declared.images.Sums.{Sums}
 use Rattle.ts_model.specs.History.{resumed}
 use Rattle.ts_model.specs.Roster.{roster}
-use Rattle.ts_model.specs.Calls.{refuses, setting_mode, cutting}
+use Rattle.ts_model.specs.Calls.{refuses, setting_mode, act_of_cut}
 use Rattle.ts_model.specs.Valid.{valid}
 use Rattle.image_laws.specs.Images.{roster_events, row_events, finished_upto}
 use Rattle.ts_model.specs.Groups.{groups_at}
@@ -485,5 +485,5 @@ full_event : allowed full (Mode 0 true) ≡ false
 full_event = refl
 
 -- a window without a bucket is refused as E15 first, and one with nothing to do is no event
-full_no_bucket : cutting 0 (Some (pos 3)) (Some (pos 9)) full ≡ refuses (record { code = 15; pos = 4611686018427387904; mark = 0 })
+full_no_bucket : act_of_cut 0 (Some (pos 3)) (Some (pos 9)) full ≡ refuses (record { code = 15; pos = 4611686018427387904; mark = 0 })
 full_no_bucket = refl

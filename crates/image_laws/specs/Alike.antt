@@ -18,7 +18,7 @@ use Rattle.ts_model.specs.Refreshes.{span_of_cut, last, touched, watermark}
 use Rattle.ts_model.specs.Answers.{answer, with_queue}
 use Rattle.ts_model.specs.Windows.{window}
 use Rattle.ts_model.specs.Allowed.{all_allowed}
-use Rattle.ts_model.specs.Calls.{making_table, making_hyper, making_view, setting_mode, committing, cutting, finishing}
+use Rattle.ts_model.specs.Calls.{making_table, making_hyper, making_view, setting_mode, act_of_commit, act_of_cut, act_of_finish}
 
 -- two histories tell the same of an aggregate: its watermark, the last refresh of each bucket, whether the bucket was
 -- touched after it, and what it has left in a bucket that was
@@ -75,6 +75,6 @@ pub record AlikeAnswers : Type 0 where
       (t : ℕ) (hyper : HyperInfo) (g h : History) → Alike g h → making_hyper t hyper g ≡ making_hyper t hyper h
   pub views_made : (def : ViewDef) (g h : History) → Alike g h → making_view def g ≡ making_view def h
   pub modes : (n : ℕ) (only : Bool) (g h : History) → Alike g h → setting_mode n only g ≡ setting_mode n only h
-  pub commits : (ops : List Op) (g h : History) → Alike g h → committing ops g ≡ committing ops h
-  pub cuts : (n : ℕ) (lo hi : Option ℤ) (g h : History) → Alike g h → cutting n lo hi g ≡ cutting n lo hi h
-  pub finishes : (cut snap : ℕ) (g h : History) → Alike g h → finishing cut snap g ≡ finishing cut snap h
+  pub commits : (ops : List Op) (g h : History) → Alike g h → act_of_commit ops g ≡ act_of_commit ops h
+  pub cuts : (n : ℕ) (lo hi : Option ℤ) (g h : History) → Alike g h → act_of_cut n lo hi g ≡ act_of_cut n lo hi h
+  pub finishes : (cut snap : ℕ) (g h : History) → Alike g h → act_of_finish cut snap g ≡ act_of_finish cut snap h

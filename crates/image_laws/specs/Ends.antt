@@ -4,16 +4,16 @@ use Rattle.ts_model.specs.declared.events.Event.{Event}
 use Rattle.ts_model.specs.declared.outcomes.Committed.{Committed}
 use Rattle.ts_model.specs.declared.outcomes.CutDone.{CutDone}
 use Rattle.ts_model.specs.Allowed.{allowed, all_allowed}
-use Rattle.ts_model.specs.Calls.{making, makes, refuses}
+use Rattle.ts_model.specs.Calls.{act_of_event, makes, refuses}
 use Rattle.ts_model.specs.History.{History, position}
 use Rattle.ts_model.specs.Numbers.{history_full}
 
 -- a call that says this of its event makes it below position 2 ^ 62, and at it is refused as E30, whether the store
 -- stands still or not
 pub record MadeUpToEnd (A : Type 0) : Type 0 where
-  pub below : (h : History) (e : Event) (a : A) → position h < 2 ^ 62 → making h e a ≡ makes e a
+  pub below : (h : History) (e : Event) (a : A) → position h < 2 ^ 62 → act_of_event h e a ≡ makes e a
   pub full : (h : History) (e : Event) (a : A) → position h ≡ 2 ^ 62
-      → making h e a ≡ refuses (record { code = history_full; pos = position h; mark = 0 })
+      → act_of_event h e a ≡ refuses (record { code = history_full; pos = position h; mark = 0 })
 
 -- an allowed history goes to position 2 ^ 62 at most, wherever it begins, and no event is allowed there
 pub record HistoriesEnd : Type 0 where

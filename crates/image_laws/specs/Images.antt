@@ -24,7 +24,7 @@ use Rattle.ts_model.specs.declared.queries.Query.{Query}
 use Rattle.ts_model.specs.History.{History, resumed, ◌▸▸◌, position, prefix}
 use Rattle.ts_model.specs.Answers.{answer}
 use Rattle.ts_model.specs.Windows.{window}
-use Rattle.ts_model.specs.Saved.{saved, pos_in, group_of, groups_among}
+use Rattle.ts_model.specs.Saved.{saved_view, pos_in, group_of, groups_among}
 use Rattle.ts_model.specs.Roster.{roster, view_of}
 use Rattle.ts_model.specs.Rows.{rows}
 use Rattle.ts_model.specs.Groups.{groups_at}
@@ -118,7 +118,7 @@ pub record IsImage (h : History) (i : Image) : Type 0 where
   pub relations : i.roster ≡ roster_events (roster h)
   pub held : i.rows ≡ row_events h 0 (length (roster h).tables)
   pub as_many : length i.views ≡ length (roster h).views
-  pub views : (n : ℕ) (def : ViewDef) → view_of (roster h) n ≡ Some def → IsSavedView n def h (saved n i)
+  pub views : (n : ℕ) (def : ViewDef) → view_of (roster h) n ≡ Some def → IsSavedView n def h (saved_view n i)
   pub waits : i.waiting ≡ waiting h
   pub done : i.done ≡ finished_upto h (position h)
 

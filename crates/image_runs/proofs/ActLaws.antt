@@ -13,7 +13,7 @@ use Rattle.ts_model.specs.declared.outcomes.Refusal.{Refusal}
 use Rattle.ts_model.specs.declared.rosters.Roster.{Roster}
 use Rattle.ts_model.specs.declared.views.ViewDef.{ViewDef}
 use Rattle.ts_model.specs.Allowed.{all_allowed}
-use Rattle.ts_model.specs.Calls.{committing, cutting, making_hyper, making_table, making_view, setting_mode}
+use Rattle.ts_model.specs.Calls.{act_of_commit, act_of_cut, making_hyper, making_table, making_view, setting_mode}
 use Rattle.ts_model.specs.History.{History, ◌▸▸◌, position}
 use Rattle.ts_model.specs.Roster.{roster, view_of}
 use Rattle.ts_model.specs.Sound.{sound}
@@ -32,7 +32,7 @@ use Rattle.result_text.specs.declared.replies.Said.{Said}
 use Rattle.result_text.specs.declared.replies.Said.TheVariants as said
 use Rattle.ts_sessions.specs.Places.{Block, none, writing, reading, Places, Turn, cuts, enters, turns}
 use Rattle.ts_sessions.specs.Procedures.{Procedure, ends, ending_as, followed_by, tries_at}
-use Rattle.ts_sessions.specs.Step.{acts, answers, after_cut, after_line, after_view, calendar_plan, changes, closes, commits, committed, cut_turn, given_up, least_start, plan_of, refresh_meant, refreshes, reported, unit_of, view_made}
+use Rattle.ts_sessions.specs.Step.{acts, answers, after_cut, after_line, after_view, calendar_plan, changes, closes, commits, turn_of_commit, cut_turn, given_up, least_start, plan_of, refresh_meant, refreshes, turn_of_line, unit_of, view_made}
 use Rattle.image_runs.proofs.AskLaws.{answers_along}
 use Rattle.image_runs.proofs.CallLaws.{SameTurn, TurnsAlong, cut_first, finishes_along, now_from, refresh_along, same_said, snaps_along}
 use Rattle.image_runs.proofs.PlaceLaws.{BlockFits, PlacesFit, places_on}
@@ -67,7 +67,7 @@ module _ (h : History) (i : Image) (ok : all_allowed h ≡ true) (is : IsImage h
 
   -- ---- what is said of calls
 
-  reported_same : {A : Type 0} (line : A → Said) (es : List Event) (r : Result A Refusal) → SameTurn i.pos (used + bytes) (k ▸▸ es) (reported p line r) (reported p line r)
+  reported_same : {A : Type 0} (line : A → Said) (es : List Event) (r : Result A Refusal) → SameTurn i.pos (used + bytes) (k ▸▸ es) (turn_of_line p line r) (turn_of_line p line r)
   reported_same line es (Ok a) = same_said i.pos (used + bytes) (k ▸▸ es) p (line a) (later es)
   reported_same line es (Err r) = same_said i.pos (used + bytes) (k ▸▸ es) p (said.Fault r) (later es)
 
@@ -76,14 +76,14 @@ module _ (h : History) (i : Image) (ok : all_allowed h ≡ true) (is : IsImage h
   cut_said min es (Ok (NothingDone at)) = same_said i.pos (used + bytes) (k ▸▸ es) p (said.Nothing at) (later es)
   cut_said min es (Err r) = same_said i.pos (used + bytes) (k ▸▸ es) p (said.Fault r) (later es)
 
-  commits_said : (after : Places) → ((es : List Event) → PlacesFit i.pos (used + bytes) (k ▸▸ es) after) → (es : List Event) (r : Result Committed Refusal) → SameTurn i.pos (used + bytes) (k ▸▸ es) (committed p after r) (committed p after r)
+  commits_said : (after : Places) → ((es : List Event) → PlacesFit i.pos (used + bytes) (k ▸▸ es) after) → (es : List Event) (r : Result Committed Refusal) → SameTurn i.pos (used + bytes) (k ▸▸ es) (turn_of_commit p after r) (turn_of_commit p after r)
   commits_said after f es (Ok done) = same_said i.pos (used + bytes) (k ▸▸ es) after (said.Commit done) (f es)
   commits_said after f es (Err r) = same_said i.pos (used + bytes) (k ▸▸ es) p (said.Fault r) (later es)
 
   -- ---- operations
 
   commits_along : (after : Places) (ops : List Op) → ((es : List Event) → PlacesFit i.pos (used + bytes) (k ▸▸ es) after) → sound k (Commit ops) ≡ true → Along (commits p after g ops) (commits p after k ops)
-  commits_along after ops f s = along_call (SameTurn i.pos (used + bytes)) g k (committing ops g) (committing ops k) (committed p after) (alike_answers.commits ops g k alike) t.allowed (calls_make_allowed.commits ops k s) (commits_said after f)
+  commits_along after ops f s = along_call (SameTurn i.pos (used + bytes)) g k (act_of_commit ops g) (act_of_commit ops k) (turn_of_commit p after) (alike_answers.commits ops g k alike) t.allowed (calls_make_allowed.commits ops k s) (commits_said after f)
 
   changes_along : (op : Op) (b : Block) → BlockFits i.pos used k b → IsOperation k bytes op → Along (changes p bytes g op b) (changes p bytes k op b)
   changes_along op none f s = commits_along p (op ∷ []) later s.event.is_sound
@@ -121,21 +121,21 @@ module _ (h : History) (i : Image) (ok : all_allowed h ≡ true) (is : IsImage h
   by_roster d e a = subst (λ r. Along (d r) e) (sym alike.relations) a
 
   pub acts_along : (a : Action) → IsSound k bytes a → Along (acts p bytes g a) (acts p bytes k a)
-  acts_along (actions.Table def) s = along_call (SameTurn i.pos (used + bytes)) g k (making_table def g) (making_table def k) (reported p said.Table) (alike_answers.tables def g k alike) t.allowed (calls_make_allowed.tables def k s.is_sound) (reported_same said.Table)
-  acts_along (actions.Hyper n hyper) s = along_call (SameTurn i.pos (used + bytes)) g k (making_hyper n hyper g) (making_hyper n hyper k) (reported p said.Hypertable) (alike_answers.hypers n hyper g k alike) t.allowed (calls_make_allowed.hypers n hyper k s.is_sound) (reported_same said.Hypertable)
+  acts_along (actions.Table def) s = along_call (SameTurn i.pos (used + bytes)) g k (making_table def g) (making_table def k) (turn_of_line p said.Table) (alike_answers.tables def g k alike) t.allowed (calls_make_allowed.tables def k s.is_sound) (reported_same said.Table)
+  acts_along (actions.Hyper n hyper) s = along_call (SameTurn i.pos (used + bytes)) g k (making_hyper n hyper g) (making_hyper n hyper k) (turn_of_line p said.Hypertable) (alike_answers.hypers n hyper g k alike) t.allowed (calls_make_allowed.hypers n hyper k s.is_sound) (reported_same said.Hypertable)
   acts_along (actions.View def filled) s =
       by_roster (λ r. followed_by (tries_at g (making_view def g)) (after_view p (length r.views) def filled)) _
       (along_then Same (SameTurn i.pos (used + bytes)) g k (tries_at g (making_view def g)) (tries_at k (making_view def k)) (after_view p (length (roster k).views) def filled) (after_view p (length (roster k).views) def filled)
       (along_tries g k (making_view def g) (making_view def k) (alike_answers.views_made def g k alike) t.allowed (calls_make_allowed.views def k s.event.is_sound))
       (λ es a b allowed e. subst (λ x. TurnsAlong i.pos (used + bytes) (g ▸▸ es) (k ▸▸ es) (after_view p (length (roster k).views) def filled x) (after_view p (length (roster k).views) def filled b)) (sym e) (view_along es (length (roster k).views) def filled b allowed)))
-  acts_along (actions.Mode n only) s = along_call (SameTurn i.pos (used + bytes)) g k (setting_mode n only g) (setting_mode n only k) (reported p said.Mode) (alike_answers.modes n only g k alike) t.allowed (calls_make_allowed.modes n only k s.is_sound) (reported_same said.Mode)
+  acts_along (actions.Mode n only) s = along_call (SameTurn i.pos (used + bytes)) g k (setting_mode n only g) (setting_mode n only k) (turn_of_line p said.Mode) (alike_answers.modes n only g k alike) t.allowed (calls_make_allowed.modes n only k s.is_sound) (reported_same said.Mode)
   acts_along (actions.Change op) s = changes_along op p.block fit.block s
   acts_along (actions.Refresh n lo hi) s =
-      by_roster (λ r. followed_by (tries_at g (cutting n lo hi g)) (after_cut p (least_start (view_of r n)))) _
+      by_roster (λ r. followed_by (tries_at g (act_of_cut n lo hi g)) (after_cut p (least_start (view_of r n)))) _
       (cut_first h i ok is (used + bytes) few p n lo hi (least_start (view_of (roster k) n)) g k t now s.high)
   acts_along (actions.Cut n lo hi) s =
-      by_roster (λ r. ending_as (cut_turn p (least_start (view_of r n))) (tries_at g (cutting n lo hi g))) _
-      (along_call (SameTurn i.pos (used + bytes)) g k (cutting n lo hi g) (cutting n lo hi k) (cut_turn p (least_start (view_of (roster k) n))) (alike_answers.cuts n lo hi g k alike) t.allowed (calls_make_allowed.cuts n lo hi k (consistent_of k t.allowed) s.high) (cut_said (least_start (view_of (roster k) n))))
+      by_roster (λ r. ending_as (cut_turn p (least_start (view_of r n))) (tries_at g (act_of_cut n lo hi g))) _
+      (along_call (SameTurn i.pos (used + bytes)) g k (act_of_cut n lo hi g) (act_of_cut n lo hi k) (cut_turn p (least_start (view_of (roster k) n))) (alike_answers.cuts n lo hi g k alike) t.allowed (calls_make_allowed.cuts n lo hi k (consistent_of k t.allowed) s.high) (cut_said (least_start (view_of (roster k) n))))
   acts_along (actions.Snap cut) s = quiet _ _ (snaps_along h i ok is (used + bytes) few p (refresh_meant p cut) g k t now)
   acts_along (actions.Finish cut) s = finishes_along h i ok is (used + bytes) few p (refresh_meant p cut) g k t now
   acts_along actions.Begin s = ended _ said.Begin (entered k (writing [] 0) (queues_are_sound.begins k, omega arith) now)

@@ -14,7 +14,7 @@ use Rattle.ts_model.specs.declared.outcomes.Refusal.{Refusal}
 use Rattle.ts_model.specs.declared.refreshes.Pending.{Pending}
 use Rattle.ts_model.specs.declared.refreshes.Pending.TheVariants.{Waiting, Finished, Unknown}
 use Rattle.ts_model.specs.Allowed.{all_allowed}
-use Rattle.ts_model.specs.Calls.{cutting, finish_of, finishing}
+use Rattle.ts_model.specs.Calls.{act_of_cut, finish_of, act_of_finish}
 use Rattle.ts_model.specs.Numbers.{no_refresh, no_snapshot}
 use Rattle.ts_model.specs.History.{History, ◌▸▸◌, position, base_position}
 use Rattle.ts_model.specs.Laws.{MakesAllowed}
@@ -31,7 +31,7 @@ use Rattle.result_text.specs.declared.replies.Said.TheVariants as said
 use Rattle.stmt_syntax.specs.Limits.{longest_input}
 use Rattle.ts_sessions.specs.Places.{Places, Turn, cuts, held_for, holds, turns}
 use Rattle.ts_sessions.specs.Procedures.{Procedure, followed_by, tries_at}
-use Rattle.ts_sessions.specs.Step.{after_cut, after_snapshot, finish_turn, finishes, finishes_held, refreshed, refreshes, snap_turn, snaps, taken, taken_of, unfinished}
+use Rattle.ts_sessions.specs.Step.{after_cut, after_snapshot, finish_turn, finishes, finishes_held, turn_of_refresh, refreshes, snap_turn, snaps, snapshot_taken, taken_of, unfinished_refusal}
 use Rattle.image_runs.proofs.PlaceLaws.{IsFrom, IsHeld, PlacesFit, gone_held, held_there, places_on, put_held}
 use Rattle.image_runs.proofs.TwinLaws.{Alongside, Same, SameEnd, Twins, along_as, along_call, along_ends, along_sees, along_then, along_tries, twins_alike, twins_base, twins_on}
 
@@ -64,7 +64,7 @@ finish_allowed_as base k c at (Waiting n) root e i = subst (λ q. MakesAllowed k
 finish_allowed_as base k c at (Finished f) root e i = tt
 finish_allowed_as base k c at Unknown root e i = tt
 
-pub finish_allowed : (base : ℕ) (k : History) (c at : ℕ) → base_position k ≡ base → IsHeld base k c at → MakesAllowed k (finishing c at k)
+pub finish_allowed : (base : ℕ) (k : History) (c at : ℕ) → base_position k ≡ base → IsHeld base k c at → MakesAllowed k (act_of_finish c at k)
 finish_allowed base k c at root i = finish_allowed_as base k c at (pending k c) root refl i
 
 -- the position of now is from the base on
@@ -86,18 +86,18 @@ module _ (h : History) (i : Image) (ok : all_allowed h ≡ true) (is : IsImage h
   snapshot_along p c span min g k t (Waiting n) fit e =
       let alike = twins_alike h i ok is g k t in
       let held : IsHeld i.pos k c (position k) = now_held i.pos k c (twins_base h i g k t) t.allowed (ap is_known e) in
-      let calls : finishing c (position g) g ≡ finishing c (position k) k = ap (λ s. finishing c s g) alike.places ∙ alike_answers.finishes c (position k) g k alike in
+      let calls : act_of_finish c (position g) g ≡ act_of_finish c (position k) k = ap (λ s. act_of_finish c s g) alike.places ∙ alike_answers.finishes c (position k) g k alike in
       along_sees (SameTurn i.pos used) g k _ _ _ _
       (along_as Same (SameTurn i.pos used) g k _ _ _ _
-      (along_tries g k (finishing c (position g) g) (finishing c (position k) k) calls t.allowed (finish_allowed i.pos k c (position k) (twins_base h i g k t) held))
+      (along_tries g k (act_of_finish c (position g) g) (act_of_finish c (position k) k) calls t.allowed (finish_allowed i.pos k c (position k) (twins_base h i g k t) held))
       (λ es a b s. finished (k ▸▸ es) a b (position g) (position k) _ _ s alike.places (fit_on i.pos used k es p few fit)))
     where
-      finished_as : (l : History) (at at_too reads reads_too : ℕ) (r : Result ℕ Refusal) → at ≡ at_too → PlacesFit i.pos used l p → SameTurn i.pos used l (refreshed p c span min (record { at = at; reads = reads }) r) (refreshed p c span min (record { at = at_too; reads = reads_too }) r)
+      finished_as : (l : History) (at at_too reads reads_too : ℕ) (r : Result ℕ Refusal) → at ≡ at_too → PlacesFit i.pos used l p → SameTurn i.pos used l (turn_of_refresh p c span min (record { at = at; reads = reads }) r) (turn_of_refresh p c span min (record { at = at_too; reads = reads_too }) r)
       finished_as l at at_too reads reads_too (Ok n) e fit = record { places = refl; said = ap (λ x. said.Refresh c n x span min ∷ []) e; fit = fit }
       finished_as l at at_too reads reads_too (Err r) e fit = record { places = refl; said = refl; fit = fit }
 
-      finished : (l : History) (a b : Result ℕ Refusal) (at at_too reads reads_too : ℕ) → a ≡ b → at ≡ at_too → PlacesFit i.pos used l p → SameTurn i.pos used l (refreshed p c span min (record { at = at; reads = reads }) a) (refreshed p c span min (record { at = at_too; reads = reads_too }) b)
-      finished l a b at at_too reads reads_too s e fit = subst (λ x. SameTurn i.pos used l (refreshed p c span min (record { at = at; reads = reads }) x) (refreshed p c span min (record { at = at_too; reads = reads_too }) b)) (sym s) (finished_as l at at_too reads reads_too b e fit)
+      finished : (l : History) (a b : Result ℕ Refusal) (at at_too reads reads_too : ℕ) → a ≡ b → at ≡ at_too → PlacesFit i.pos used l p → SameTurn i.pos used l (turn_of_refresh p c span min (record { at = at; reads = reads }) a) (turn_of_refresh p c span min (record { at = at_too; reads = reads_too }) b)
+      finished l a b at at_too reads reads_too s e fit = subst (λ x. SameTurn i.pos used l (turn_of_refresh p c span min (record { at = at; reads = reads }) x) (turn_of_refresh p c span min (record { at = at_too; reads = reads_too }) b)) (sym s) (finished_as l at at_too reads reads_too b e fit)
   snapshot_along p c span min g k t (Finished f) fit e = along_ends (SameTurn i.pos used) g k _ _ t.allowed (record { places = refl; said = ap (λ r. said.Cut c span min ∷ said.Fault r ∷ []) (refusal_same no_refresh f g k (twins_alike h i ok is g k t).places); fit = fit })
   snapshot_along p c span min g k t Unknown fit e = along_ends (SameTurn i.pos used) g k _ _ t.allowed (record { places = refl; said = ap (λ r. said.Cut c span min ∷ said.Fault r ∷ []) (refusal_same no_refresh 0 g k (twins_alike h i ok is g k t).places); fit = fit })
 
@@ -107,15 +107,15 @@ module _ (h : History) (i : Image) (ok : all_allowed h ≡ true) (is : IsImage h
   cut_along p min g k t (Ok (CutMade c span)) fit =
       let alike = twins_alike h i ok is g k t in
       along_sees (SameTurn i.pos used) g k _ _ _ _
-      (subst (λ q. TurnsAlong i.pos used g k (after_snapshot (cuts c p) c span min (taken_of g c q)) (after_snapshot (cuts c p) c span min (taken c k))) (sym (alike.refreshes c))
+      (subst (λ q. TurnsAlong i.pos used g k (after_snapshot (cuts c p) c span min (taken_of g c q)) (after_snapshot (cuts c p) c span min (snapshot_taken c k))) (sym (alike.refreshes c))
       (snapshot_along (cuts c p) c span min g k t (pending k c) (record { block = fit.block; held = fit.held }) refl))
   cut_along p min g k t (Ok (NothingDone at)) fit = along_ends (SameTurn i.pos used) g k _ _ t.allowed (same_said i.pos used k p (said.Nothing at) fit)
   cut_along p min g k t (Err r) fit = along_ends (SameTurn i.pos used) g k _ _ t.allowed (same_said i.pos used k p (said.Fault r) fit)
 
-  pub cut_first : (p : Places) (n : ℕ) (lo hi : Option ℤ) (min : ℤ) (g k : History) (t : Twins h i g k) → PlacesFit i.pos used k p → ForSome hi (λ t. IsTrue (is_time t)) → TurnsAlong i.pos used g k (followed_by (tries_at g (cutting n lo hi g)) (after_cut p min)) (followed_by (tries_at k (cutting n lo hi k)) (after_cut p min))
+  pub cut_first : (p : Places) (n : ℕ) (lo hi : Option ℤ) (min : ℤ) (g k : History) (t : Twins h i g k) → PlacesFit i.pos used k p → ForSome hi (λ t. IsTrue (is_time t)) → TurnsAlong i.pos used g k (followed_by (tries_at g (act_of_cut n lo hi g)) (after_cut p min)) (followed_by (tries_at k (act_of_cut n lo hi k)) (after_cut p min))
   cut_first p n lo hi min g k t fit time =
       along_then Same (SameTurn i.pos used) g k _ _ (after_cut p min) (after_cut p min)
-      (along_tries g k (cutting n lo hi g) (cutting n lo hi k) (alike_answers.cuts n lo hi g k (twins_alike h i ok is g k t)) t.allowed (calls_make_allowed.cuts n lo hi k (consistent_of k t.allowed) time))
+      (along_tries g k (act_of_cut n lo hi g) (act_of_cut n lo hi k) (alike_answers.cuts n lo hi g k (twins_alike h i ok is g k t)) t.allowed (calls_make_allowed.cuts n lo hi k (consistent_of k t.allowed) time))
       (λ es a b allowed s. subst (λ x. TurnsAlong i.pos used (g ▸▸ es) (k ▸▸ es) (after_cut p min x) (after_cut p min b)) (sym s) (cut_along p min (g ▸▸ es) (k ▸▸ es) (twins_on h i g k es t allowed) b (fit_on i.pos used k es p few fit)))
 
   pub refresh_along : (p : Places) (n : ℕ) (min : ℤ) (g k : History) (t : Twins h i g k) → PlacesFit i.pos used k p → TurnsAlong i.pos used g k (refreshes p n None None min) (refreshes p n None None min)
@@ -133,9 +133,9 @@ module _ (h : History) (i : Image) (ok : all_allowed h ≡ true) (is : IsImage h
 
   pub snaps_along : (p : Places) (o : Option ℕ) (g k : History) (t : Twins h i g k) → PlacesFit i.pos used k p → SameTurn i.pos used k (snaps p g o) (snaps p k o)
   snaps_along p None g k t fit = same_turns i.pos used k p _ _ (ap said.Fault (refusal_same no_refresh 0 g k (twins_alike h i ok is g k t).places)) fit
-  snaps_along p (Some c) g k t fit = subst (λ q. SameTurn i.pos used k (snap_turn p c (taken_of g c q)) (snap_turn p c (taken c k))) (sym ((twins_alike h i ok is g k t).refreshes c)) (snap_as p c g k t (pending k c) fit refl)
+  snaps_along p (Some c) g k t fit = subst (λ q. SameTurn i.pos used k (snap_turn p c (taken_of g c q)) (snap_turn p c (snapshot_taken c k))) (sym ((twins_alike h i ok is g k t).refreshes c)) (snap_as p c g k t (pending k c) fit refl)
 
-  unfinished_same : (code : ℕ) (g k : History) (q : Pending) → position g ≡ position k → unfinished code g q ≡ unfinished code k q
+  unfinished_same : (code : ℕ) (g k : History) (q : Pending) → position g ≡ position k → unfinished_refusal code g q ≡ unfinished_refusal code k q
   unfinished_same code g k (Waiting n) e = refusal_same code 0 g k e
   unfinished_same code g k (Finished f) e = refusal_same no_refresh f g k e
   unfinished_same code g k Unknown e = refusal_same no_refresh 0 g k e
@@ -148,9 +148,9 @@ module _ (h : History) (i : Image) (ok : all_allowed h ≡ true) (is : IsImage h
   held_along p c None g k t fit e =
       let alike = twins_alike h i ok is g k t in
       along_ends (SameTurn i.pos used) g k _ _ t.allowed
-      (same_turns i.pos used k p _ _ (ap said.Fault (ap (unfinished no_snapshot g) (alike.refreshes c) ∙ unfinished_same no_snapshot g k (pending k c) alike.places)) fit)
+      (same_turns i.pos used k p _ _ (ap said.Fault (ap (unfinished_refusal no_snapshot g) (alike.refreshes c) ∙ unfinished_same no_snapshot g k (pending k c) alike.places)) fit)
   held_along p c (Some at) g k t fit e =
-      along_call (SameTurn i.pos used) g k (finishing c at g) (finishing c at k) (finish_turn p c at) (alike_answers.finishes c at g k (twins_alike h i ok is g k t)) t.allowed
+      along_call (SameTurn i.pos used) g k (act_of_finish c at g) (act_of_finish c at k) (finish_turn p c at) (alike_answers.finishes c at g k (twins_alike h i ok is g k t)) t.allowed
       (finish_allowed i.pos k c at (twins_base h i g k t) (held_there i.pos k p.held c at fit.held e))
       (λ es r. finish_said p c at (k ▸▸ es) r (fit_on i.pos used k es p few fit))
 

@@ -29,7 +29,7 @@ use Rattle.ts_sessions.specs.Places.{Block, none, writing, reading, Places, Turn
 use Rattle.ts_sessions.specs.Procedures.{Procedure, ends, looks as looks_at}
 use Rattle.ts_sessions.specs.Script.{session_semantics}
 use Rattle.ts_sessions.specs.Sound.{AsksSoundly}
-use Rattle.ts_sessions.specs.Step.{acts, answers, block_refusal, calendar_plan, closes, given_up, kind_of, misread, named, named_as, named_first, named_here, plan_of, read_at, refusal_reading, roll_up_plan, step, unit_of, as_read, passes_block, performs, unless}
+use Rattle.ts_sessions.specs.Step.{acts, answers, block_refusal, calendar_plan, closes, given_up, kind_of, misread, turn_of_names, named_as, named_first, named_here, plan_of, read_at, refusal_reading, roll_up_plan, step, unit_of, as_read, passes_block, performs, unless}
 use Rattle.ts_sessions.proofs.NamedLaws.{performs_holds, unless_holds}
 use Rattle.ts_sessions.proofs.SoundLaws.{asks_soundly}
 use Rattle.image_runs.proofs.ActLaws.{acts_along}
@@ -76,9 +76,9 @@ module _ (h : History) (i : Image) (ok : all_allowed h ≡ true) (is : IsImage h
     read_along uppers.NotUpper = checked_along
     read_along uppers.NoMemory = checked_along
 
-    named_along : Along (named p bytes stmt l) (named p bytes stmt m)
+    named_along : Along (turn_of_names p bytes stmt l) (turn_of_names p bytes stmt m)
     named_along =
-        subst (λ u. Along (named_as p bytes l stmt u) (named p bytes stmt m))
+        subst (λ u. Along (named_as p bytes l stmt u) (turn_of_names p bytes stmt m))
         (sym (ap (λ q. upper_read q (roster l) stmt) looks.places ∙ ap (λ r. upper_read (position m) r stmt) looks.relations))
         (read_along (upper_read (position m) (roster m) stmt))
 
@@ -106,10 +106,10 @@ module _ (h : History) (i : Image) (ok : all_allowed h ≡ true) (is : IsImage h
         (first_as (refusal_of (position k) (roster k) stmt) refl))
 
     -- at the look of now
-    here_along : (b : Block) → p.block ≡ b → Along (named p bytes stmt (read_at b g)) (named p bytes stmt (read_at b k)) → Along (named_here p bytes stmt) (named_here p bytes stmt)
-    here_along b e a = along_sees (SameTurn i.pos (used + bytes)) g k _ _ (λ x. named p bytes stmt (read_at p.block x)) (λ x. named p bytes stmt (read_at p.block x)) (subst (λ c. Along (named p bytes stmt (read_at c g)) (named p bytes stmt (read_at c k))) (sym e) a)
+    here_along : (b : Block) → p.block ≡ b → Along (turn_of_names p bytes stmt (read_at b g)) (turn_of_names p bytes stmt (read_at b k)) → Along (named_here p bytes stmt) (named_here p bytes stmt)
+    here_along b e a = along_sees (SameTurn i.pos (used + bytes)) g k _ _ (λ x. turn_of_names p bytes stmt (read_at p.block x)) (λ x. turn_of_names p bytes stmt (read_at p.block x)) (subst (λ c. Along (turn_of_names p bytes stmt (read_at c g)) (turn_of_names p bytes stmt (read_at c k))) (sym e) a)
 
-    now_along : Along (named p bytes stmt g) (named p bytes stmt k)
+    now_along : Along (turn_of_names p bytes stmt g) (turn_of_names p bytes stmt k)
     now_along = named_along stmt g k t acting
 
   -- ---- in a read block
@@ -162,7 +162,7 @@ module _ (h : History) (i : Image) (ok : all_allowed h ≡ true) (is : IsImage h
 
   -- ---- lines
 
-  now_or_then : (stmt : Stmt) (b : Block) → AsksSoundly bytes stmt → p.block ≡ b → block_refusal b (kind_of stmt) ≡ None → Along (named p bytes stmt (read_at b g)) (named p bytes stmt (read_at b k))
+  now_or_then : (stmt : Stmt) (b : Block) → AsksSoundly bytes stmt → p.block ≡ b → block_refusal b (kind_of stmt) ≡ None → Along (turn_of_names p bytes stmt (read_at b g)) (turn_of_names p bytes stmt (read_at b k))
   now_or_then stmt none asks e pass = now_along stmt asks
   now_or_then stmt (writing ops n) asks e pass = now_along stmt asks
   now_or_then stmt (reading at) asks e pass =

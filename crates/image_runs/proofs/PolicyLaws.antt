@@ -23,7 +23,7 @@ use Rattle.ts_sessions.specs.Actors.{StaysOutside}
 use Rattle.ts_sessions.specs.Places.{Block, none, writing, reading, Places, Turn, refuses, turns}
 use Rattle.ts_sessions.specs.Procedures.{Procedure, ends, ending_as}
 use Rattle.ts_sessions.specs.Step.{block_refusal, misread, step}
-use Rattle.ts_sessions.specs.Walks.{ending}
+use Rattle.ts_sessions.specs.Walks.{end_of_walk}
 use Rattle.policy_jobs.specs.declared.jobs.Job.{Job}
 use Rattle.policy_jobs.specs.declared.jobs.Job.TheVariants as jobs
 use Rattle.policy_jobs.specs.declared.policies.Policy.{Policy}
@@ -31,10 +31,10 @@ use Rattle.policy_jobs.specs.declared.statements.PolicyStmt.{PolicyStmt}
 use Rattle.policy_jobs.specs.declared.statements.PolicyStmt.TheVariants as stmts
 use Rattle.policy_jobs.specs.Adding.{adding_refusal, has_offsets}
 use Rattle.policy_jobs.specs.Laws.{ArePolicies, LinesKeepPolicies, policy_sessions, relation_in}
-use Rattle.policy_jobs.specs.Policies.{due, due_text, due_texts, is_due, ticked}
+use Rattle.policy_jobs.specs.Policies.{due, due_text, due_texts, is_due, policies_after_tick}
 use Rattle.policy_jobs.specs.Reading.{statement}
 use Rattle.policy_jobs.specs.Runs.{IsRunnable}
-use Rattle.policy_jobs.specs.Turns.{PolicyPlaces, added, and_all, and_then, behind, beside, lets_pass, misses_time, performs, policy_does, reads_as, runs_due, ticks}
+use Rattle.policy_jobs.specs.Turns.{PolicyPlaces, turn_of_adding, and_all, and_then, behind, beside, lets_pass, misses_time, performs, policy_does, reads_as, runs_due, ticks}
 use Rattle.policy_jobs.specs.Words.{begins}
 use Rattle.policy_jobs.proofs.AloneLaws.{store_of, walks_alone}
 use Rattle.policy_jobs.proofs.DueLaws.{lines_keep_policies}
@@ -90,7 +90,7 @@ module _ (stays : StaysOutside (λ (p : Places). p.block) step) (h : History) (i
       let room : 0 + length text ≤ longest_input = omega (arith, runs.short) in
       let along = step_along h i ok is 0 p g k t text 0 room runs.short (omega arith) fit in
       let alone = walks_alone (step p text 0) (store_of k) refl in
-      let stayed : (ending (step p text 0) k).places.block ≡ none = stays true false (store_of k) p text 0 alone.new (ending (step p text 0) k) out runs.event alone.walks in
+      let stayed : (end_of_walk (step p text 0) k).places.block ≡ none = stays true false (store_of k) p text 0 alone.new (end_of_walk (step p text 0) k) out runs.event alone.walks in
       record {
         events = along.events;
         first = along.first;
@@ -100,7 +100,7 @@ module _ (stays : StaysOutside (λ (p : Places). p.block) step) (h : History) (i
           same_end = record {
             places = along.ends_go.places;
             said = along.ends_go.said;
-            fit = out_fits i.pos (0 + length text) 0 (k ▸▸ along.events) (ending (step p text 0) k).places stayed along.ends_go.fit;
+            fit = out_fits i.pos (0 + length text) 0 (k ▸▸ along.events) (end_of_walk (step p text 0) k).places stayed along.ends_go.fit;
           };
           out = stayed;
         };
@@ -147,7 +147,7 @@ module _ (stays : StaysOutside (λ (p : Places). p.block) step) (h : History) (i
     refused : (r : Refusal) → Along (ends (refuses p r)) (ends (refuses p r))
     refused r = along_ends End g k _ _ t.allowed (record { places = refl; said = refl; fit = now })
 
-    added_end : (at : ℕ) (policy : Policy) (r : Option Refusal) → End k (added p at policy r) (added p at policy r)
+    added_end : (at : ℕ) (policy : Policy) (r : Option Refusal) → End k (turn_of_adding p at policy r) (turn_of_adding p at policy r)
     added_end at policy (Some r) = record { places = refl; said = refl; fit = now }
     added_end at policy None = record { places = refl; said = refl; fit = now }
 
@@ -159,8 +159,8 @@ module _ (stays : StaysOutside (λ (p : Places). p.block) step) (h : History) (i
     adds_along job every =
         along_sees End g k _ _ _ _
         (along_ends End g k _ _ t.allowed
-        (subst (λ at. End k (added p at (new_policy job every) (adding_refusal at (roster g) (length p.policies) job every)) (added p (position k) (new_policy job every) (adding_refusal (position k) (roster k) (length p.policies) job every))) (sym alike.places)
-        (subst (λ r. End k (added p (position k) (new_policy job every) (adding_refusal (position k) r (length p.policies) job every)) (added p (position k) (new_policy job every) (adding_refusal (position k) (roster k) (length p.policies) job every))) (sym alike.relations)
+        (subst (λ at. End k (turn_of_adding p at (new_policy job every) (adding_refusal at (roster g) (length p.policies) job every)) (turn_of_adding p (position k) (new_policy job every) (adding_refusal (position k) (roster k) (length p.policies) job every))) (sym alike.places)
+        (subst (λ r. End k (turn_of_adding p (position k) (new_policy job every) (adding_refusal (position k) r (length p.policies) job every)) (turn_of_adding p (position k) (new_policy job every) (adding_refusal (position k) (roster k) (length p.policies) job every))) (sym alike.relations)
         (added_end (position k) (new_policy job every) (adding_refusal (position k) (roster k) (length p.policies) job every)))))
 
     misses_along : Along (misses_time p) (misses_time p)
@@ -168,22 +168,22 @@ module _ (stays : StaysOutside (λ (p : Places). p.block) step) (h : History) (i
         along_sees End g k _ _ _ _
         (along_ends End g k _ _ t.allowed (record { places = refl; said = ap (λ r. said.Fault r ∷ []) (refusal_same bad_time 0 g k alike.places); fit = now }))
 
-    runs_along : (time : ℤ) → is_time time ≡ true → p.inner.block ≡ none → Along (ending_as (beside (ticked time p.policies)) (runs_due step time p.inner p.policies)) (ending_as (beside (ticked time p.policies)) (runs_due step time p.inner p.policies))
+    runs_along : (time : ℤ) → is_time time ≡ true → p.inner.block ≡ none → Along (ending_as (beside (policies_after_tick time p.policies)) (runs_due step time p.inner p.policies)) (ending_as (beside (policies_after_tick time p.policies)) (runs_due step time p.inner p.policies))
     runs_along time good out =
         let first : Turn Places = turns p.inner (said.Tick time (length (due time p.policies))) in
         let line : Alongside (RunEnd i.pos) g k (ends first) (ends first) =
         along_ends (RunEnd i.pos) g k first first t.allowed (record { same_end = record { places = refl; said = refl; fit = out_fits i.pos used 0 k p.inner out fit.inner }; out = out }) in
-        along_as (RunEnd i.pos) End g k (runs_due step time p.inner p.policies) (runs_due step time p.inner p.policies) (beside (ticked time p.policies)) (beside (ticked time p.policies))
+        along_as (RunEnd i.pos) End g k (runs_due step time p.inner p.policies) (runs_due step time p.inner p.policies) (beside (policies_after_tick time p.policies)) (beside (policies_after_tick time p.policies))
         (all_run g k t (ends first) (ends first) (due_texts time p.policies) (due_run_each time p.policies good fit.policies) line)
         (λ es u v end. record {
-          places = ap (λ q. record { inner = q; policies = ticked time p.policies }) end.same_end.places;
+          places = ap (λ q. record { inner = q; policies = policies_after_tick time p.policies }) end.same_end.places;
           said = end.same_end.said;
           fit = out_fits i.pos 0 (used + bytes) (k ▸▸ es) v.places end.out end.same_end.fit;
         })
 
     ticks_along : (time : ℤ) → p.inner.block ≡ none → Along (ticks step p time) (ticks step p time)
     ticks_along time out =
-        elim (is_time time) as (λ b. is_time time ≡ b → Along (cond b (ending_as (beside (ticked time p.policies)) (runs_due step time p.inner p.policies)) (misses_time p)) (cond b (ending_as (beside (ticked time p.policies)) (runs_due step time p.inner p.policies)) (misses_time p))) [
+        elim (is_time time) as (λ b. is_time time ≡ b → Along (cond b (ending_as (beside (policies_after_tick time p.policies)) (runs_due step time p.inner p.policies)) (misses_time p)) (cond b (ending_as (beside (policies_after_tick time p.policies)) (runs_due step time p.inner p.policies)) (misses_time p))) [
           | true ↦ λ good. runs_along time good out
           | false ↦ λ _. misses_along
         ] refl
@@ -241,7 +241,7 @@ policy_lines stays = record {
           said = along.ends_go.said;
           fit = record {
             inner = along.ends_go.fit;
-            policies = keeps.policies (λ (q : Places). q.block) step true false (store_of k) p text skip alone.new (ending does k) fit.policies within alone.walks;
+            policies = keeps.policies (λ (q : Places). q.block) step true false (store_of k) p text skip alone.new (end_of_walk does k) fit.policies within alone.walks;
           };
         };
       };

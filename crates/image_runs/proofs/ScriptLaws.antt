@@ -19,10 +19,10 @@ use Rattle.result_text.specs.declared.replies.Said.TheVariants as said
 use Rattle.result_text.specs.Replies.{reply_text}
 use Rattle.ts_sessions.specs.Places.{Turn}
 use Rattle.ts_sessions.specs.Procedures.{Procedure}
-use Rattle.ts_sessions.specs.Script.{LineResult, ScriptState, Semantics, executes, executes_as, executes_kind, final_script_state, has_fault, is_refused, output, places_of, refused, refused_line, takes_turn, text_of, with_places}
+use Rattle.ts_sessions.specs.Script.{LineResult, ScriptState, Semantics, executes, executes_as, executes_kind, final_script_state, has_fault, is_refused, output, places_of, line_of_refusal, refused_line, takes_turn, text_of, with_places}
 use Rattle.ts_model.specs.Limits.{most_sessions}
 use Rattle.ts_sessions.specs.Step.{bare}
-use Rattle.ts_sessions.specs.Walks.{ending, history_after}
+use Rattle.ts_sessions.specs.Walks.{end_of_walk, history_after}
 use Rattle.image_runs.specs.Laws.{ScriptsGoOn}
 use Rattle.image_runs.proofs.SessionLaws.{AllFit, places_there, sessions_on, sessions_with}
 use Rattle.image_runs.proofs.TwinLaws.{Alongside, SameEnd, Twins, twins_alike, twins_allowed, twins_on}
@@ -69,7 +69,7 @@ module _ {P : Type 0} (semantics : Semantics P) (Fit : ℕ → ℕ → History �
     turn_same : (more : ℕ) (name : List ℕ) (d e : Procedure (Turn P)) → used ≤ more → used ≤ longest_input → Alongside (SameEnd (Fit i.pos more)) s.history z.history d e → SameLine h i more s z (takes_turn s name d) (takes_turn z name e)
     turn_same more name d e le few o =
         let allowed : all_allowed (history_after e z.history) ≡ true = ap all_allowed o.second ∙ o.allowed in
-        let fit : Fit i.pos more (z.history ▸▸ o.events) (ending e z.history).places = o.ends_go.fit in
+        let fit : Fit i.pos more (z.history ▸▸ o.events) (end_of_walk e z.history).places = o.ends_go.fit in
         let twins : Twins h i (history_after d s.history) (history_after e z.history) = subst (λ x. Twins h i x (history_after e z.history)) (sym o.first) (subst (Twins h i (s.history ▸▸ o.events)) (sym o.second) (twins_on h i s.history z.history o.events a.twins o.allowed)) in
         record {
           events = o.events;
@@ -77,8 +77,8 @@ module _ {P : Type 0} (semantics : Semantics P) (Fit : ℕ → ℕ → History �
           second = o.second;
           after = record {
             twins = twins;
-            sessions = ap (λ x. with_places name x s.sessions) o.ends_go.places ∙ ap (with_places name (ending e z.history).places) a.sessions;
-            fit = subst (λ x. AllFit (Fit i.pos more x) (with_places name (ending e z.history).places z.sessions)) (sym o.second) (sessions_with (Fit i.pos more (z.history ▸▸ o.events)) name (ending e z.history).places z.sessions fit (all_on i.pos used more z.history (z.history ▸▸ o.events) z.sessions (begins_followed z.history o.events) le few a.fit));
+            sessions = ap (λ x. with_places name x s.sessions) o.ends_go.places ∙ ap (with_places name (end_of_walk e z.history).places) a.sessions;
+            fit = subst (λ x. AllFit (Fit i.pos more x) (with_places name (end_of_walk e z.history).places z.sessions)) (sym o.second) (sessions_with (Fit i.pos more (z.history ▸▸ o.events)) name (end_of_walk e z.history).places z.sessions fit (all_on i.pos used more z.history (z.history ▸▸ o.events) z.sessions (begins_followed z.history o.events) le few a.fit));
           };
           text = ap (text_of name) o.ends_go.said;
           fault = ap has_fault o.ends_go.said;
@@ -102,8 +102,8 @@ module _ {P : Type 0} (semantics : Semantics P) (Fit : ℕ → ℕ → History �
       session_same : (name text : List ℕ) (skip : ℕ) (o : Option P) → used + length text ≤ more → length text ≤ 65536 → skip ≤ length text → places_of name z.sessions ≡ o → SameLine h i more s z (executes_as semantics s name text skip o) (executes_as semantics z name text skip o)
       session_same name text skip (Some p) le short within e = step_same name text skip more p le few short within (places_there (Fit i.pos used z.history) name z.sessions p a.fit e)
       session_same name text skip None le short within e =
-          subst (λ n. SameLine h i more s z (cond (nat_lt n most_sessions) (takes_turn s name (semantics.does (semantics.opening n) text skip)) (refused s (reply_text name (said.Fault (bare too_many_sessions))))) (executes_as semantics z name text skip None)) (sym (ap length a.sessions))
-          (elim (nat_lt (length z.sessions) most_sessions) as (λ c. SameLine h i more s z (cond c (takes_turn s name (semantics.does (semantics.opening (length z.sessions)) text skip)) (refused s (reply_text name (said.Fault (bare too_many_sessions))))) (cond c (takes_turn z name (semantics.does (semantics.opening (length z.sessions)) text skip)) (refused z (reply_text name (said.Fault (bare too_many_sessions)))))) [
+          subst (λ n. SameLine h i more s z (cond (nat_lt n most_sessions) (takes_turn s name (semantics.does (semantics.opening n) text skip)) (line_of_refusal s (reply_text name (said.Fault (bare too_many_sessions))))) (executes_as semantics z name text skip None)) (sym (ap length a.sessions))
+          (elim (nat_lt (length z.sessions) most_sessions) as (λ c. SameLine h i more s z (cond c (takes_turn s name (semantics.does (semantics.opening (length z.sessions)) text skip)) (line_of_refusal s (reply_text name (said.Fault (bare too_many_sessions))))) (cond c (takes_turn z name (semantics.does (semantics.opening (length z.sessions)) text skip)) (line_of_refusal z (reply_text name (said.Fault (bare too_many_sessions)))))) [
             | true ↦ step_same name text skip more (semantics.opening (length z.sessions)) le few short within (go.opening i.pos used z.history (length z.sessions))
             | false ↦ nothing h i used more s z _ _ _ (omega (arith, le)) (omega (arith, le, few)) a
           ])

@@ -16,7 +16,7 @@ use Rattle.image_laws.specs.Images.{IsImage}
 use Rattle.image_laws.proofs.CheckpointLaws.{checkpoints_keep, prefix_from, upto}
 use Rattle.ts_sessions.specs.Places.{Turn}
 use Rattle.ts_sessions.specs.Procedures.{Procedure, sees, ends, followed_by, ending_as, tries_at}
-use Rattle.ts_sessions.specs.Walks.{history_after, ending}
+use Rattle.ts_sessions.specs.Walks.{history_after, end_of_walk}
 use Rattle.policy_jobs.proofs.AloneLaws.{ending_then, history_then}
 
 -- ---- twins
@@ -68,7 +68,7 @@ pub record Alongside {A : Type 0} (Go : History → A → A → Type 0) (g k : H
   pub first : history_after d g ≡ g ▸▸ events
   pub second : history_after e k ≡ k ▸▸ events
   pub allowed : all_allowed (k ▸▸ events) ≡ true
-  pub ends_go : Go (k ▸▸ events) (ending d g) (ending e k)
+  pub ends_go : Go (k ▸▸ events) (end_of_walk d g) (end_of_walk e k)
 
 -- two turns leave the same places, which fit the second history, and say the same
 pub record SameEnd {P : Type 0} (Fit : History → P → Type 0) (k : History) (t u : Turn P) : Type 0 where
@@ -89,16 +89,16 @@ along_sees Go g k shown shown_too d e a = record { events = a.events; first = a.
 module _ {A B : Type 0} (Go : History → A → A → Type 0) (Last : History → B → B → Type 0) (g k : History) (d e : Procedure A) where
   pub along_then : (f q : A → Procedure B) → Alongside Go g k d e → ((es : List Event) (a b : A) → all_allowed (k ▸▸ es) ≡ true → Go (k ▸▸ es) a b → Alongside Last (g ▸▸ es) (k ▸▸ es) (f a) (q b)) → Alongside Last g k (followed_by d f) (followed_by e q)
   along_then f q a next =
-      let rest = next a.events (ending d g) (ending e k) a.allowed a.ends_go in
-      let end : ending (followed_by d f) g ≡ ending (f (ending d g)) (g ▸▸ a.events) = ending_then d f g ∙ ap (ending (f (ending d g))) a.first in
-      let end_too : ending (followed_by e q) k ≡ ending (q (ending e k)) (k ▸▸ a.events) = ending_then e q k ∙ ap (ending (q (ending e k))) a.second in
+      let rest = next a.events (end_of_walk d g) (end_of_walk e k) a.allowed a.ends_go in
+      let end : end_of_walk (followed_by d f) g ≡ end_of_walk (f (end_of_walk d g)) (g ▸▸ a.events) = ending_then d f g ∙ ap (end_of_walk (f (end_of_walk d g))) a.first in
+      let end_too : end_of_walk (followed_by e q) k ≡ end_of_walk (q (end_of_walk e k)) (k ▸▸ a.events) = ending_then e q k ∙ ap (end_of_walk (q (end_of_walk e k))) a.second in
       let joined = followed_append k a.events rest.events in
       record {
         events = a.events ++ rest.events;
-        first = history_then d f g ∙ ap (history_after (f (ending d g))) a.first ∙ rest.first ∙ sym (followed_append g a.events rest.events);
-        second = history_then e q k ∙ ap (history_after (q (ending e k))) a.second ∙ rest.second ∙ sym joined;
+        first = history_then d f g ∙ ap (history_after (f (end_of_walk d g))) a.first ∙ rest.first ∙ sym (followed_append g a.events rest.events);
+        second = history_then e q k ∙ ap (history_after (q (end_of_walk e k))) a.second ∙ rest.second ∙ sym joined;
         allowed = ap all_allowed joined ∙ rest.allowed;
-        ends_go = subst (λ x. Last x (ending (followed_by d f) g) (ending (followed_by e q) k)) (sym joined) (subst (λ x. Last ((k ▸▸ a.events) ▸▸ rest.events) x (ending (followed_by e q) k)) (sym end) (subst (Last ((k ▸▸ a.events) ▸▸ rest.events) (ending (f (ending d g)) (g ▸▸ a.events))) (sym end_too) rest.ends_go));
+        ends_go = subst (λ x. Last x (end_of_walk (followed_by d f) g) (end_of_walk (followed_by e q) k)) (sym joined) (subst (λ x. Last ((k ▸▸ a.events) ▸▸ rest.events) x (end_of_walk (followed_by e q) k)) (sym end) (subst (Last ((k ▸▸ a.events) ▸▸ rest.events) (end_of_walk (f (end_of_walk d g)) (g ▸▸ a.events))) (sym end_too) rest.ends_go));
       }
 
   pub along_as : (f q : A → B) → Alongside Go g k d e → ((es : List Event) (a b : A) → Go (k ▸▸ es) a b → Last (k ▸▸ es) (f a) (q b)) → Alongside Last g k (ending_as f d) (ending_as q e)

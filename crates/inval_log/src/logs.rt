@@ -56,7 +56,7 @@ impl InvalLog {
     }
 
     /// The same log again. It is a count, but for the entries that were noted since the log was last
-    /// `shared`. Its room may differ.
+    /// `share`. Its room may differ.
     pub fn copy(&self) -> Result<InvalLog, NoMemory>
         ensures threshold { IfOk result (λ copy. copy.threshold ≡ self.now.threshold) }
         ensures entries { IfOk result (λ copy. copy.entries ≡ self.now.entries) }
@@ -68,15 +68,15 @@ impl InvalLog {
     }
 
     /// The same log, all of whose entries are shared from here on, so that a copy of it is a count.
-    /// It costs what `BlockList::shared` does: a block, and once in a block of new entries the blocks of the last
+    /// It costs what `BlockList::share` does: a block, and once in a block of new entries the blocks of the last
     /// shelf and the number of shelves too.
-    pub fn shared(&self) -> Result<InvalLog, NoMemory>
+    pub fn share(&self) -> Result<InvalLog, NoMemory>
         ensures threshold { IfOk result (λ shared. shared.threshold ≡ self.now.threshold) }
         ensures entries { IfOk result (λ shared. shared.entries ≡ self.now.entries) }
     {
         Ok(InvalLog {
             threshold: self.threshold,
-            entries: self.entries.shared()?,
+            entries: self.entries.share()?,
         })
     }
 

@@ -24,31 +24,31 @@ const SAVED: [u8; 78] = [
 
 /// How a start found a journal, or a checkpoint after it ended.
 #[derive(Clone, Copy, Debug, PartialEq, Eq)]
-enum Ended {
+enum CheckpointOutcome {
     Checkpoint(CheckEnd),
     Damaged(u64),
     DiskFault,
 }
 
 /// A checkpoint of the store that a disk holds, with the disk.
-fn checkpointed<R: Threads + Sync, D: Disk + Drop>(
+fn run_checkpoint<R: Threads + Sync, D: Disk + Drop>(
     rt: &R,
     alloc: Global,
     disk: D,
     most: u32,
-) -> Result<(D, Ended), NoMemory> {
+) -> Result<(D, CheckpointOutcome), NoMemory> {
     let mut store = match Store::start(rt, alloc, disk) {
         Started::Ready(store) => store,
-        Started::Damaged { disk, at } => return Ok((disk, Ended::Damaged(at))),
-        Started::DiskFault(disk) => return Ok((disk, Ended::DiskFault)),
+        Started::Damaged { disk, at } => return Ok((disk, CheckpointOutcome::Damaged(at))),
+        Started::DiskFault(disk) => return Ok((disk, CheckpointOutcome::DiskFault)),
         Started::NoMemory(_) => return Err(NoMemory),
     };
     match store.arm() {
         Append::Done => {
             let saved = store.checkpoint(most as u64);
-            Ok((saved.disk, Ended::Checkpoint(saved.end)))
+            Ok((saved.disk, CheckpointOutcome::Checkpoint(saved.end)))
         }
-        Append::DiskFault | Append::Stopped => Ok((store.close(), Ended::DiskFault)),
+        Append::DiskFault | Append::Stopped => Ok((store.close(), CheckpointOutcome::DiskFault)),
     }
 }
 
@@ -60,14 +60,17 @@ fn disk_of(alloc: Global, bytes: &[u8]) -> Result<MemDisk, NoMemory> {
 #[test]
 fn an_image_is_put_behind_its_journal(rt: HostRuntime) -> Result<(), Fail> {
     let alloc = rt.alloc();
-    let (disk, end) = checkpointed(&rt, alloc, disk_of(alloc, &ONE)?, 46)?;
+    let (disk, end) = run_checkpoint(&rt, alloc, disk_of(alloc, &ONE)?, 46)?;
     assert_eq!(rt;
         end,
-        Ended::Checkpoint(CheckEnd::Done { pos: 1, bytes: 46 })
+        CheckpointOutcome::Checkpoint(CheckEnd::Done { pos: 1, bytes: 46 })
     );
     assert_eq!(rt; disk.bytes(), SAVED.as_slice());
-    let (disk, end) = checkpointed(&rt, alloc, disk, 46)?;
-    assert_eq!(rt; end, Ended::Checkpoint(CheckEnd::Nothing { pos: 1 }));
+    let (disk, end) = run_checkpoint(&rt, alloc, disk, 46)?;
+    assert_eq!(rt;
+        end,
+        CheckpointOutcome::Checkpoint(CheckEnd::Nothing { pos: 1 })
+    );
     assert_eq!(rt; disk.bytes(), SAVED.as_slice());
     Ok(())
 }
@@ -75,10 +78,10 @@ fn an_image_is_put_behind_its_journal(rt: HostRuntime) -> Result<(), Fail> {
 #[test]
 fn an_image_that_is_too_long_is_not_put(rt: HostRuntime) -> Result<(), Fail> {
     let alloc = rt.alloc();
-    let (disk, end) = checkpointed(&rt, alloc, disk_of(alloc, &ONE)?, 45)?;
+    let (disk, end) = run_checkpoint(&rt, alloc, disk_of(alloc, &ONE)?, 45)?;
     assert_eq!(rt;
         end,
-        Ended::Checkpoint(CheckEnd::TooLong { pos: 1, bytes: 46 })
+        CheckpointOutcome::Checkpoint(CheckEnd::TooLong { pos: 1, bytes: 46 })
     );
     assert_eq!(rt; disk.bytes(), ONE.as_slice());
     Ok(())
@@ -96,15 +99,16 @@ fn each_failing_call_leaves_the_history_or_its_image(rt: HostRuntime) -> Result<
         for nth in 1..9 {
             let bytes = Vec::from_slice(alloc, &ONE)?;
             let failing = FailDisk::new(alloc, bytes, kind, nth);
-            let (disk, end) = checkpointed(&rt, alloc, failing, 46)?;
-            let done = end == Ended::Checkpoint(CheckEnd::Done { pos: 1, bytes: 46 });
+            let (disk, end) = run_checkpoint(&rt, alloc, failing, 46)?;
+            let done = end == CheckpointOutcome::Checkpoint(CheckEnd::Done { pos: 1, bytes: 46 });
             assert_eq!(rt; done, disk.faults() == 0, "call {nth}");
             for pick in 0..4 {
                 let mut image = Vec::new(alloc);
                 disk.inner().crash(pick, &mut image)?;
-                let (_disk, again) = checkpointed(&rt, alloc, MemDisk::new(alloc, image), 46)?;
-                let sound = again == Ended::Checkpoint(CheckEnd::Done { pos: 1, bytes: 46 })
-                    || again == Ended::Checkpoint(CheckEnd::Nothing { pos: 1 });
+                let (_disk, again) = run_checkpoint(&rt, alloc, MemDisk::new(alloc, image), 46)?;
+                let sound = again
+                    == CheckpointOutcome::Checkpoint(CheckEnd::Done { pos: 1, bytes: 46 })
+                    || again == CheckpointOutcome::Checkpoint(CheckEnd::Nothing { pos: 1 });
                 assert_eq!(rt; sound, true, "call {nth}, image {pick}");
             }
         }

@@ -18,39 +18,39 @@ const MORE: [u8; 22] = [
 
 /// How many payloads a journal has, and where it is damaged.
 #[derive(Clone, Copy, Debug, PartialEq, Eq)]
-struct Found {
+struct ReadCounts {
     payloads: usize,
     damaged: Option<u64>,
 }
 
 /// What is found where nothing is damaged.
-fn sound(payloads: usize) -> Found {
-    Found {
+fn sound_journal(payloads: usize) -> ReadCounts {
+    ReadCounts {
         payloads,
         damaged: None,
     }
 }
 
 /// What is found where the file is damaged at a place.
-fn broken(payloads: usize, at: u64) -> Found {
-    Found {
+fn damaged_journal(payloads: usize, at: u64) -> ReadCounts {
+    ReadCounts {
         payloads,
         damaged: Some(at),
     }
 }
 
 /// Reads a journal of these bytes.
-fn read(alloc: Global, bytes: &[u8]) -> Result<Found, NoMemory> {
+fn read_journal(alloc: Global, bytes: &[u8]) -> Result<ReadCounts, NoMemory> {
     let disk = MemDisk::new(alloc, Vec::from_slice(alloc, bytes)?);
     match recover(alloc, disk) {
-        Recovered::Ready { payloads, .. } => Ok(sound(payloads.len())),
-        Recovered::Damaged { payloads, at, .. } => Ok(broken(payloads.len(), at)),
+        Recovered::Ready { payloads, .. } => Ok(sound_journal(payloads.len())),
+        Recovered::Damaged { payloads, at, .. } => Ok(damaged_journal(payloads.len(), at)),
         Recovered::DiskFault(_) | Recovered::NoMemory(_) => Err(NoMemory),
     }
 }
 
 /// The bytes of two events, with a byte changed.
-fn changed(alloc: Global, at: usize, byte: u8) -> Result<Vec<u8>, NoMemory> {
+fn changed_bytes(alloc: Global, at: usize, byte: u8) -> Result<Vec<u8>, NoMemory> {
     let mut bytes = Vec::from_slice(alloc, &ONE)?;
     bytes.extend_from_slice(&MORE)?;
     if let Some(place) = bytes.get_mut(26) {
@@ -88,8 +88,8 @@ fn an_event_is_appended_to_an_empty_disk(rt: HostRuntime) -> Result<(), Fail> {
 #[test]
 fn payloads_are_read_one_at_a_time(rt: HostRuntime) -> Result<(), Fail> {
     let alloc = rt.alloc();
-    let disk = MemDisk::new(alloc, changed(alloc, 100, 0)?);
-    let Opened::Reading(mut reader) = Reader::open(alloc, disk) else {
+    let disk = MemDisk::new(alloc, changed_bytes(alloc, 100, 0)?);
+    let OpenOutcome::Reading(mut reader) = Reader::open(alloc, disk) else {
         return Err(Fail::new("it begins as a journal"));
     };
     let first = reader.next();
@@ -132,7 +132,7 @@ fn images_are_read(alloc: Global, disk: &MemDisk) -> Result<bool, NoMemory> {
         for half in [0, 1 << 63] {
             let mut image = Vec::new(alloc);
             disk.crash(pick + half, &mut image)?;
-            if read(alloc, &image)?.damaged.is_some() {
+            if read_journal(alloc, &image)?.damaged.is_some() {
                 return Ok(false);
             }
         }
@@ -206,7 +206,7 @@ fn a_journal_that_stopped_takes_nothing(rt: HostRuntime) -> Result<(), Fail> {
 /// The bytes of two payloads, the second of which begins with the byte 8, in a journal with this byte of a
 /// version.
 fn with_base(alloc: Global, mark: u8) -> Result<Vec<u8>, NoMemory> {
-    let mut bytes = changed(alloc, 31, 8)?;
+    let mut bytes = changed_bytes(alloc, 31, 8)?;
     if let Some(place) = bytes.get_mut(7) {
         *place = mark;
     }
@@ -217,7 +217,7 @@ fn with_base(alloc: Global, mark: u8) -> Result<Vec<u8>, NoMemory> {
 fn a_base_is_told_from_other_payloads(rt: HostRuntime) -> Result<(), Fail> {
     let alloc = rt.alloc();
     let disk = MemDisk::new(alloc, with_base(alloc, 0x32)?);
-    let Opened::Reading(mut reader) = Reader::open(alloc, disk) else {
+    let OpenOutcome::Reading(mut reader) = Reader::open(alloc, disk) else {
         return Err(Fail::new("it begins as a journal"));
     };
     let first = reader.next();

@@ -181,7 +181,7 @@ fn shut_and_look<R: Threads + Wait + Abort + Sync>(
     lock.join(first, second)
 }
 
-fn made<R: Abort>(rt: &R, alloc: Global, log: Log, shares: u32) -> (TurnLock<Log>, Pass<Log>)
+fn make_lock<R: Abort>(rt: &R, alloc: Global, log: Log, shares: u32) -> (TurnLock<Log>, Pass<Log>)
     requires { 0 < shares }
     ensures lock { IsPassOf result.0 result.1 × IsIdle result.1 }
     ensures shares { (shares_of result.1 ≡ shares) × (result.0.shares ≡ shares) }
@@ -194,7 +194,7 @@ fn made<R: Abort>(rt: &R, alloc: Global, log: Log, shares: u32) -> (TurnLock<Log
 
 #[test]
 fn three_threads_lose_no_entry(rt: HostRuntime) {
-    let (lock, mut pass) = made(&rt, rt.alloc(), empty_log(rt.alloc(), 5), 3);
+    let (lock, mut pass) = make_lock(&rt, rt.alloc(), empty_log(rt.alloc(), 5), 3);
     let second = lock.split(&mut pass, 1);
     let third = lock.split(&mut pass, 1);
     assert_eq!(rt; [pass.shares(), second.shares(), third.shares()], [1, 1, 1]);
@@ -210,7 +210,7 @@ fn three_threads_lose_no_entry(rt: HostRuntime) {
 
 #[test]
 fn a_shut_log_stays_as_it_is(rt: HostRuntime) {
-    let (lock, mut pass) = made(&rt, rt.alloc(), empty_log(rt.alloc(), 0), 2);
+    let (lock, mut pass) = make_lock(&rt, rt.alloc(), empty_log(rt.alloc(), 0), 2);
     let other = lock.split(&mut pass, 1);
     let all = shut_and_look(&rt, &lock, pass, other);
     let log = lock.close(all);
@@ -275,7 +275,7 @@ fn touch_by_two<V: Grown + Send, R: Threads + Wait + Sync>(
 
 #[test]
 fn passes_of_any_value_cross_threads(rt: HostRuntime) {
-    let (lock, mut pass) = made(&rt, rt.alloc(), empty_log(rt.alloc(), 3), 2);
+    let (lock, mut pass) = make_lock(&rt, rt.alloc(), empty_log(rt.alloc(), 3), 2);
     let other = lock.split(&mut pass, 1);
     let all = touch_by_two(&rt, &lock, pass, other);
     let log = lock.close(all);

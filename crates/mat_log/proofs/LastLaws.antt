@@ -20,7 +20,7 @@ use Rattle.mat_log.specs.Logs.{IsInStep}
 use Rattle.ts_bucket.proofs.SpanLaws.{in_span-ends, in_span-from_ends}
 use Rattle.span_map.specs.declared.pieces.Piece.{Piece}
 use Rattle.span_map.specs.Pieces.{piece_at, ArePieces}
-use Rattle.mat_log.specs.Lasts.{Follows, PiecesRise, AreLasts, goes_on, longer, merged, all_merged}
+use Rattle.mat_log.specs.Lasts.{Follows, PiecesRise, AreLasts, goes_on, longer, pieces_merged, all_merged}
 use Rattle.mat_log.proofs.RangeLaws.{changes_at_bucket, differ, differ', one_span, out_above, out_below}
 
 -- ---- the values of merged pieces
@@ -33,11 +33,11 @@ two_are_one : (a b : Bool) (x y : ℕ) (v : Option ℕ) → x ≡ y → cond (a 
 two_are_one true b x y v e = refl
 two_are_one false b x y v e = ap (λ n. cond b (Some n) v) e
 
-values_merged : (lo hi : ℤ) (p : Piece) (ps : List Piece) (t : ℤ) → IsOpen p lo → ArePieces lo hi ps → piece_at (merged p ps) t ≡ piece_at (p ∷ ps) t
+values_merged : (lo hi : ℤ) (p : Piece) (ps : List Piece) (t : ℤ) → IsOpen p lo → ArePieces lo hi ps → piece_at (pieces_merged p ps) t ≡ piece_at (p ∷ ps) t
 values_merged lo hi p [] t o a = refl
 values_merged lo hi p (q ∷ qs) t o a = by (goes_on p q) refl (λ l. values_merged q.span.hi hi (longer p q) qs t l a.3) (values_merged q.span.hi hi q qs t (a.1, omega (arith, ints)) a.3)
   where
-    by : (b : Bool) → goes_on p q ≡ b → (IsOpen (longer p q) q.span.hi → piece_at (merged (longer p q) qs) t ≡ piece_at (longer p q ∷ qs) t) → piece_at (merged q qs) t ≡ piece_at (q ∷ qs) t → piece_at (cond b (merged (longer p q) qs) (p ∷ merged q qs)) t ≡ piece_at (p ∷ q ∷ qs) t
+    by : (b : Bool) → goes_on p q ≡ b → (IsOpen (longer p q) q.span.hi → piece_at (pieces_merged (longer p q) qs) t ≡ piece_at (longer p q ∷ qs) t) → piece_at (pieces_merged q qs) t ≡ piece_at (q ∷ qs) t → piece_at (cond b (pieces_merged (longer p q) qs) (p ∷ pieces_merged q qs)) t ≡ piece_at (p ∷ q ∷ qs) t
     by true e joined apart =
         let both = and_parts (int_eq p.span.hi q.span.lo) (p.pos == q.pos) e in
         let same : p.span.hi ≡ q.span.lo = (Decides-int_eq p.span.hi q.span.lo).0 both.0 in
@@ -58,10 +58,10 @@ abbrev IsBefore : Piece → List Piece → Type 0
 IsBefore p [] = Unit {0}
 IsBefore p (q ∷ qs) = Follows p q
 
-before_merged : (p q : Piece) (qs : List Piece) → Follows p q → IsBefore p (merged q qs)
+before_merged : (p q : Piece) (qs : List Piece) → Follows p q → IsBefore p (pieces_merged q qs)
 before_merged p q [] f = f
 before_merged p q (r ∷ rs) f =
-    elim (goes_on q r) as (λ b. IsBefore p (cond b (merged (longer q r) rs) (q ∷ merged r rs))) [
+    elim (goes_on q r) as (λ b. IsBefore p (cond b (pieces_merged (longer q r) rs) (q ∷ pieces_merged r rs))) [
       | true ↦ before_merged p (longer q r) rs (record { above = f.above; other = f.other })
       | false ↦ f
     ]
@@ -78,11 +78,11 @@ not_on p q e touch same = true≢false (sym (both (int_eq p.span.hi q.span.lo) (
     both true b x y = y
     both false b x y = absurd (true≢false (sym x))
 
-sized_merged : (lo hi : ℤ) (p : Piece) (ps : List Piece) → IsOpen p lo → ArePieces lo hi ps → AreSized (merged p ps)
+sized_merged : (lo hi : ℤ) (p : Piece) (ps : List Piece) → IsOpen p lo → ArePieces lo hi ps → AreSized (pieces_merged p ps)
 sized_merged lo hi p [] o a = (o.0, tt, tt)
 sized_merged lo hi p (q ∷ qs) o a = by (goes_on p q) refl (λ l. sized_merged q.span.hi hi (longer p q) qs l a.3) (sized_merged q.span.hi hi q qs (a.1, omega (arith, ints)) a.3)
   where
-    by : (b : Bool) → goes_on p q ≡ b → (IsOpen (longer p q) q.span.hi → AreSized (merged (longer p q) qs)) → AreSized (merged q qs) → AreSized (cond b (merged (longer p q) qs) (p ∷ merged q qs))
+    by : (b : Bool) → goes_on p q ≡ b → (IsOpen (longer p q) q.span.hi → AreSized (pieces_merged (longer p q) qs)) → AreSized (pieces_merged q qs) → AreSized (cond b (pieces_merged (longer p q) qs) (p ∷ pieces_merged q qs))
     by true e joined apart =
         let same : p.span.hi ≡ q.span.lo = (Decides-int_eq p.span.hi q.span.lo).0 (and_parts (int_eq p.span.hi q.span.lo) (p.pos == q.pos) e).0 in
         let size : p.span.lo <ℤ p.span.hi = o.0 in

@@ -26,7 +26,7 @@ use Rattle.span_map.specs.declared.rules.Rule.TheVariants.{NotBelow, Over, Where
 use Rattle.mat_log.specs.Feeding.{is_dirty_with, is_changed_with, is_redone_with}
 use Rattle.mat_log.specs.Touching.{pending_or_fresh}
 use Rattle.mat_log.proofs.FeedLaws.{in_step-with, near_some, cond_twice, some_over}
-use Rattle.mat_log.specs.Joined.{joined}
+use Rattle.mat_log.specs.JoinedRanges.{ranges_joined}
 
 -- x is below the first of the ranges
 abbrev IsBeforeRanges : ℤ → List SpanValue → Type 0
@@ -69,7 +69,7 @@ one_span s p t l g e = by_lt_z t s.hi
     (λ below. grind (arith, ints))
     (λ above. grind (arith, ints))
 
-touch_step : (s : SpanValue) (p : Piece) (ps : List Piece) (t : ℤ) (touching : Bool) → int_eq s.hi p.span.lo ≡ touching → s.lo <ℤ s.hi → p.span.lo <ℤ p.span.hi → ((o : SpanValue) → o.lo <ℤ o.hi → o.hi ≡ p.span.hi → lies_in (joined (Some o) ps) t ≡ (in_span o t || is_some (piece_at ps t))) → lies_in (cond touching [] (s ∷ []) ++ joined (Some (cond touching (record { lo = s.lo; hi = p.span.hi }) p.span)) ps) t ≡ (in_span s t || (in_span p.span t || is_some (piece_at ps t)))
+touch_step : (s : SpanValue) (p : Piece) (ps : List Piece) (t : ℤ) (touching : Bool) → int_eq s.hi p.span.lo ≡ touching → s.lo <ℤ s.hi → p.span.lo <ℤ p.span.hi → ((o : SpanValue) → o.lo <ℤ o.hi → o.hi ≡ p.span.hi → lies_in (ranges_joined (Some o) ps) t ≡ (in_span o t || is_some (piece_at ps t))) → lies_in (cond touching [] (s ∷ []) ++ ranges_joined (Some (cond touching (record { lo = s.lo; hi = p.span.hi }) p.span)) ps) t ≡ (in_span s t || (in_span p.span t || is_some (piece_at ps t)))
 touch_step s p ps t true e l g rest =
     let same : s.hi ≡ p.span.lo = (Decides-int_eq s.hi p.span.lo).0 e in
     rest (record { lo = s.lo; hi = p.span.hi }) (omega (arith, ints)) refl
@@ -78,7 +78,7 @@ touch_step s p ps t true e l g rest =
 touch_step s p ps t false e l g rest = ap (λ b. in_span s t || b) (rest p.span g refl)
 
 -- the ranges have the numbers of the open range and of the pieces
-lies_in-joined : (range : Option SpanValue) (lo hi : ℤ) (ps : List Piece) (t : ℤ) → ArePieces lo hi ps → OpenFits range lo → lies_in (joined range ps) t ≡ (in_open range t || is_some (piece_at ps t))
+lies_in-joined : (range : Option SpanValue) (lo hi : ℤ) (ps : List Piece) (t : ℤ) → ArePieces lo hi ps → OpenFits range lo → lies_in (ranges_joined range ps) t ≡ (in_open range t || is_some (piece_at ps t))
 lies_in-joined None lo hi [] t a f = refl
 lies_in-joined (Some s) lo hi [] t a f = refl
 lies_in-joined None lo hi (p ∷ ps) t a f =
@@ -87,22 +87,22 @@ lies_in-joined (Some s) lo hi (p ∷ ps) t a f =
     touch_step s p ps t (int_eq s.hi p.span.lo) refl f.0 a.1 (λ o l e. lies_in-joined (Some o) p.span.hi hi ps t a.3 (l, omega (arith, ints)))
     ∙ ap (λ b. in_span s t || b) (sym (some_piece (in_span p.span t) p.pos (piece_at ps t)))
 
-before_step : (x : ℤ) (s : SpanValue) (p : Piece) (ps : List Piece) (touching : Bool) → x <ℤ s.lo → ((o : SpanValue) → x <ℤ o.lo → IsBeforeRanges x (joined (Some o) ps)) → IsBeforeRanges x (cond touching [] (s ∷ []) ++ joined (Some (cond touching (record { lo = s.lo; hi = p.span.hi }) p.span)) ps)
+before_step : (x : ℤ) (s : SpanValue) (p : Piece) (ps : List Piece) (touching : Bool) → x <ℤ s.lo → ((o : SpanValue) → x <ℤ o.lo → IsBeforeRanges x (ranges_joined (Some o) ps)) → IsBeforeRanges x (cond touching [] (s ∷ []) ++ ranges_joined (Some (cond touching (record { lo = s.lo; hi = p.span.hi }) p.span)) ps)
 before_step x s p ps true l rest = rest (record { lo = s.lo; hi = p.span.hi }) l
 before_step x s p ps false l rest = l
 
 -- what is below the open range is below all of them
-before-joined : (x : ℤ) (s : SpanValue) (ps : List Piece) → x <ℤ s.lo → IsBeforeRanges x (joined (Some s) ps)
+before-joined : (x : ℤ) (s : SpanValue) (ps : List Piece) → x <ℤ s.lo → IsBeforeRanges x (ranges_joined (Some s) ps)
 before-joined x s [] l = l
 before-joined x s (p ∷ ps) l = before_step x s p ps (int_eq s.hi p.span.lo) l (λ o g. before-joined x o ps g)
 
-apart_step : (s : SpanValue) (p : Piece) (ps : List Piece) (touching : Bool) → int_eq s.hi p.span.lo ≡ touching → s.lo <ℤ s.hi → p.span.lo <ℤ p.span.hi → s.hi ≤ℤ p.span.lo → ((o : SpanValue) → o.lo <ℤ o.hi → o.hi ≡ p.span.hi → AreApart (joined (Some o) ps)) → AreApart (cond touching [] (s ∷ []) ++ joined (Some (cond touching (record { lo = s.lo; hi = p.span.hi }) p.span)) ps)
+apart_step : (s : SpanValue) (p : Piece) (ps : List Piece) (touching : Bool) → int_eq s.hi p.span.lo ≡ touching → s.lo <ℤ s.hi → p.span.lo <ℤ p.span.hi → s.hi ≤ℤ p.span.lo → ((o : SpanValue) → o.lo <ℤ o.hi → o.hi ≡ p.span.hi → AreApart (ranges_joined (Some o) ps)) → AreApart (cond touching [] (s ∷ []) ++ ranges_joined (Some (cond touching (record { lo = s.lo; hi = p.span.hi }) p.span)) ps)
 apart_step s p ps true e l g le rest = rest (record { lo = s.lo; hi = p.span.hi }) (omega (arith, ints)) refl
 apart_step s p ps false e l g le rest =
     (l, before-joined s.hi p.span ps (by_lt_z s.hi p.span.lo (λ less. less) (λ more. absurd (true≢false (sym ((Decides-int_eq s.hi p.span.lo).1 (omega (arith, ints))) ∙ e)))), rest p.span g refl)
 
 -- the ranges are apart
-apart-joined : (range : Option SpanValue) (lo hi : ℤ) (ps : List Piece) → ArePieces lo hi ps → OpenFits range lo → AreApart (joined range ps)
+apart-joined : (range : Option SpanValue) (lo hi : ℤ) (ps : List Piece) → ArePieces lo hi ps → OpenFits range lo → AreApart (ranges_joined range ps)
 apart-joined None lo hi [] a f = tt
 apart-joined (Some s) lo hi [] a f = (f.0, tt, tt)
 apart-joined None lo hi (p ∷ ps) a f = apart-joined (Some p.span) p.span.hi hi ps a.3 (a.1, omega (arith, ints))
@@ -184,24 +184,24 @@ asked w s b whole bucket = by (in_span s b) refl
         ap (λ x. x && int_le (first_of w) b) bucket ∙ above
 
 -- the joined pieces within a span of whole buckets of a function that has one value for a whole bucket are the ranges of the buckets at which it has one
-pub some_ranges : (w : WidthValue) (f : ℤ → Option ℕ) (s : SpanValue) (pieces : List Piece) → IsWidth w → ((t : ℤ) → f t ≡ f (bucket_of w t)) → IsWholeSpan w s → ((t : ℤ) → piece_at pieces t ≡ cond (in_span s t) (f t) None) → ArePieces s.lo s.hi pieces → AreRanges w s (λ b. is_some (f b)) (joined None pieces)
+pub some_ranges : (w : WidthValue) (f : ℤ → Option ℕ) (s : SpanValue) (pieces : List Piece) → IsWidth w → ((t : ℤ) → f t ≡ f (bucket_of w t)) → IsWholeSpan w s → ((t : ℤ) → piece_at pieces t ≡ cond (in_span s t) (f t) None) → ArePieces s.lo s.hi pieces → AreRanges w s (λ b. is_some (f b)) (ranges_joined None pieces)
 some_ranges w f s pieces h one whole values rising =
-    let is : (t : ℤ) → lies_in (joined None pieces) t ≡ (in_span s t && is_some (f t)) = λ t. lies_in-joined None s.lo s.hi pieces t rising tt ∙ ap is_some (values t) ∙ and_some (in_span s t) (f t) in
+    let is : (t : ℤ) → lies_in (ranges_joined None pieces) t ≡ (in_span s t && is_some (f t)) = λ t. lies_in-joined None s.lo s.hi pieces t rising tt ∙ ap is_some (values t) ∙ and_some (in_span s t) (f t) in
     let both : (t : ℤ) → (in_span s t && is_some (f t)) ≡ (in_span s (bucket_of w t) && is_some (f (bucket_of w t))) = λ t. ap (λ b. b && is_some (f t)) (in_span-bucket w s t h whole.starts whole.ends) ∙ ap (λ v. in_span s (bucket_of w t) && is_some v) (one t) in
-    let apart : AreApart (joined None pieces) = apart-joined None s.lo s.hi pieces rising tt in
-    let start = some_start s.lo (joined None pieces) in
+    let apart : AreApart (ranges_joined None pieces) = apart-joined None s.lo s.hi pieces rising tt in
+    let start = some_start s.lo (ranges_joined None pieces) in
     record {
-      whole = whole_from w (λ t. in_span s t && is_some (f t)) start.0 (joined None pieces) h both apart start.1 (λ t l. is t);
-      rising = apart_rise (joined None pieces) apart;
+      whole = whole_from w (λ t. in_span s t && is_some (f t)) start.0 (ranges_joined None pieces) h both apart start.1 (λ t l. is t);
+      rising = apart_rise (ranges_joined None pieces) apart;
       exact = λ b q. is b ∙ ap (λ c. c && is_some (f b)) (sym (asked w s b whole q));
     }
 
 -- ---- dirty buckets
 
 -- where something is pending in each bucket without a last refresh, the buckets with something pending are the dirty ones
-pub dirty_ranges : (w : WidthValue) (p r : ℤ → Option ℕ) (s : SpanValue) (pieces : List Piece) → IsInStep w p r → IsWholeSpan w s → s.hi ≤ℤ greatest → ((t : ℤ) → piece_at pieces t ≡ cond (in_span s t) (p t) None) → ArePieces s.lo s.hi pieces → AreRanges w s (λ b. is_none (r b) || is_some (p b)) (joined None pieces)
+pub dirty_ranges : (w : WidthValue) (p r : ℤ → Option ℕ) (s : SpanValue) (pieces : List Piece) → IsInStep w p r → IsWholeSpan w s → s.hi ≤ℤ greatest → ((t : ℤ) → piece_at pieces t ≡ cond (in_span s t) (p t) None) → ArePieces s.lo s.hi pieces → AreRanges w s (λ b. is_none (r b) || is_some (p b)) (ranges_joined None pieces)
 dirty_ranges w p r s pieces h whole end values rising =
-    AreRanges-same w s s (λ b. is_some (p b)) (λ b. is_none (r b) || is_some (p b)) (joined None pieces)
+    AreRanges-same w s s (λ b. is_some (p b)) (λ b. is_none (r b) || is_some (p b)) (ranges_joined None pieces)
     (λ b q. ap (λ c. c && is_some (p b)) (asked w s b whole q) ∙ by b (in_span s b) refl ∙ ap (λ c. c && (is_none (r b) || is_some (p b))) (sym (asked w s b whole q)))
     (some_ranges w p s pieces h.bounds h.one_pending whole values rising)
   where
@@ -221,10 +221,10 @@ dirty_ranges w p r s pieces h whole end values rising =
         pending_is (p b) (r b) (h.marked b inside)
 
 -- the same as if entries had been fed, where the pieces are those of what is pending then near a span
-pub dirty_with_as : {E : Type 0} (log : LogValue) (es : List Entry) (s : SpanValue) (f : ℤ → Option ℕ) (pieces : List Piece) (found : Result (List SpanValue) E) → IsInStep log.width (pending_at log) (last_at log) → IsWholeSpan log.width s → s.hi ≤ℤ greatest → ((t : ℤ) → f t ≡ cond (in_span s t) (pending_or_fresh log (filter (λ e. overlaps e.hull s) es) t) None) → ((t : ℤ) → piece_at pieces t ≡ cond (in_span s t) (f t) None) → ArePieces s.lo s.hi pieces → IfOk found (λ ranges. ranges ≡ joined None pieces) → IfOk found (AreRanges log.width s (is_dirty_with log es))
+pub dirty_with_as : {E : Type 0} (log : LogValue) (es : List Entry) (s : SpanValue) (f : ℤ → Option ℕ) (pieces : List Piece) (found : Result (List SpanValue) E) → IsInStep log.width (pending_at log) (last_at log) → IsWholeSpan log.width s → s.hi ≤ℤ greatest → ((t : ℤ) → f t ≡ cond (in_span s t) (pending_or_fresh log (filter (λ e. overlaps e.hull s) es) t) None) → ((t : ℤ) → piece_at pieces t ≡ cond (in_span s t) (f t) None) → ArePieces s.lo s.hi pieces → IfOk found (λ ranges. ranges ≡ ranges_joined None pieces) → IfOk found (AreRanges log.width s (is_dirty_with log es))
 dirty_with_as log es s f pieces found h whole end is values rising =
     IfOk-weaker found _ _ (λ ranges e. subst (AreRanges w s (is_dirty_with log es)) (sym e)
-    (AreRanges-same w s s (λ b. is_none (last_at log b) || is_some (p b)) (is_dirty_with log es) (joined None pieces) same
+    (AreRanges-same w s s (λ b. is_none (last_at log b) || is_some (p b)) (is_dirty_with log es) (ranges_joined None pieces) same
     (dirty_ranges w p (last_at log) s pieces (in_step-with w (pending_at log) (last_at log) p near h (λ t. refl)) whole end (λ t. values t ∙ ap (λ v. cond (in_span s t) v None) (is t) ∙ cond_twice (in_span s t) (p t)) rising)))
   where
     w : WidthValue
@@ -244,10 +244,10 @@ dirty_with_as log es s f pieces found h whole end is values rising =
     same b q = ap (λ c. c && (is_none (last_at log b) || is_some (p b))) (asked w s b whole q) ∙ by b (in_span s b) q refl ∙ ap (λ c. c && is_dirty_with log es b) (sym (asked w s b whole q))
 
 -- the same of results
-pub dirty_as : {E : Type 0} (w : WidthValue) (p r : ℤ → Option ℕ) (s : SpanValue) (pieces : List Piece) (found : Result (List SpanValue) E) → IsInStep w p r → IsWholeSpan w s → s.hi ≤ℤ greatest → ((t : ℤ) → piece_at pieces t ≡ cond (in_span s t) (p t) None) → ArePieces s.lo s.hi pieces → IfOk found (λ ranges. ranges ≡ joined None pieces) → IfOk found (AreRanges w s (λ b. is_none (r b) || is_some (p b)))
+pub dirty_as : {E : Type 0} (w : WidthValue) (p r : ℤ → Option ℕ) (s : SpanValue) (pieces : List Piece) (found : Result (List SpanValue) E) → IsInStep w p r → IsWholeSpan w s → s.hi ≤ℤ greatest → ((t : ℤ) → piece_at pieces t ≡ cond (in_span s t) (p t) None) → ArePieces s.lo s.hi pieces → IfOk found (λ ranges. ranges ≡ ranges_joined None pieces) → IfOk found (AreRanges w s (λ b. is_none (r b) || is_some (p b)))
 dirty_as w p r s pieces found h whole end values rising = IfOk-weaker found _ _ (λ ranges e. subst (AreRanges w s (λ b. is_none (r b) || is_some (p b))) (sym e) (dirty_ranges w p r s pieces h whole end values rising))
 
-pub some_as : {E : Type 0} (w : WidthValue) (f : ℤ → Option ℕ) (s : SpanValue) (pieces : List Piece) (found : Result (List SpanValue) E) → IsWidth w → ((t : ℤ) → f t ≡ f (bucket_of w t)) → IsWholeSpan w s → ((t : ℤ) → piece_at pieces t ≡ cond (in_span s t) (f t) None) → ArePieces s.lo s.hi pieces → IfOk found (λ ranges. ranges ≡ joined None pieces) → IfOk found (AreRanges w s (λ b. is_some (f b)))
+pub some_as : {E : Type 0} (w : WidthValue) (f : ℤ → Option ℕ) (s : SpanValue) (pieces : List Piece) (found : Result (List SpanValue) E) → IsWidth w → ((t : ℤ) → f t ≡ f (bucket_of w t)) → IsWholeSpan w s → ((t : ℤ) → piece_at pieces t ≡ cond (in_span s t) (f t) None) → ArePieces s.lo s.hi pieces → IfOk found (λ ranges. ranges ≡ ranges_joined None pieces) → IfOk found (AreRanges w s (λ b. is_some (f b)))
 some_as w f s pieces found h one whole values rising = IfOk-weaker found _ _ (λ ranges e. subst (AreRanges w s (λ b. is_some (f b))) (sym e) (some_ranges w f s pieces h one whole values rising))
 
 pub same_as : {E : Type 0} (w : WidthValue) (s s' : SpanValue) (test test' : ℤ → Bool) (found : Result (List SpanValue) E) → ((b : ℤ) → is_bucket w b ≡ true → (is_asked w s b && test b) ≡ (is_asked w s' b && test' b)) → IfOk found (AreRanges w s test) → IfOk found (AreRanges w s' test')
@@ -278,10 +278,10 @@ stale_same w s starts mark test b bucket exact = by_lt_z b (first_of w)
         ∙ ap (λ x. x && z) (and-true (in_span t b))
 
 -- the ranges of the buckets with a last refresh and something pending, where the pieces are those of what is pending then near a span
-pub changed_with_as : {E : Type 0} (log : LogValue) (es : List Entry) (s : SpanValue) (f q r : ℤ → Option ℕ) (pieces : List Piece) (found : Result (List SpanValue) E) → IsInStep log.width (pending_at log) (last_at log) → IsWholeSpan log.width s → ((t : ℤ) → q t ≡ cond (in_span s t) (pending_or_fresh log (filter (λ e. overlaps e.hull s) es) t) None) → ((t : ℤ) → r t ≡ cond (in_span s t) (last_at log t) None) → ((t : ℤ) → f t ≡ combined_by Where (r t) (q t)) → ((t : ℤ) → piece_at pieces t ≡ cond (in_span s t) (f t) None) → ArePieces s.lo s.hi pieces → IfOk found (λ ranges. ranges ≡ joined None pieces) → IfOk found (AreRanges log.width s (is_changed_with log es))
+pub changed_with_as : {E : Type 0} (log : LogValue) (es : List Entry) (s : SpanValue) (f q r : ℤ → Option ℕ) (pieces : List Piece) (found : Result (List SpanValue) E) → IsInStep log.width (pending_at log) (last_at log) → IsWholeSpan log.width s → ((t : ℤ) → q t ≡ cond (in_span s t) (pending_or_fresh log (filter (λ e. overlaps e.hull s) es) t) None) → ((t : ℤ) → r t ≡ cond (in_span s t) (last_at log t) None) → ((t : ℤ) → f t ≡ combined_by Where (r t) (q t)) → ((t : ℤ) → piece_at pieces t ≡ cond (in_span s t) (f t) None) → ArePieces s.lo s.hi pieces → IfOk found (λ ranges. ranges ≡ ranges_joined None pieces) → IfOk found (AreRanges log.width s (is_changed_with log es))
 changed_with_as log es s f q r pieces found h whole qs rs fs values rising =
     IfOk-weaker found _ _ (λ ranges e. subst (AreRanges w s (is_changed_with log es)) (sym e)
-    (AreRanges-same w s s (λ b. is_some (g b)) (is_changed_with log es) (joined None pieces) same
+    (AreRanges-same w s s (λ b. is_some (g b)) (is_changed_with log es) (ranges_joined None pieces) same
     (some_ranges w g s pieces h.bounds one whole (λ t. values t ∙ ap (λ v. cond (in_span s t) v None) (fs t ∙ ap (λ v. combined_by Where v (q t)) (rs t) ∙ ap (combined_by Where (cond (in_span s t) (last_at log t) None)) (qs t)) ∙ inside (in_span s t) (last_at log t) (p t)) rising)))
   where
     w : WidthValue
@@ -337,10 +337,10 @@ lies_in-bucket w (s ∷ ss) t h whole =
     ap (λ b. b || lies_in ss t) (in_span-bucket w s t h first.starts first.ends) ∙ ap (λ b. in_span s (bucket_of w t) || b) (lies_in-bucket w ss t h whole.1)
 
 -- the buckets of ranges whose last refresh isn't above a snapshot
-pub renewed_as : {E : Type 0} (log : LogValue) (s : SpanValue) (ranges : List SpanValue) (snap : ℕ) (f : ℤ → Option ℕ) (pieces : List Piece) (found : Result (List SpanValue) E) → IsInStep log.width (pending_at log) (last_at log) → IsWholeSpan log.width s → AllByRecursion (IsWholeRange log.width) ranges → ((t : ℤ) → f t ≡ combined_by NotBelow (cond (in_span s t) (last_at log t) None) (cond (lies_in ranges t) (Some snap) None)) → ((t : ℤ) → piece_at pieces t ≡ cond (in_span s t) (f t) None) → ArePieces s.lo s.hi pieces → IfOk found (λ rs. rs ≡ joined None pieces) → IfOk found (AreRanges log.width s (λ b. lies_in ranges b && not (is_above snap (last_at log b))))
+pub renewed_as : {E : Type 0} (log : LogValue) (s : SpanValue) (ranges : List SpanValue) (snap : ℕ) (f : ℤ → Option ℕ) (pieces : List Piece) (found : Result (List SpanValue) E) → IsInStep log.width (pending_at log) (last_at log) → IsWholeSpan log.width s → AllByRecursion (IsWholeRange log.width) ranges → ((t : ℤ) → f t ≡ combined_by NotBelow (cond (in_span s t) (last_at log t) None) (cond (lies_in ranges t) (Some snap) None)) → ((t : ℤ) → piece_at pieces t ≡ cond (in_span s t) (f t) None) → ArePieces s.lo s.hi pieces → IfOk found (λ rs. rs ≡ ranges_joined None pieces) → IfOk found (AreRanges log.width s (λ b. lies_in ranges b && not (is_above snap (last_at log b))))
 renewed_as log s ranges snap f pieces found h whole parts is values rising =
     IfOk-weaker found _ _ (λ rs e. subst (AreRanges w s (λ b. lies_in ranges b && not (is_above snap (last_at log b)))) (sym e)
-    (AreRanges-same w s s (λ b. is_some (g b)) (λ b. lies_in ranges b && not (is_above snap (last_at log b))) (joined None pieces) (λ b q. ap (λ c. is_asked w s b && c) (says (lies_in ranges b) (last_at log b)))
+    (AreRanges-same w s s (λ b. is_some (g b)) (λ b. lies_in ranges b && not (is_above snap (last_at log b))) (ranges_joined None pieces) (λ b q. ap (λ c. is_asked w s b && c) (says (lies_in ranges b) (last_at log b)))
     (some_ranges w g s pieces h.bounds one whole (λ t. values t ∙ ap (λ v. cond (in_span s t) v None) (is t) ∙ inside (in_span s t) (last_at log t) (cond (lies_in ranges t) (Some snap) None)) rising)))
   where
     w : WidthValue
@@ -367,10 +367,10 @@ cut_above true snap v = refl
 cut_above false snap v = refl
 
 -- the ranges that a refresh with a snapshot makes anew when it is done again, where the pieces are those of what is pending then near a span and of the last refreshes above the snapshot
-pub redone_with_as : {E : Type 0} (log : LogValue) (es : List Entry) (snap : ℕ) (s : SpanValue) (f q a : ℤ → Option ℕ) (pieces : List Piece) (found : Result (List SpanValue) E) → IsInStep log.width (pending_at log) (last_at log) → IsWholeSpan log.width s → s.hi ≤ℤ greatest → ((t : ℤ) → q t ≡ cond (in_span s t) (pending_or_fresh log (filter (λ e. overlaps e.hull s) es) t) None) → ((t : ℤ) → a t ≡ cond (in_span s t) (above snap (last_at log t)) None) → ((t : ℤ) → f t ≡ combined_by Over (q t) (a t)) → ((t : ℤ) → piece_at pieces t ≡ cond (in_span s t) (f t) None) → ArePieces s.lo s.hi pieces → IfOk found (λ ranges. ranges ≡ joined None pieces) → IfOk found (AreRanges log.width s (is_redone_with log es snap))
+pub redone_with_as : {E : Type 0} (log : LogValue) (es : List Entry) (snap : ℕ) (s : SpanValue) (f q a : ℤ → Option ℕ) (pieces : List Piece) (found : Result (List SpanValue) E) → IsInStep log.width (pending_at log) (last_at log) → IsWholeSpan log.width s → s.hi ≤ℤ greatest → ((t : ℤ) → q t ≡ cond (in_span s t) (pending_or_fresh log (filter (λ e. overlaps e.hull s) es) t) None) → ((t : ℤ) → a t ≡ cond (in_span s t) (above snap (last_at log t)) None) → ((t : ℤ) → f t ≡ combined_by Over (q t) (a t)) → ((t : ℤ) → piece_at pieces t ≡ cond (in_span s t) (f t) None) → ArePieces s.lo s.hi pieces → IfOk found (λ ranges. ranges ≡ ranges_joined None pieces) → IfOk found (AreRanges log.width s (is_redone_with log es snap))
 redone_with_as log es snap s f q a pieces found h whole end qs ats fs values rising =
     IfOk-weaker found _ _ (λ ranges e. subst (AreRanges w s (is_redone_with log es snap)) (sym e)
-    (AreRanges-same w s s (λ b. is_some (g b)) (is_redone_with log es snap) (joined None pieces) same
+    (AreRanges-same w s s (λ b. is_some (g b)) (is_redone_with log es snap) (ranges_joined None pieces) same
     (some_ranges w g s pieces h.bounds one whole (λ t. values t ∙ ap (λ v. cond (in_span s t) v None) (fs t ∙ ap (λ v. combined_by Over v (a t)) (qs t) ∙ ap (combined_by Over (cond (in_span s t) (p t) None)) (ats t)) ∙ inside (in_span s t) (p t) (above snap (last_at log t))) rising)))
   where
     w : WidthValue

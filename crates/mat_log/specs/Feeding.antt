@@ -51,8 +51,8 @@ abbrev pub is_redone_with : LogValue → List Entry → ℕ → ℤ → Bool
 is_redone_with log entries snap b = is_dirty_with log entries b || is_refreshed_after log snap b
 
 -- an entry as what it notes
-abbrev pub noted : Entry → Noted
-noted e = record { hull = e.hull; at = e.pos }
+abbrev pub note_of : Entry → Noted
+note_of e = record { hull = e.hull; at = e.pos }
 
 -- the positions of the entries rise from n on
 abbrev pub are_rising : ℕ → List Entry → Bool

@@ -37,10 +37,10 @@ abbrev pub longer : Piece → Piece → Piece
 longer p q = record { span = record { lo = p.span.lo; hi = q.span.hi }; pos = p.pos }
 
 -- a piece and those after it, where those that go on with one another are one
-abbrev pub merged : Piece → List Piece → List Piece
-merged p [] = p ∷ []
-merged p (q ∷ qs) = cond (goes_on p q) (merged (longer p q) qs) (p ∷ merged q qs)
+abbrev pub pieces_merged : Piece → List Piece → List Piece
+pieces_merged p [] = p ∷ []
+pieces_merged p (q ∷ qs) = cond (goes_on p q) (pieces_merged (longer p q) qs) (p ∷ pieces_merged q qs)
 
 abbrev pub all_merged : List Piece → List Piece
 all_merged [] = []
-all_merged (p ∷ ps) = merged p ps
+all_merged (p ∷ ps) = pieces_merged p ps

@@ -1,5 +1,5 @@
 pub mod Logs
-pub mod Joined
+pub mod JoinedRanges
 pub mod Feeding
 pub mod Touching
 pub mod Lasts

@@ -4,7 +4,7 @@ ghost use Rattle.std.specs.Prelude.{◌≡◌, ◌++◌, ◌∷◌, ℤ, List, I
 ghost use Rattle.span_map.specs.declared.pieces.Piece.{Piece as PieceValue};
 ghost use Rattle.span_map.specs.Maps.{at};
 ghost use Rattle.span_map.specs.Pieces.{ArePieces, piece_at};
-ghost use Rattle.mat_log.specs.Lasts.{all_merged, goes_on, longer, merged};
+ghost use Rattle.mat_log.specs.Lasts.{all_merged, goes_on, longer, pieces_merged};
 
 use span_map::{Piece, SpanMap};
 use std::alloc::Global;
@@ -25,7 +25,7 @@ pub(crate) fn of_pieces(alloc: Global, pieces: &[Piece]) -> Result<SpanMap, NoMe
 }
 
 /// A piece with the next one at its end, where that begins there with the same position.
-fn joined(piece: &Piece, next: &Piece) -> Option<Piece>
+fn join_pieces(piece: &Piece, next: &Piece) -> Option<Piece>
     ensures { result ≡ cond (goes_on piece.now next.now) (Some (longer piece.now next.now)) None }
 {
     if piece.span.hi == next.span.lo && piece.pos == next.pos {
@@ -42,11 +42,11 @@ fn joined(piece: &Piece, next: &Piece) -> Option<Piece>
 }
 
 /// The last piece after the next one. It is put behind the others where the next doesn't go on with it.
-fn taken(pieces: &mut Vec<Piece>, last: &Piece, next: &Piece) -> Result<Piece, NoMemory>
+fn push_or_extend(pieces: &mut Vec<Piece>, last: &Piece, next: &Piece) -> Result<Piece, NoMemory>
     ensures { IfOk result (λ now. (rest : List PieceValue) →
-        pieces.new.items ++ merged now rest ≡ pieces.old.items ++ merged last.now (next.now ∷ rest)) }
+        pieces.new.items ++ pieces_merged now rest ≡ pieces.old.items ++ pieces_merged last.now (next.now ∷ rest)) }
 {
-    match joined(last, next) {
+    match join_pieces(last, next) {
         Some(piece) => Ok(piece),
         None => {
             pieces.push(*last)?;
@@ -56,13 +56,13 @@ fn taken(pieces: &mut Vec<Piece>, last: &Piece, next: &Piece) -> Result<Piece, N
 }
 
 /// A piece and those after it, where those that go on with one another are one.
-fn merged(alloc: Global, first: Piece, rest: &[Piece]) -> Result<Seq<Piece>, NoMemory>
-    ensures { IfOk result (λ pieces. pieces ≡ merged first rest.now) }
+fn merge_all(alloc: Global, first: Piece, rest: &[Piece]) -> Result<Seq<Piece>, NoMemory>
+    ensures { IfOk result (λ pieces. pieces ≡ pieces_merged first rest.now) }
 {
     let mut pieces = Vec::new(alloc);
     let mut last = first;
     for next in rest {
-        last = taken(&mut pieces, &last, next)?;
+        last = push_or_extend(&mut pieces, &last, next)?;
     }
     pieces.push(last)?;
     Ok(Seq::of(pieces))
@@ -74,6 +74,6 @@ pub(crate) fn merge_pieces(alloc: Global, pieces: &[Piece]) -> Result<Seq<Piece>
 {
     match pieces {
         [] => Ok(Seq::new(alloc)),
-        [first, rest @ ..] => merged(alloc, *first, rest),
+        [first, rest @ ..] => merge_all(alloc, *first, rest),
     }
 }

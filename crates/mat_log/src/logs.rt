@@ -19,14 +19,14 @@ ghost use Rattle.span_map.specs.declared.pieces.Piece.{Piece as PieceValue};
 
 use crate::lasts::{merge_pieces, of_pieces};
 use crate::ranges::join_pieces;
-use crate::spans::{buckets_below, marked};
+use crate::spans::{buckets_below, position_map};
 use crate::touches::{all_entries, do_rise, entries_near, latest};
 use block_list::BlockList;
 use inval_log::Entry;
 use span_map::{Piece, Rule, SharedMap, SpanMap};
 use std::alloc::Global;
 use std::marker::Model;
-use ts_bucket::{Span, Width, all_buckets, touched};
+use ts_bucket::{Span, Width, all_buckets, span_touched};
 use ts_schema::{NoMemory, Seq};
 
 /// An entry that is fed by itself costs about as much as so many edges in a sweep over all.
@@ -75,7 +75,7 @@ impl MatLog {
 
     /// The log of an aggregate whose last refreshes are `lasts`, pieces of whole buckets, which rise. Each bucket of
     /// the ranges `dirty` is pending at `pos`, and each other bucket that was never refreshed is pending at 0.
-    pub fn resumed(
+    pub fn from_lasts(
         alloc: Global,
         w: Width,
         lasts: &[Piece],
@@ -92,9 +92,9 @@ impl MatLog {
         ensures refreshed { IfOk result (λ log. (b : ℤ) → last_at log b ≡ piece_at lasts.now b) }
     {
         let refreshed = of_pieces(alloc, lasts)?;
-        let all = marked(alloc, &[all_buckets(w)], 0)?;
-        let never = refreshed.combined(&all, Rule::Above)?;
-        let pending = never.combined(&marked(alloc, dirty, pos)?, Rule::Over)?;
+        let all = position_map(alloc, &[all_buckets(w)], 0)?;
+        let never = refreshed.combine(&all, Rule::Above)?;
+        let pending = never.combine(&position_map(alloc, dirty, pos)?, Rule::Over)?;
         Ok(MatLog {
             alloc,
             width: w,
@@ -117,14 +117,14 @@ impl MatLog {
 
     /// The log after an entry: the buckets that its hull meets are pending at its position, where they
     /// weren't refreshed at or after it. It costs the pieces there.
-    fn fed(&self, entry: &Entry) -> Result<MatLog, NoMemory>
+    fn with_entry(&self, entry: &Entry) -> Result<MatLog, NoMemory>
         requires within { IsWithin self.now.width entry.now.hull }
         ensures width { IfOk result (λ new. new.width ≡ self.now.width) }
         ensures pending { IfOk result (λ new. (b : ℤ) → is_bucket self.now.width b ≡ true →
             pending_at new b ≡ pending_with self.now (entry.now ∷ []) b) }
         ensures refreshed { IfOk result (λ new. (b : ℤ) → last_at new b ≡ last_at self.now b) }
     {
-        let span = touched(self.width, entry.hull);
+        let span = span_touched(self.width, entry.hull);
         Ok(MatLog {
             alloc: self.alloc,
             width: self.width,
@@ -138,7 +138,7 @@ impl MatLog {
     /// The log after a refresh of a span of whole buckets whose snapshot was taken at this position was
     /// settled: what was pending up to it is gone, and the last refresh is raised to it. It costs the
     /// pieces in the span, and shares those elsewhere.
-    pub fn settled(&self, span: Span, snap: u64) -> Result<MatLog, NoMemory>
+    pub fn with_refresh(&self, span: Span, snap: u64) -> Result<MatLog, NoMemory>
         requires whole { IsWholeSpan self.now.width span }
         ensures width { IfOk result (λ new. new.width ≡ self.now.width) }
         ensures pending { IfOk result (λ new.
@@ -150,7 +150,7 @@ impl MatLog {
             alloc: self.alloc,
             width: self.width,
             pending: self.pending.cleared_upto(span, snap)?,
-            refreshed: self.refreshed.raised(span, snap)?,
+            refreshed: self.refreshed.with_raised(span, snap)?,
         })
     }
 
@@ -219,8 +219,8 @@ impl MatLog {
         ensures fed { IfOk result (IsFed entries.now self.now) }
     {
         let newest = latest(self.alloc, self.width, entries)?;
-        let fresh = self.refreshed.own()?.combined(&newest, Rule::Above)?;
-        let pending = self.pending.own()?.combined(&fresh, Rule::Over)?;
+        let fresh = self.refreshed.own()?.combine(&newest, Rule::Above)?;
+        let pending = self.pending.own()?.combine(&fresh, Rule::Over)?;
         Ok(MatLog {
             alloc: self.alloc,
             width: self.width,
@@ -236,7 +236,7 @@ impl MatLog {
     {
         let mut fed = self.copy()?;
         for entry in entries {
-            fed = fed.fed(entry)?;
+            fed = fed.with_entry(entry)?;
         }
         Ok(fed)
     }
@@ -250,8 +250,8 @@ impl MatLog {
     {
         let near = entries_near(entries, span)?;
         let newest = latest(self.alloc, self.width, &near)?.within(span)?;
-        let fresh = self.refreshed.within(span)?.combined(&newest, Rule::Above)?;
-        self.pending.within(span)?.combined(&fresh, Rule::Over)
+        let fresh = self.refreshed.within(span)?.combine(&newest, Rule::Above)?;
+        self.pending.within(span)?.combine(&fresh, Rule::Over)
     }
 
     /// `dirty`, as if the entries had been fed to the log. It costs the entries, the pieces in the
@@ -298,14 +298,14 @@ impl MatLog {
         let _width = self.width;
         let pending = self.pending_near(entries, span)?;
         let refreshed = self.refreshed.within(span)?;
-        let changed = refreshed.combined(&pending, Rule::Where)?;
+        let changed = refreshed.combine(&pending, Rule::Where)?;
         join_pieces(changed.ranges(span)?)
     }
 
     /// Of these ranges of whole buckets the buckets in a span of whole buckets whose last refresh isn't
     /// above a snapshot, also those with none, as ranges that are as long as can be: a refresh of the
     /// span that makes the ranges anew with this snapshot renews them.
-    pub fn renewed(&self, span: Span, ranges: &[Span], snap: u64) -> Result<Seq<Span>, NoMemory>
+    pub fn to_renew(&self, span: Span, ranges: &[Span], snap: u64) -> Result<Seq<Span>, NoMemory>
         requires whole { IsWholeSpan self.now.width span }
         requires ranges { AllByRecursion (IsWholeRange self.now.width) ranges.now }
         ensures ranges { IfOk result (AreRanges self.now.width span (λ b.
@@ -313,9 +313,9 @@ impl MatLog {
     {
         // Reading the width tells that the two maps are in step.
         let _width = self.width;
-        let all = marked(self.alloc, ranges, snap)?;
+        let all = position_map(self.alloc, ranges, snap)?;
         let refreshed = self.refreshed.within(span)?;
-        let renewed = refreshed.combined(&all, Rule::NotBelow)?;
+        let renewed = refreshed.combine(&all, Rule::NotBelow)?;
         join_pieces(renewed.ranges(span)?)
     }
 
@@ -340,7 +340,7 @@ impl MatLog {
         let mut refreshed = self.refreshed.within(span)?;
         refreshed.reserve(2)?;
         refreshed.clear_upto(span, snap);
-        let redone = pending.combined(&refreshed, Rule::Over)?;
+        let redone = pending.combine(&refreshed, Rule::Over)?;
         join_pieces(redone.ranges(span)?)
     }
 }

@@ -2,7 +2,7 @@
 
 ghost use Rattle.std.specs.Prelude.{◌≡◌, ◌++◌, IfOk};
 ghost use Rattle.std.specs.Ordering.{int_eq};
-ghost use Rattle.mat_log.specs.Joined.{open_after, closed_by, still_open, joined};
+ghost use Rattle.mat_log.specs.JoinedRanges.{open_after, closed_by, still_open, ranges_joined};
 
 use span_map::Piece;
 use std::alloc::Global;
@@ -14,13 +14,13 @@ fn open_range(range: &Option<Span>, next: Span) -> Span
     ensures { result ≡ open_after range.now next }
 {
     match range {
-        Some(range) => extended(*range, next),
+        Some(range) => extend_range(*range, next),
         None => next,
     }
 }
 
 /// The open range with the next one at its end, or else the next one.
-fn extended(range: Span, next: Span) -> Span
+fn extend_range(range: Span, next: Span) -> Span
     ensures { result ≡ open_after (Some range) next }
 {
     if range.hi == next.lo {
@@ -65,7 +65,7 @@ fn close(ranges: &mut Vec<Span>, range: Option<Span>) -> Result<(), NoMemory>
 
 /// The ranges that pieces make together.
 fn joined_ranges(alloc: Global, pieces: &[Piece]) -> Result<Seq<Span>, NoMemory>
-    ensures { IfOk result (λ ranges. ranges ≡ joined None pieces.now) }
+    ensures { IfOk result (λ ranges. ranges ≡ ranges_joined None pieces.now) }
 {
     let mut ranges = Vec::new(alloc);
     let mut range = None;
@@ -80,7 +80,7 @@ fn joined_ranges(alloc: Global, pieces: &[Piece]) -> Result<Seq<Span>, NoMemory>
 
 /// The same of a list of pieces, in its allocator.
 pub(crate) fn join_pieces(pieces: Seq<Piece>) -> Result<Seq<Span>, NoMemory>
-    ensures { IfOk result (λ ranges. ranges ≡ joined None pieces) }
+    ensures { IfOk result (λ ranges. ranges ≡ ranges_joined None pieces) }
 {
     let pieces = pieces.into_items();
     joined_ranges(*pieces.allocator(), &pieces)

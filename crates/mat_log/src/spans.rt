@@ -41,7 +41,7 @@ pub(crate) fn buckets_below(w: Width, starts: Span, mark: Option<i64>) -> Span
 }
 
 /// The map with this position at each number of the spans, and nothing elsewhere.
-pub(crate) fn marked(alloc: Global, spans: &[Span], pos: u64) -> Result<SpanMap, NoMemory>
+pub(crate) fn position_map(alloc: Global, spans: &[Span], pos: u64) -> Result<SpanMap, NoMemory>
     ensures { IfOk result (λ map. (t : ℤ) → at map t ≡ cond (lies_in spans.now t) (Some pos) None) }
 {
     let mut map = SpanMap::new(alloc);

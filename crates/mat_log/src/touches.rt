@@ -12,7 +12,7 @@ use block_list::BlockList;
 use inval_log::Entry;
 use span_map::{Rule, SpanMap};
 use std::alloc::Global;
-use ts_bucket::{Span, Width, meets, touched};
+use ts_bucket::{Span, Width, meets, span_touched};
 use ts_schema::NoMemory;
 
 /// So many entries are put into a map one after another; of more, the two halves are combined.
@@ -64,7 +64,7 @@ fn touches_in_turn(alloc: Global, w: Width, entries: &[Entry]) -> Result<SpanMap
     for entry in entries {
         let room = touches.len() + 3;
         touches.reserve(room)?;
-        touches.raise(touched(w, entry.hull), entry.pos);
+        touches.raise(span_touched(w, entry.hull), entry.pos);
     }
     Ok(touches)
 }
@@ -80,5 +80,5 @@ pub(crate) fn latest(alloc: Global, w: Width, entries: &[Entry]) -> Result<SpanM
     let (first, second) = entries.split_at(entries.len() / 2);
     let first = latest(alloc, w, first)?;
     let second = latest(alloc, w, second)?;
-    first.combined(&second, Rule::Later)
+    first.combine(&second, Rule::Later)
 }

@@ -14,7 +14,7 @@ use Rattle.ts_bucket.proofs.SpanLaws.{in_span-ends}
 use Rattle.ts_schema.specs.Rows.{values_cmp}
 use Rattle.partial_agg.specs.declared.groups.Group.{Group}
 use Rattle.partial_agg.specs.Groups.{group_cmp, AreInOrder}
-use Rattle.mat_rows.specs.Replacing.{PartsAt, SpansRise, AreSpans, below, from_on, within, of_bucket, replaced}
+use Rattle.mat_rows.specs.Replacing.{PartsAt, SpansRise, AreSpans, below, from_on, within, of_bucket, groups_replaced}
 use Rattle.mat_rows.proofs.PlaceLaws.{order_below, order_from, order_within, parts_up, before_parts, after_parts}
 use Rattle.ts_schema.proofs.Cases.{all_weaker, all_passed}
 
@@ -68,13 +68,13 @@ rise_rest s [] r = tt
 rise_rest s (t ∷ ss) r = r.1
 
 -- at each bucket the groups are the new ones where it lies in a span, and else the old ones
-pub of_bucket-replaced : (b : ℤ) (ss : List SpanValue) (new old : List Group) → AreSpans ss → SpansRise ss → of_bucket b (replaced ss new old) ≡ cond (lies_in ss b) (of_bucket b new) (of_bucket b old)
+pub of_bucket-replaced : (b : ℤ) (ss : List SpanValue) (new old : List Group) → AreSpans ss → SpansRise ss → of_bucket b (groups_replaced ss new old) ≡ cond (lies_in ss b) (of_bucket b new) (of_bucket b old)
 of_bucket-replaced b [] new old a r = refl
 of_bucket-replaced b (s ∷ ss) new old a r =
-    filter-append (λ g. int_eq g.start b) (below s.lo old) (within s new ++ replaced ss new (from_on s.hi old))
-    ∙ ap (λ xs. of_bucket b (below s.lo old) ++ xs) (filter-append (λ g. int_eq g.start b) (within s new) (replaced ss new (from_on s.hi old)))
-    ∙ ap (λ xs. xs ++ (of_bucket b (within s new) ++ of_bucket b (replaced ss new (from_on s.hi old)))) (bucket_of_filter (λ x. int_lt x s.lo) b old)
-    ∙ ap (λ xs. cond (int_lt b s.lo) (of_bucket b old) [] ++ (xs ++ of_bucket b (replaced ss new (from_on s.hi old)))) (bucket_of_filter (in_span s) b new)
+    filter-append (λ g. int_eq g.start b) (below s.lo old) (within s new ++ groups_replaced ss new (from_on s.hi old))
+    ∙ ap (λ xs. of_bucket b (below s.lo old) ++ xs) (filter-append (λ g. int_eq g.start b) (within s new) (groups_replaced ss new (from_on s.hi old)))
+    ∙ ap (λ xs. xs ++ (of_bucket b (within s new) ++ of_bucket b (groups_replaced ss new (from_on s.hi old)))) (bucket_of_filter (λ x. int_lt x s.lo) b old)
+    ∙ ap (λ xs. cond (int_lt b s.lo) (of_bucket b old) [] ++ (xs ++ of_bucket b (groups_replaced ss new (from_on s.hi old)))) (bucket_of_filter (in_span s) b new)
     ∙ ap (λ xs. cond (int_lt b s.lo) (of_bucket b old) [] ++ (cond (in_span s b) (of_bucket b new) [] ++ xs)) (of_bucket-replaced b ss new (from_on s.hi old) a.1 (rise_rest s ss r))
     ∙ ap (λ xs. cond (int_lt b s.lo) (of_bucket b old) [] ++ (cond (in_span s b) (of_bucket b new) [] ++ cond (lies_in ss b) (of_bucket b new) xs)) (bucket_of_filter (λ x. int_le s.hi x) b old)
     ∙ by_place
@@ -138,7 +138,7 @@ all_kept p P [] h = tt
 all_kept p P (g ∷ gs) h = filter_step P g (filter p gs) (p g) (λ e. h.0) (all_kept p P gs h.1)
 
 -- what holds of the new groups and of the old ones holds of all
-pub all_replaced : (P : Group → Type 0) (ss : List SpanValue) (new old : List Group) → AllByRecursion P new → AllByRecursion P old → AllByRecursion P (replaced ss new old)
+pub all_replaced : (P : Group → Type 0) (ss : List SpanValue) (new old : List Group) → AllByRecursion P new → AllByRecursion P old → AllByRecursion P (groups_replaced ss new old)
 all_replaced P [] new old p q = q
 all_replaced P (s ∷ ss) new old p q =
     all_append P (below s.lo old) _ (all_kept (λ g. int_lt g.start s.lo) P old q)
@@ -153,7 +153,7 @@ order_join x (g ∷ gs) hs p q a b =
     (all_append (λ h. group_cmp g h ≡ Less) gs hs p.0 (all_weaker (λ h. x ≤ℤ h.start) (λ h. group_cmp g h ≡ Less) (λ h le. less_by_start g h (omega (arith, ints))) hs b), order_join x gs hs p.1 q a.1 b)
 
 -- all start from x on, where the old ones do, and the spans are above it
-from_replaced : (x : ℤ) (ss : List SpanValue) (new old : List Group) → AreSpans ss → AllByRecursion (λ (t : SpanValue). x ≤ℤ t.lo) ss → AllByRecursion (λ g. x ≤ℤ g.start) old → AllByRecursion (λ g. x ≤ℤ g.start) (replaced ss new old)
+from_replaced : (x : ℤ) (ss : List SpanValue) (new old : List Group) → AreSpans ss → AllByRecursion (λ (t : SpanValue). x ≤ℤ t.lo) ss → AllByRecursion (λ g. x ≤ℤ g.start) old → AllByRecursion (λ g. x ≤ℤ g.start) (groups_replaced ss new old)
 from_replaced x [] new old a h o = o
 from_replaced x (s ∷ ss) new old a h o =
     let low : x ≤ℤ s.lo = h.0 in
@@ -162,11 +162,11 @@ from_replaced x (s ∷ ss) new old a h o =
     (from_replaced x ss new (from_on s.hi old) a.1 h.1 (all_kept (λ g. int_le s.hi g.start) (λ g. x ≤ℤ g.start) old o)))
 
 -- the groups of both are in order
-pub order_replaced : (ss : List SpanValue) (new old : List Group) → AreSpans ss → SpansRise ss → AreInOrder new → AreInOrder old → AreInOrder (replaced ss new old)
+pub order_replaced : (ss : List SpanValue) (new old : List Group) → AreSpans ss → SpansRise ss → AreInOrder new → AreInOrder old → AreInOrder (groups_replaced ss new old)
 order_replaced [] new old a r n o = o
 order_replaced (s ∷ ss) new old a r n o =
     let size : s.lo ≤ℤ s.hi = a.0 in
-    let rest = replaced ss new (from_on s.hi old) in
+    let rest = groups_replaced ss new (from_on s.hi old) in
     let after : AllByRecursion (λ g. s.hi ≤ℤ g.start) rest = from_replaced s.hi ss new (from_on s.hi old) a.1 (later_of s ss a r) (all_filter (λ g. int_le s.hi g.start) (λ g. s.hi ≤ℤ g.start) (λ g e. grind (arith, ints)) old) in
     let inside : AllByRecursion (λ g. s.lo ≤ℤ g.start) (within s new) = all_filter (λ g. in_span s g.start) (λ g. s.lo ≤ℤ g.start) (λ g e. (in_span-ends s g.start e).0) new in
     order_join s.lo (below s.lo old) (within s new ++ rest) (order_below s.lo old o)
@@ -187,13 +187,13 @@ pub record IsReplacing (wanted new old made : List Group) (at : ℕ) (ss : List 
   pub ahead : IsAhead old at ss
   pub sizes : AreSpans ss
   pub rising : SpansRise ss
-  pub done : made ++ replaced ss new (drop at old) ≡ wanted
+  pub done : made ++ groups_replaced ss new (drop at old) ≡ wanted
 
 zero_ahead : (old : List Group) (ss : List SpanValue) → IsAhead old 0 ss
 zero_ahead old [] = tt
 zero_ahead old (s ∷ ss) = λ start l p. omega arith
 
-pub replacing_start : (new old : List Group) (ss : List SpanValue) → AreSpans ss → SpansRise ss → IsReplacing (replaced ss new old) new old [] 0 ss
+pub replacing_start : (new old : List Group) (ss : List SpanValue) → AreSpans ss → SpansRise ss → IsReplacing (groups_replaced ss new old) new old [] 0 ss
 replacing_start new old ss a r = record { bound = omega arith; ahead = zero_ahead old ss; sizes = a; rising = r; done = refl }
 
 next_ahead : (old : List Group) (s : SpanValue) (ss : List SpanValue) (end : ℕ) → end ≤ length old → PartsAt s.hi old end → SpansRise (s ∷ ss) → IsAhead old end ss
@@ -206,15 +206,15 @@ replacing_step wanted new old made at s ss start end made' l p m q e h =
     let size : s.lo ≤ℤ s.hi = h.sizes.0 in
     let before : at ≤ start = h.ahead start l p in
     let after : start ≤ end = parts_up old s.lo s.hi start end size l m p q in
-    let rest = replaced ss new (from_on s.hi (drop at old)) in
+    let rest = groups_replaced ss new (from_on s.hi (drop at old)) in
     record {
       bound = m;
       ahead = next_ahead old s ss end m q h.rising;
       sizes = h.sizes.1;
       rising = rise_rest s ss h.rising;
       done =
-          ap (λ xs. xs ++ replaced ss new (drop end old)) e
-          ∙ ap (λ xs. ((made ++ take (start - at) (drop at old)) ++ within s new) ++ replaced ss new xs) (after_parts old s.hi at end (omega arith) m q)
+          ap (λ xs. xs ++ groups_replaced ss new (drop end old)) e
+          ∙ ap (λ xs. ((made ++ take (start - at) (drop at old)) ++ within s new) ++ groups_replaced ss new xs) (after_parts old s.hi at end (omega arith) m q)
           ∙ ap (λ xs. ((made ++ xs) ++ within s new) ++ rest) (before_parts old s.lo at start before l p)
           ∙ append_assoc (made ++ below s.lo (drop at old)) (within s new) rest
           ∙ append_assoc made (below s.lo (drop at old)) (within s new ++ rest)
@@ -247,5 +247,5 @@ tested test [] h = refl
 tested test (g ∷ gs) h = ap (λ b. b && list_all test gs) h.0 ∙ tested test gs h.1
 
 -- the same of a test
-pub list_all-replaced : (test : Group → Bool) (ss : List SpanValue) (new old : List Group) → list_all test new ≡ true → list_all test old ≡ true → list_all test (replaced ss new old) ≡ true
-list_all-replaced test ss new old p q = tested test (replaced ss new old) (all_replaced (λ g. test g ≡ true) ss new old (all_passed test new p) (all_passed test old q))
+pub list_all-replaced : (test : Group → Bool) (ss : List SpanValue) (new old : List Group) → list_all test new ≡ true → list_all test old ≡ true → list_all test (groups_replaced ss new old) ≡ true
+list_all-replaced test ss new old p q = tested test (groups_replaced ss new old) (all_replaced (λ g. test g ≡ true) ss new old (all_passed test new p) (all_passed test old q))

@@ -26,9 +26,9 @@ abbrev pub of_bucket : ℤ → List Group → List Group
 of_bucket b groups = filter (λ g. int_eq g.start b) groups
 
 -- the old groups, where the new ones are in place of those that start in one of the spans
-abbrev pub replaced : List SpanValue → List Group → List Group → List Group
-replaced [] new old = old
-replaced (s ∷ ss) new old = below s.lo old ++ (within s new ++ replaced ss new (from_on s.hi old))
+abbrev pub groups_replaced : List SpanValue → List Group → List Group → List Group
+groups_replaced [] new old = old
+groups_replaced (s ∷ ss) new old = below s.lo old ++ (within s new ++ groups_replaced ss new (from_on s.hi old))
 
 -- each bucket has its new groups where it starts in one of the spans, and its old ones elsewhere
 abbrev pub BucketsAreOfBoth : List SpanValue → List Group → List Group → List Group → Type 0

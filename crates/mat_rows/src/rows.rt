@@ -3,7 +3,7 @@
 ghost use Rattle.std.specs.Prelude.{◌≡◌, ◌==◌, [], length, IfOk};
 ghost use Rattle.mat_rows.specs.Replacing.{AreSpans, BucketsAreOfBoth, PassAsBoth, SpansRise};
 ghost use Rattle.partial_agg.specs.Groups.{AreInOrder};
-ghost use Rattle.mat_rows.specs.Replacing.{replaced, within};
+ghost use Rattle.mat_rows.specs.Replacing.{groups_replaced, within};
 
 use crate::making::{in_blocks, keep, keep_within};
 use crate::search::places;
@@ -97,7 +97,7 @@ impl MatRows {
     pub fn replace(&self, spans: &Seq<Span>, groups: &MatRows) -> Result<MatRows, NoMemory>
         requires sizes { AreSpans spans.now }
         requires rising { SpansRise spans.now }
-        ensures groups { IfOk result (λ rows. rows ≡ replaced spans.now groups.now self.now) }
+        ensures groups { IfOk result (λ rows. rows ≡ groups_replaced spans.now groups.now self.now) }
         ensures buckets { IfOk result (BucketsAreOfBoth spans.now groups.now self.now) }
         ensures all { IfOk result (PassAsBoth groups.now self.now) }
     {
@@ -126,7 +126,7 @@ fn replaced_in(
     requires sizes { AreSpans spans.now }
     requires rising { SpansRise spans.now }
     requires order { AreInOrder groups.now.items }
-    ensures { IfOk result (λ made. made.items ≡ replaced spans.now groups.now.items old.now.items) }
+    ensures { IfOk result (λ made. made.items ≡ groups_replaced spans.now groups.now.items old.now.items) }
 {
     let mut made = Builder::new(old.allocator());
     let mut at = 0;

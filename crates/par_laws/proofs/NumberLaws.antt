@@ -3,7 +3,7 @@ use Rattle.std.proofs.Common.{ℕ, suc, ◌≤◌, ◌<◌, List, [], ◌∷◌,
 use Rattle.std.specs.List.{AllByRecursion}
 use Rattle.ts_model.specs.declared.events.Event.{Event}
 use Rattle.ts_model.specs.History.{History, prefix}
-use Rattle.ts_sessions.specs.Gives.{Gives, AreEvents, numbers, printed}
+use Rattle.ts_sessions.specs.Gives.{Gives, AreEvents, numbers, printed_looks}
 use Rattle.ts_sessions.specs.Procedures.{Procedure, sees, adds, ends}
 use Rattle.ts_sessions.specs.Script.{SessionLine}
 use Rattle.ts_sessions.proofs.GivesLaws.{gives_events}
@@ -64,13 +64,13 @@ looks_then : (a b c : ℕ) (ps qs : List ℕ) → NeverFall a ps b → NeverFall
 looks_then a b c [] qs v w = looks_from a b c qs v w
 looks_then a b c (p ∷ ps) qs v w = (v.0, looks_then p b c ps qs v.1 w)
 
-gives_looks : {A : Type 0} (all : History) (stop : Option ℕ) (at : ℕ) (so_far : List (ℕ × Event)) (procedure : Procedure A) (looks : List (Option ℕ)) (last : ℕ) (given : List (ℕ × Event)) (y : A) → Gives all stop at so_far procedure looks last given y → NeverFall at (printed looks) last
+gives_looks : {A : Type 0} (all : History) (stop : Option ℕ) (at : ℕ) (so_far : List (ℕ × Event)) (procedure : Procedure A) (looks : List (Option ℕ)) (last : ℕ) (given : List (ℕ × Event)) (y : A) → Gives all stop at so_far procedure looks last given y → NeverFall at (printed_looks looks) last
 gives_looks all stop at so_far (sees shown f) [] last given y g = absurd g
 gives_looks all stop at so_far (sees shown f) (None ∷ ps) last given y g = gives_looks all stop at so_far (f all) ps last given y g.1
 gives_looks all stop at so_far (sees shown f) (Some p ∷ ps) last given y g = (g.0, gives_looks all stop p so_far (f (prefix all p)) ps last given y g.3)
 gives_looks all stop at so_far (adds e next stop_next) ps last given y (inl g) = gives_looks all stop at so_far stop_next ps last given y g.1
 gives_looks all stop at so_far (adds e next stop_next) ps last given y (inr g) =
-    looks_from at (suc at) last (printed ps) (omega arith) (gives_looks all stop (suc at) (so_far ++ (suc at, e) ∷ []) next ps last given y g.1)
+    looks_from at (suc at) last (printed_looks ps) (omega arith) (gives_looks all stop (suc at) (so_far ++ (suc at, e) ∷ []) next ps last given y g.1)
 gives_looks all stop at so_far (ends a) [] last given y g = let same = g.0 in omega (arith, same)
 gives_looks all stop at so_far (ends a) (p ∷ ps) last given y g = absurd g
 
@@ -98,7 +98,7 @@ module _ {P A : Type 0} (reply : P → List ℕ → ℕ → Procedure A) (next :
   looks_answered all stop at p [] (a ∷ answers) t = absurd t
   looks_answered all stop at p (line ∷ lines) [] t = absurd t
   looks_answered all stop at p (line ∷ lines) (a ∷ answers) t =
-      looks_then at a.last (last_in a.last answers) (printed a.looks) (looks_of answers)
+      looks_then at a.last (last_in a.last answers) (printed_looks a.looks) (looks_of answers)
       (gives_looks all stop at [] (reply p line.text line.skip) a.looks a.last a.given a.end t.0)
       (looks_answered all stop a.last (next a.end) lines answers t.1)
 

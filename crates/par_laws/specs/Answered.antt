@@ -4,7 +4,7 @@ use Rattle.ts_model.specs.declared.events.Event.{Event}
 use Rattle.ts_model.specs.History.{History, position}
 use Rattle.ts_model.specs.States.{State}
 use Rattle.ts_sessions.specs.Procedures.{Procedure}
-use Rattle.ts_sessions.specs.Gives.{Gives, numbers, printed}
+use Rattle.ts_sessions.specs.Gives.{Gives, numbers, printed_looks}
 use Rattle.ts_sessions.specs.Script.{SessionLine}
 
 -- what a line came to: its looks, each with its position where that is printed; its last printed look or event; its
@@ -28,7 +28,7 @@ module _ {A : Type 0} where
   -- the positions of their looks that are printed, in order
   abbrev pub looks_of : List (LineAnswer A) → List ℕ
   looks_of [] = []
-  looks_of (a ∷ answers) = printed a.looks ++ looks_of answers
+  looks_of (a ∷ answers) = printed_looks a.looks ++ looks_of answers
 
   -- the events that they made, each with its number, in order
   abbrev pub given_by : List (LineAnswer A) → List (ℕ × Event)

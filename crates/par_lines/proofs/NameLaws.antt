@@ -20,7 +20,7 @@ use Rattle.ts_model.specs.Limits.{most_sessions}
 use Rattle.stmt_syntax.specs.Limits.{longest_line}
 use Rattle.ts_sessions.specs.Step.{bare}
 use Rattle.par_lines.specs.declared.sessions.SessionLines.{SessionLines}
-use Rattle.par_lines.specs.Sorted.{Sorted, appears_in, refuses, sorted, sorts, sorts_all, sorts_as, sorts_kind, with_line}
+use Rattle.par_lines.specs.Sorted.{Sorted, appears_in, refuses, sorted_lines, sorts, sorts_all, sorts_as, sorts_kind, with_line}
 use Rattle.par_lines.specs.Places.{scripts_of}
 use Rattle.stmt_tokens.proofs.StatementLines.{statement_line}
 use Rattle.par_lines.proofs.Passing.{any_mapped, none_at}
@@ -101,7 +101,7 @@ named_lines : (n : ℕ) (lines : List (List ℕ)) (s : Sorted) → Named s → N
 named_lines n [] s all = all
 named_lines n (line ∷ lines) s all = named_lines (suc n) lines (sorts n line s) (named_line n line s all)
 
-named_input : (input : List ℕ) → Named (sorted input)
+named_input : (input : List ℕ) → Named (sorted_lines input)
 named_input input = named_lines 1 (lines_of input) (record { refusals = []; sessions = [] }) (record { few = omega arith; named = All-nil (λ name. IsTrue (is_name name)); apart = λ i j d l m. absurd (omega arith) })
 
 -- ---- the same of sessions by places
@@ -118,7 +118,7 @@ same_names : (input : List ℕ) (sessions : List SessionLines) → map name_of (
 same_names input [] = refl
 same_names input (x ∷ sessions) = ap (λ l. x.name ∷ l) (same_names input sessions)
 
-pub sessions_named : (input : List ℕ) (sessions : List SessionLines) → scripts_of input sessions ≡ (sorted input).sessions → AreSorted sessions
+pub sessions_named : (input : List ℕ) (sessions : List SessionLines) → scripts_of input sessions ≡ (sorted_lines input).sessions → AreSorted sessions
 sessions_named input sessions same =
     let all : AreNames (map name_in sessions) = subst AreNames (sym (ap (map name_of) same) ∙ same_names input sessions) (named_input input) in
     let long = length-map sessions name_in in

@@ -66,8 +66,8 @@ sorts_all n [] s = s
 sorts_all n (line ∷ lines) s = sorts_all (suc n) lines (sorts n line s)
 
 -- an input's lines, which count from 1
-abbrev pub sorted : List ℕ → Sorted
-sorted input = sorts_all 1 (lines_of input) (record { refusals = []; sessions = [] })
+abbrev pub sorted_lines : List ℕ → Sorted
+sorted_lines input = sorts_all 1 (lines_of input) (record { refusals = []; sessions = [] })
 
 -- ---- who runs when
 

@@ -5,7 +5,7 @@ ghost use Rattle.ts_schema.specs.Names.{is_name};
 ghost use Rattle.ts_io.specs.declared.limits.TheConstants.{INPUT_LIMIT};
 ghost use Rattle.ts_model.specs.Roster.{same_name};
 ghost use Rattle.ts_model.specs.Limits.{most_sessions};
-ghost use Rattle.par_lines.specs.Sorted.{sorts, sorts_as, sorted};
+ghost use Rattle.par_lines.specs.Sorted.{sorts, sorts_as, sorted_lines};
 ghost use Rattle.par_lines.specs.Places.{line_at, sorted_of, AreNumbered, IsLineWithin, IsWithin};
 
 use crate::line_ends::first_line_len;
@@ -32,7 +32,7 @@ pub struct SortedLines {
 /// Sorts the lines of an input by the sessions that they are of.
 pub fn sort_lines(alloc: Global, input: &[u8]) -> Result<SortedLines, NoMemory>
     requires short { length input.now ≤ INPUT_LIMIT }
-    ensures sorted { IfOk result (λ lines. sorted_of input.now lines ≡ sorted input.now) }
+    ensures sorted { IfOk result (λ lines. sorted_of input.now lines ≡ sorted_lines input.now) }
     ensures few { IfOk result (λ lines. length lines.sessions.items ≤ most_sessions) }
     ensures named { IfOk result (λ lines. All (λ session. IsTrue (is_name session.name)) lines.sessions.items) }
     ensures apart { IfOk result (λ lines. AllPairs (λ one other. one.name ≢ other.name) lines.sessions.items) }

@@ -7,7 +7,7 @@ use Rattle.par_workers.specs.Slots.{Slot, workers_of}
 use Rattle.par_lines.specs.declared.sessions.SessionLines.{SessionLines}
 use Rattle.par_lines.specs.declared.sorting.SortedLines.{SortedLines}
 use Rattle.par_lines.specs.Places.{script_of, scripts_of, sorted_of, IsWithin}
-use Rattle.par_lines.specs.Sorted.{sorted}
+use Rattle.par_lines.specs.Sorted.{sorted_lines}
 use Rattle.ts_sessions.specs.Script.{SessionScript}
 use Rattle.par_run.specs.declared.workers.SessionWorker.{SessionWorker}
 use Rattle.par_run.specs.Workers.{worker_script, IsReady}
@@ -48,5 +48,5 @@ one_listed (Some s) sessions same = let one = ap length same in omega arith
 
 -- workers for the sessions of a phase have those of the sorted lines
 pub of_phase : {A G B : Type 0} (named : A → List ℕ) (input : List ℕ) (lines : SortedLines) (phase : List SessionScript → List SessionScript) (sessions listed : List SessionLines) (crew : List (Slot (SessionWorker A G) B))
-    → scripts_in named crew ≡ scripts_of input listed → listed ≡ sessions → scripts_of input sessions ≡ phase (scripts_of input lines.sessions.items) → sorted_of input lines ≡ sorted input → scripts_in named crew ≡ phase (sorted input).sessions
+    → scripts_in named crew ≡ scripts_of input listed → listed ≡ sessions → scripts_of input sessions ≡ phase (scripts_of input lines.sessions.items) → sorted_of input lines ≡ sorted_lines input → scripts_in named crew ≡ phase (sorted_lines input).sessions
 of_phase named input lines phase sessions listed crew have same in_phase sorted_so = have ∙ ap (scripts_of input) same ∙ in_phase ∙ ap (λ s. phase s.sessions) sorted_so

@@ -12,7 +12,7 @@ use Rattle.par_laws.specs.Parallel.{SessionReplies}
 use Rattle.par_run.specs.declared.ends.ParLine.{ParLine}
 use Rattle.par_run.specs.declared.workers.SessionWorker.{SessionWorker}
 use Rattle.par_run.specs.declared.outputs.Output.{Output as OutputMade}
-use Rattle.par_run.specs.Outputs.{Output, Says, all_lines, output_in, refusals_only, spoken, with_session, with_sessions}
+use Rattle.par_run.specs.Outputs.{Output, Says, all_lines, output_in, refusals_only, par_line, with_session, with_sessions}
 use Rattle.par_run.specs.Workers.{ran_out, replies_of}
 
 -- ---- the lines of one session, one after the other
@@ -25,18 +25,18 @@ texts_more exchanges one old now next so_far more =
     ∙ sym (concat-append (map (λ e. e.reply) exchanges) (one.reply ∷ [])) ∙ sym (ap concat (map-append (λ e. e.reply) exchanges (one ∷ []))))
 
 -- the lines, and one more
-pub lines_more : (place : ℕ) (exchanges : List Exchange) (one : Exchange) (old now next : List ParLine) → now ≡ old ++ map (spoken place) exchanges → next ≡ now ++ spoken place one ∷ [] → next ≡ old ++ map (spoken place) (exchanges ++ one ∷ [])
+pub lines_more : (place : ℕ) (exchanges : List Exchange) (one : Exchange) (old now next : List ParLine) → now ≡ old ++ map (par_line place) exchanges → next ≡ now ++ par_line place one ∷ [] → next ≡ old ++ map (par_line place) (exchanges ++ one ∷ [])
 lines_more place exchanges one old now next so_far more =
-    more ∙ ap (λ l. l ++ spoken place one ∷ []) so_far ∙ append_assoc old (map (spoken place) exchanges) (spoken place one ∷ [])
-    ∙ ap (λ l. old ++ l) (sym (map-append (spoken place) exchanges (one ∷ [])))
+    more ∙ ap (λ l. l ++ par_line place one ∷ []) so_far ∙ append_assoc old (map (par_line place) exchanges) (par_line place one ∷ [])
+    ∙ ap (λ l. old ++ l) (sym (map-append (par_line place) exchanges (one ∷ [])))
 
 -- ---- one session
 
 -- what a session said and was replied was appended, where its place is the number of names before it
 pub appended : (replies : SessionReplies) (old new : OutputMade) (place : ℕ) → place ≡ length old.names.items → new.text.items ≡ old.text.items ++ concat (map (λ e. e.reply) replies.exchanges) → new.fault ≡ (old.fault || replies.fault)
-    → new.names.items ≡ old.names.items ++ replies.name ∷ [] → new.lines.items ≡ old.lines.items ++ map (spoken place) replies.exchanges → output_in new ≡ with_session replies (output_in old)
+    → new.names.items ≡ old.names.items ++ replies.name ∷ [] → new.lines.items ≡ old.lines.items ++ map (par_line place) replies.exchanges → output_in new ≡ with_session replies (output_in old)
 appended replies old new place at text fault names lines =
-    let told = lines ∙ ap (λ n. old.lines.items ++ map (spoken n) replies.exchanges) at in
+    let told = lines ∙ ap (λ n. old.lines.items ++ map (par_line n) replies.exchanges) at in
     λ i. record { text = text i; fault = fault i; names = names i; lines = told i }
 
 -- ---- the output of several sessions
@@ -65,7 +65,7 @@ pub names_more : (one : SessionReplies) (out : Output) → length (with_session 
 names_more one out = length_push out.names one.name
 
 -- the replies of lines are those of their exchanges
-replies_stay : (place : ℕ) (exchanges : List Exchange) → map (λ line. line.reply) (map (spoken place) exchanges) ≡ map (λ e. e.reply) exchanges
+replies_stay : (place : ℕ) (exchanges : List Exchange) → map (λ line. line.reply) (map (par_line place) exchanges) ≡ map (λ e. e.reply) exchanges
 replies_stay place [] = refl
 replies_stay place (e ∷ exchanges) = ap (λ l. e.reply ∷ l) (replies_stay place exchanges)
 
@@ -91,7 +91,7 @@ text_more refusals one old so_far =
     let before = map (λ (line : ParLine). line.reply) old.lines in
     let more = map (λ (e : Exchange). e.reply) one.exchanges in
     ap (λ t. t ++ concat more) so_far ∙ append_assoc refusals (concat before) (concat more)
-    ∙ ap (λ t. refusals ++ t) (sym (concat-append before more) ∙ ap (λ l. concat (before ++ l)) (sym (replies_stay place one.exchanges)) ∙ sym (ap concat (map-append (λ line. line.reply) old.lines (map (spoken place) one.exchanges))))
+    ∙ ap (λ t. refusals ++ t) (sym (concat-append before more) ∙ ap (λ l. concat (before ++ l)) (sym (replies_stay place one.exchanges)) ∙ sym (ap concat (map-append (λ line. line.reply) old.lines (map (par_line place) one.exchanges))))
 
 adds : (refusals : List ℕ) (sessions : List SessionReplies) (old : Output) → old.text ≡ refusals ++ concat (map (λ line. line.reply) old.lines) → Adds refusals sessions old (with_sessions sessions old)
 adds refusals [] old so_far = record { text = so_far; fault = or_none old.fault; names = sym (append-nil old.names); lines = sym (append-nil old.lines) }
@@ -103,8 +103,8 @@ adds refusals (s ∷ sessions) old so_far =
       text = rest.text;
       fault = rest.fault ∙ or_both old.fault s.fault (list_any (λ replies. replies.fault) sessions);
       names = rest.names ∙ append_assoc old.names (s.name ∷ []) (map (λ replies. replies.name) sessions);
-      lines = rest.lines ∙ append_assoc old.lines (map (spoken (length old.names)) s.exchanges) (all_lines (length next.names) sessions)
-          ∙ ap (λ n. old.lines ++ (map (spoken (length old.names)) s.exchanges ++ all_lines n sessions)) place;
+      lines = rest.lines ∙ append_assoc old.lines (map (par_line (length old.names)) s.exchanges) (all_lines (length next.names) sessions)
+          ∙ ap (λ n. old.lines ++ (map (par_line (length old.names)) s.exchanges ++ all_lines n sessions)) place;
     }
 
 -- what three crews replied, one after the other, is the output of all

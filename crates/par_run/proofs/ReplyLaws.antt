@@ -21,7 +21,7 @@ use Rattle.par_laws.proofs.SessionSteps.{begun, executed_all, executed_more, wit
 use Rattle.par_lines.specs.declared.sessions.LinePlace.{LinePlace}
 use Rattle.par_lines.specs.Places.{line_at}
 use Rattle.par_run.specs.declared.replies.Replies.{Replies}
-use Rattle.par_run.specs.Replies.{reply_in, said, ExecutesNext, Keeps, KeepsEnd}
+use Rattle.par_run.specs.Replies.{reply_in, replies_said, ExecutesNext, Keeps, KeepsEnd}
 use Rattle.par_run.specs.Workers.{nothing_said}
 
 -- the reply with which a step ended was kept
@@ -37,7 +37,7 @@ answered_kept line (steps.DiskFault r) old new P kept holds = holds
 answered_kept line steps.NoMemory old new P kept holds = absurd kept
 
 -- what was said, with a line and its reply more
-said_more : (line name own : List ℕ) (reply : Reply) (old new : Replies) (before after : ℕ) → own ≡ name → Keeps line reply old new → with_exchange line reply after (said name old before) ≡ said own new after
+said_more : (line name own : List ℕ) (reply : Reply) (old new : Replies) (before after : ℕ) → own ≡ name → Keeps line reply old new → with_exchange line reply after (replies_said name old before) ≡ replies_said own new after
 said_more line name own reply old new before after same kept = λ i. record {
   name = sym same i;
   exchanges = sym kept.exchanges i;
@@ -46,7 +46,7 @@ said_more line name own reply old new before after same kept = λ i. record {
 }
 
 -- nothing was said where nothing was kept
-pub said_nothing : (name : List ℕ) (replies : Replies) (reads : ℕ) → replies.exchanges.items ≡ [] → replies.fault ≡ false → reads ≡ 0 → said name replies reads ≡ nothing_said name
+pub said_nothing : (name : List ℕ) (replies : Replies) (reads : ℕ) → replies.exchanges.items ≡ [] → replies.fault ≡ false → reads ≡ 0 → replies_said name replies reads ≡ nothing_said name
 said_nothing name replies reads none no_fault zero = λ i. record { name = name; exchanges = none i; fault = no_fault i; reads = zero i }
 
 -- ---- where memory ran out
@@ -89,13 +89,13 @@ module _ {P : Type 0} (within : P → Block) (does : P → List ℕ → ℕ → 
   -- a line was executed whose reply was kept
   pub next_executed : (alone : Bool) (name own : List ℕ) (line : SessionLine) (old : State) (p : P) (olds : Replies) (end : StepEnd) (new : State) (q : P) (news : Replies) (before after : ℕ)
       → own ≡ name → HadBegun within p old.history → Stepped alone old (does p line.text line.skip) name end new q before after → KeepsEnd line.text end olds news
-      → ExecutesNext within does first alone name line old p (said name olds before) new q (said own news after)
+      → ExecutesNext within does first alone name line old p (replies_said name olds before) new q (replies_said own news after)
   next_executed alone name own line old p olds (steps.Reply r) new q news before after same fits stepped kept =
       λ lines s so_far. subst (λ replies. SessionExecutedTo within does first alone (record { name = name; lines = lines ++ line ∷ [] }) s replies new q) (said_more line.text name own r olds news before after same kept)
-      (executed_more within does first alone _ name lines s (said name olds before) old p line r new q after so_far fits stepped)
+      (executed_more within does first alone _ name lines s (replies_said name olds before) old p line r new q after so_far fits stepped)
   next_executed alone name own line old p olds (steps.DiskFault r) new q news before after same fits stepped kept =
       λ lines s so_far. subst (λ replies. SessionExecutedTo within does first alone (record { name = name; lines = lines ++ line ∷ [] }) s replies new q) (said_more line.text name own r olds news before after same kept)
-      (executed_more within does first alone _ name lines s (said name olds before) old p line r new q after so_far fits stepped)
+      (executed_more within does first alone _ name lines s (replies_said name olds before) old p line r new q after so_far fits stepped)
   next_executed alone name own line old p olds steps.NoMemory new q news before after same fits stepped kept = absurd kept
 
   -- a session before its first line

@@ -27,8 +27,8 @@ output_of end = record { text = end.text; fault = end.fault; names = end.names; 
 -- ---- one session more
 
 -- a line with its reply, of the session with this place among the names
-abbrev pub spoken : ℕ → Exchange → ParLine
-spoken place exchange = record { session = place; line = exchange.line; reply = exchange.reply }
+abbrev pub par_line : ℕ → Exchange → ParLine
+par_line place exchange = record { session = place; line = exchange.line; reply = exchange.reply }
 
 -- what a session said and was replied comes last
 abbrev pub with_session : SessionReplies → Output → Output
@@ -36,7 +36,7 @@ with_session replies out = record {
   text = out.text ++ concat (map (λ exchange. exchange.reply) replies.exchanges);
   fault = out.fault || replies.fault;
   names = out.names ++ replies.name ∷ [];
-  lines = out.lines ++ map (spoken (length out.names)) replies.exchanges;
+  lines = out.lines ++ map (par_line (length out.names)) replies.exchanges;
 }
 
 -- so does what several did
@@ -53,7 +53,7 @@ refusals_only text = record { text = text; fault = nat_lt 0 (length text); names
 -- the lines of sessions with their replies, in order. The first has this place among the names
 abbrev pub all_lines : ℕ → List SessionReplies → List ParLine
 all_lines place [] = []
-all_lines place (replies ∷ others) = map (spoken place) replies.exchanges ++ all_lines (suc place) others
+all_lines place (replies ∷ others) = map (par_line place) replies.exchanges ++ all_lines (suc place) others
 
 -- sessions that replied so make this output, behind the refusals of lines that no session answers, where so many
 -- stored rows were looked at

@@ -28,8 +28,8 @@ KeepsEnd line (steps.DiskFault r) old new = Keeps line r old new
 KeepsEnd line steps.NoMemory old new = ⊥
 
 -- what the session with a name has said and was replied, where these replies were kept and so many stored rows read
-abbrev pub said : List ℕ → Replies → ℕ → SessionReplies
-said name replies reads = record {
+abbrev pub replies_said : List ℕ → Replies → ℕ → SessionReplies
+replies_said name replies reads = record {
   name = name;
   exchanges = replies.exchanges.items;
   fault = replies.fault;

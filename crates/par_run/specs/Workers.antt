@@ -8,7 +8,7 @@ use Rattle.par_laws.specs.Parallel.{SessionReplies}
 use Rattle.par_lines.specs.Places.{line_at, IsLineWithin}
 use Rattle.par_run.specs.declared.executors.Executor.{Executor}
 use Rattle.par_run.specs.declared.workers.SessionWorker.{SessionWorker}
-use Rattle.par_run.specs.Replies.{said}
+use Rattle.par_run.specs.Replies.{replies_said}
 
 -- the session with a name, before its first line
 abbrev pub nothing_said : List ℕ → SessionReplies
@@ -18,7 +18,7 @@ module _ {A G : Type 0} where
   module _ (named : A → List ℕ) where
     -- what a session has said and was replied so far
     abbrev pub said_by : Executor A G → SessionReplies
-    said_by e = said (named e.actor) e.replies e.steps
+    said_by e = replies_said (named e.actor) e.replies e.steps
 
     -- the session's name, and its lines
     abbrev pub worker_script : SessionWorker A G → SessionScript

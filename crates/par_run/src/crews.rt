@@ -3,7 +3,7 @@ ghost use Rattle.std.specs.Prelude.{◌≡◌, ◌≤◌, All, length, IfOk};
 ghost use Rattle.std.specs.Option.{option_to_list};
 ghost use Rattle.ts_io.specs.declared.limits.TheConstants.{INPUT_LIMIT};
 ghost use Rattle.par_lines.specs.Places.{scripts_of, IsWithin};
-ghost use Rattle.par_lines.specs.Sorted.{sorted};
+ghost use Rattle.par_lines.specs.Sorted.{sorted_lines};
 ghost use Rattle.par_run.specs.Crews.{AreFew, AreOf, AreReady, IsCrew};
 
 use crate::workers::SessionWorker;
@@ -41,14 +41,14 @@ where
     B: Backend,
     G: Gate,
     requires short { length input.now ≤ INPUT_LIMIT }
-    ensures lines { IfOk result (AreOf A.named (sorted input.now)) }
+    ensures lines { IfOk result (AreOf A.named (sorted_lines input.now)) }
     ensures ready { IfOk result (AreReady A.Actor) }
     ensures few { IfOk result AreFew }
 {
     let lines = sort_lines(alloc, input)?;
     let phases = into_phases(lines.sessions);
-    let setup_session = listed(alloc, phases.setup)?;
-    let last_session = listed(alloc, phases.last)?;
+    let setup_session = to_list(alloc, phases.setup)?;
+    let last_session = to_list(alloc, phases.last)?;
     let setup = make_crew(alloc, setup_session, input, gate)?;
     let at_once = make_crew(alloc, phases.at_once, input, gate)?;
     let last = make_crew(alloc, last_session, input, gate)?;
@@ -61,7 +61,7 @@ where
 }
 
 /// The session, if there is one, as a list.
-fn listed(alloc: Global, session: Option<SessionLines>) -> Result<Vec<SessionLines>, NoMemory>
+fn to_list(alloc: Global, session: Option<SessionLines>) -> Result<Vec<SessionLines>, NoMemory>
     ensures { IfOk result (λ sessions. sessions.items ≡ option_to_list session) }
 {
     match session {

@@ -4,7 +4,7 @@ ghost use Rattle.std.specs.List.{concat, list_any};
 ghost use Rattle.ts_schema.specs.Counts.{raised_by};
 ghost use Rattle.par_workers.specs.Slots.{workers_of};
 ghost use Rattle.par_run.specs.Crews.{AreFew};
-ghost use Rattle.par_run.specs.Outputs.{output_in, refusals_only, spoken, with_session, with_sessions};
+ghost use Rattle.par_run.specs.Outputs.{output_in, refusals_only, par_line, with_session, with_sessions};
 ghost use Rattle.par_run.specs.Workers.{ran_out, replies_of};
 
 use crate::crews::{Crew, Crews};
@@ -128,7 +128,7 @@ fn append_exchanges(
     ensures text { OnOk result (text.new.items
         ≡ text.old.items ++ concat (map (λ exchange. exchange.reply) exchanges.items)) }
     ensures lines { OnOk result (lines.new.items
-        ≡ lines.old.items ++ map (spoken place) exchanges.items) }
+        ≡ lines.old.items ++ map (par_line place) exchanges.items) }
 {
     for exchange in exchanges {
         let Exchange { line, reply } = exchange;

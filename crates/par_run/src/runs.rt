@@ -11,7 +11,7 @@ ghost use Rattle.shared_store.specs.Stores.{IsPassOf};
 ghost use Rattle.shared_store.specs.Wrapped.{GoesOn};
 ghost use Rattle.par_workers.specs.Slots.{workers_of};
 ghost use Rattle.par_workers.specs.Outcomes.{Ran};
-ghost use Rattle.par_lines.specs.Sorted.{sorted};
+ghost use Rattle.par_lines.specs.Sorted.{sorted_lines};
 ghost use Rattle.par_run.specs.Crews.{AreFew, AreReady, CrewsRan, CrewsRanAsFar, HaveShares, LinesRan, LinesRanAsFar};
 ghost use Rattle.par_run.specs.Ends.{is_disk_fault, stop_by};
 ghost use Rattle.par_run.specs.Outputs.{output_in, output_of};
@@ -50,9 +50,9 @@ where
     requires going { stands_still (B.state backend) ≡ false }
     requires within { length input.now ≤ INPUT_LIMIT }
     ensures ran { result.stop ≢ ParStop.NoMemory → LinesRan A.replies (A.semantics.opening 0)
-        (B.state backend).history (sorted input.now) (B.state result.backend) (output_of result) result.reads }
+        (B.state backend).history (sorted_lines input.now) (B.state result.backend) (output_of result) result.reads }
     ensures as_far { LinesRanAsFar A.within A.semantics.does (A.semantics.opening 0)
-        (B.state backend).history (sorted input.now) (B.state result.backend) result.reads }
+        (B.state backend).history (sorted_lines input.now) (B.state result.backend) result.reads }
     ensures start { result.start ≡ position (B.state backend).history }
     ensures stop { result.stop ≢ ParStop.NoMemory
         → stands_still (B.state result.backend) ≡ is_disk_fault result.stop }
@@ -62,7 +62,7 @@ where
     let start = backend.position();
     match make_crews::<A, B, G>(alloc, input, gate) {
         Ok(crews) => run_over(rt, alloc, backend, start, crews),
-        Err(NoMemory) => ended(alloc, backend, start, Err(NoMemory), 0),
+        Err(NoMemory) => end_run(alloc, backend, start, Err(NoMemory), 0),
     }
 }
 
@@ -101,7 +101,7 @@ where
     let shares = crews.at_once.len() as u32 + 2;
     match SharedStore::new(alloc, backend, shares) {
         MadeStore::Made { store, pass } => run_crews(rt, alloc, store, pass, start, crews),
-        MadeStore::NoMemory(backend) => ended(alloc, backend, start, Err(NoMemory), 0),
+        MadeStore::NoMemory(backend) => end_run(alloc, backend, start, Err(NoMemory), 0),
     }
 }
 
@@ -148,7 +148,7 @@ where
     let _ = backend.snap();
     let reads = all_reads(&crews);
     A::tells_replies();
-    ended(alloc, backend, start, all_replies(alloc, crews), reads)
+    end_run(alloc, backend, start, all_replies(alloc, crews), reads)
 }
 
 /// Lets the workers of a crew work at once, where there was memory so far.
@@ -186,7 +186,7 @@ where
 }
 
 /// The end of a run that began at a position, and whose workers have replied so.
-fn ended<B: Backend>(
+fn end_run<B: Backend>(
     alloc: Global,
     backend: B,
     start: u64,

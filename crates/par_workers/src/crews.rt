@@ -7,7 +7,7 @@ ghost use Rattle.shared_store.specs.Stores.{IsPassOf, shared_of};
 ghost use Rattle.par_workers.specs.Slots.{AllServed, HasPass, Served, workers_of};
 ghost use Rattle.par_workers.specs.Outcomes.{Ran};
 
-use crate::passes::{collect, hand_out, take_pass};
+use crate::passes::{collect, share_passes, take_pass};
 use crate::slots::Slot;
 use crate::workers::Worker;
 use shared_store::{Pass, SharedStore, StoreLock, desk_at};
@@ -84,7 +84,7 @@ where
     ensures ran { Ran B.state store.now W.did all result (workers_of slots.old) (workers_of slots.new) }
 {
     let mut all = all;
-    hand_out(store, &mut all, slots);
+    share_passes(store, &mut all, slots);
     serve_all(rt, store.lock(), slots);
     collect(store, all, slots)
 }

@@ -10,7 +10,7 @@ use shared_store::{Pass, SharedStore};
 use ts_model::Backend;
 
 // Gives each slot a pass with one share.
-pub(crate) fn hand_out<W, B: Backend>(
+pub(crate) fn share_passes<W, B: Backend>(
     store: &SharedStore<B>,
     all: &mut Pass<B>,
     slots: &mut [Slot<W, B>],
@@ -24,7 +24,7 @@ pub(crate) fn hand_out<W, B: Backend>(
 {
     if let Some((slot, rest)) = slots.split_first_mut() {
         slot.1 = Some(store.split(all, 1));
-        hand_out(store, all, rest);
+        share_passes(store, all, rest);
     }
 }
 

@@ -5,7 +5,7 @@ use Rattle.std.specs.Int.{int_max, int_min}
 use Rattle.std.proofs.lemmas.Int.{ints}
 use Rattle.ts_num.specs.Aggregates.{greater, lesser}
 use Rattle.partial_agg.specs.Ends.{EndsIn, IsEnd, end_of, kept_end}
-use Rattle.partial_agg.specs.Summaries.{Summary, joined, summary}
+use Rattle.partial_agg.specs.Summaries.{Summary, summary_of_both, summary}
 
 pub end_there : (n : ℕ) (v : ℤ) → 0 < n → end_of n v ≡ Some v
 end_there zero v p = absurd (omega (arith, p))
@@ -29,7 +29,7 @@ both_most m n x y p q = record {
 -- a summary with one more value, by its fields
 pub value_joined : (s : Summary) (v l m : ℤ) → Some l ≡ lesser s.least (Some v) → Some m ≡ greater s.most (Some v)
     → record { count = s.count + 1; values = s.values + 1; sum = s.sum +ℤ v; least = end_of (s.values + 1) l; most = end_of (s.values + 1) m }
-    ≡ joined s (summary (Some v ∷ []))
+    ≡ summary_of_both s (summary (Some v ∷ []))
 value_joined s v l m least most =
     rw (end_there (s.values + 1) l (omega arith), end_there (s.values + 1) m (omega arith), least, most, whole s.sum v) refl
   where

@@ -26,8 +26,8 @@ summary column = record {
 }
 
 -- the summary of the rows of both
-abbrev pub joined : Summary → Summary → Summary
-joined a b = record {
+abbrev pub summary_of_both : Summary → Summary → Summary
+summary_of_both a b = record {
   count = a.count + b.count;
   values = a.values + b.values;
   sum = a.sum +ℤ b.sum;
@@ -55,13 +55,13 @@ mean_shown zero sum = Null
 mean_shown (suc n) sum = Ratio (lowest_terms sum (suc n))
 
 -- what an aggregate function shows of the rows that were summed up
-abbrev pub shown : Fun → Summary → Datum
-shown CountAll s = Int (pos s.count)
-shown Count s = Int (pos s.values)
-shown Sum s = sum_shown s.values s.sum
-shown Min s = shown_or_null s.least
-shown Max s = shown_or_null s.most
-shown Avg s = mean_shown s.values s.sum
+abbrev pub datum_of : Fun → Summary → Datum
+datum_of CountAll s = Int (pos s.count)
+datum_of Count s = Int (pos s.values)
+datum_of Sum s = sum_shown s.values s.sum
+datum_of Min s = shown_or_null s.least
+datum_of Max s = shown_or_null s.most
+datum_of Avg s = mean_shown s.values s.sum
 
 -- the whole number that a cell shows, None for NULL and for a mean
 abbrev pub value_of : Datum → Option ℤ

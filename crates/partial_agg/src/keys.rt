@@ -9,11 +9,11 @@ use ts_schema::{NoMemory, Seq};
 /// list. One key alone takes no memory beside the list itself.
 #[derive(Drop, Debug)]
 pub struct Keys {
-    held: Held,
+    held: KeyStorage,
 }
 
 #[derive(Drop, Debug)]
-enum Held {
+enum KeyStorage {
     One(Option<i64>),
     Many(Seq<Option<i64>>),
 }
@@ -34,7 +34,7 @@ impl Keys {
         ensures items { result ≡ key ∷ [] }
     {
         Keys {
-            held: Held::One(key),
+            held: KeyStorage::One(key),
         }
     }
 
@@ -45,7 +45,7 @@ impl Keys {
         match keys.items() {
             [key] => Keys::one(*key),
             _ => Keys {
-                held: Held::Many(keys),
+                held: KeyStorage::Many(keys),
             },
         }
     }
@@ -64,8 +64,8 @@ impl Keys {
         ensures items { result.now ≡ self.now }
     {
         match &self.held {
-            Held::One(key) => std::slice::from_ref(key),
-            Held::Many(keys) => keys.items(),
+            KeyStorage::One(key) => std::slice::from_ref(key),
+            KeyStorage::Many(keys) => keys.items(),
         }
     }
 
@@ -74,9 +74,9 @@ impl Keys {
         ensures same { IfOk result (λ copy. copy ≡ self.now) }
     {
         Ok(match &self.held {
-            Held::One(key) => Keys::one(*key),
-            Held::Many(keys) => Keys {
-                held: Held::Many(keys.copy()?),
+            KeyStorage::One(key) => Keys::one(*key),
+            KeyStorage::Many(keys) => Keys {
+                held: KeyStorage::Many(keys.copy()?),
             },
         })
     }

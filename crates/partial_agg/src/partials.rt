@@ -2,7 +2,7 @@
 ghost use Rattle.std.specs.Prelude.{◌≡◌, ◌+◌, ◌-◌, ◌^◌, ◌<◌, List, [], ◌∷◌, Option, None, Some, ℤ, is_some, nat_lt};
 ghost use Rattle.ts_num.specs.Aggregates.{aggregate, greater, lesser, shown_or_null};
 ghost use Rattle.partial_agg.specs.Ends.{end_of, EndsIn, IsEnd};
-ghost use Rattle.partial_agg.specs.Summaries.{IsBounded, joined, mean_shown, shown, sum_shown, summary, TakesIn, TakesInAll, value_of};
+ghost use Rattle.partial_agg.specs.Summaries.{IsBounded, summary_of_both, mean_shown, datum_of, sum_shown, summary, TakesIn, TakesInAll, value_of};
 
 use std::marker::Model;
 use ts_num::{Datum, Fun, lowest};
@@ -132,7 +132,7 @@ impl Partial {
     #[inline(always)]
     pub fn add(&mut self, v: Option<i64>)
         requires { self.old.count < 2 ^ 62 - 1 }
-        ensures added { self.new ≡ joined self.old (summary (v ∷ [])) }
+        ensures added { self.new ≡ summary_of_both self.old (summary (v ∷ [])) }
         ensures of_column { TakesIn v self.old self.new }
     {
         match v {
@@ -145,7 +145,7 @@ impl Partial {
     #[inline(always)]
     fn add_null(&mut self)
         requires { self.old.count < 2 ^ 62 - 1 }
-        ensures { self.new ≡ joined self.old (summary (None ∷ [])) }
+        ensures { self.new ≡ summary_of_both self.old (summary (None ∷ [])) }
     {
         self.count += 1;
     }
@@ -154,7 +154,7 @@ impl Partial {
     #[inline(always)]
     fn add_value(&mut self, v: i64)
         requires { self.old.count < 2 ^ 62 - 1 }
-        ensures { self.new ≡ joined self.old (summary (Some v ∷ [])) }
+        ensures { self.new ≡ summary_of_both self.old (summary (Some v ∷ [])) }
     {
         let (least, most) = ends_with(self.values, self.least, self.most, v);
         self.count += 1;
@@ -168,7 +168,7 @@ impl Partial {
     #[inline]
     pub fn merge(&mut self, other: &Partial)
         requires { self.old.count + other.now.count < 2 ^ 62 }
-        ensures merged { self.new ≡ joined self.old other.now }
+        ensures merged { self.new ≡ summary_of_both self.old other.now }
         ensures of_columns { TakesInAll other.now self.old self.new }
     {
         let least = least_joined(self.values, self.least, other.values, other.least);
@@ -183,7 +183,7 @@ impl Partial {
     /// What an aggregate function shows of the rows.
     #[inline]
     pub fn finish(&self, fun: Fun) -> Datum
-        ensures shown { result ≡ shown fun self.now }
+        ensures shown { result ≡ datum_of fun self.now }
         ensures of_column { (column : List (Option ℤ)) → self.now ≡ summary column → result ≡ aggregate fun column }
     {
         match fun {
@@ -199,7 +199,7 @@ impl Partial {
     /// The whole number that an aggregate function shows of the rows: none where it shows NULL or a mean.
     #[inline(always)]
     pub fn number(&self, fun: Fun) -> Option<i128>
-        ensures number { result ≡ value_of (shown fun self.now) }
+        ensures number { result ≡ value_of (datum_of fun self.now) }
     {
         match fun {
             Fun::CountAll => Some(i128::from(self.count)),

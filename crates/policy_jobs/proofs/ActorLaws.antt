@@ -21,7 +21,7 @@ use Rattle.ts_catalog.specs.Relations.{found_in}
 use Rattle.stmt_reader.specs.declared.faults.Fault.{Fault}
 use Rattle.stmt_reader.specs.declared.faults.Fault.TheVariants as faults
 use Rattle.stmt_tokens.specs.Streams.{Stream, stream}
-use Rattle.stmt_check.specs.Refusals.{◌⊳◌, hypertable_refusal, marked, refused, view_refusal}
+use Rattle.stmt_check.specs.Refusals.{◌⊳◌, hypertable_refusal, marked_refusal, refusal_if, view_refusal}
 use Rattle.result_text.specs.declared.replies.Said.{Said}
 use Rattle.result_text.specs.declared.replies.Said.TheVariants as said
 use Rattle.ts_sessions.specs.declared.kinds.StatementKind.TheVariants.{Defines}
@@ -45,9 +45,9 @@ use Rattle.policy_jobs.specs.declared.policies.Policy.{Policy}
 use Rattle.policy_jobs.specs.declared.statements.PolicyStmt.{PolicyStmt}
 use Rattle.policy_jobs.specs.declared.statements.PolicyStmt.TheVariants as stmts
 use Rattle.policy_jobs.specs.Adding.{adding_refusal, fits_step, has_offsets, is_interval, most_policies, relation_refusal}
-use Rattle.policy_jobs.specs.Policies.{due, due_texts, ticked}
+use Rattle.policy_jobs.specs.Policies.{due, due_texts, policies_after_tick}
 use Rattle.policy_jobs.specs.Reading.{statement}
-use Rattle.policy_jobs.specs.Turns.{PolicyPlaces, added, adds_policy, and_all, and_then, behind, beside, lets_pass, misses_time, performs, policy_does, reads_as, runs_due, ticks}
+use Rattle.policy_jobs.specs.Turns.{PolicyPlaces, turn_of_adding, adds_policy, and_all, and_then, behind, beside, lets_pass, misses_time, performs, policy_does, reads_as, runs_due, ticks}
 use Rattle.policy_jobs.specs.Words.{begins}
 use Rattle.policy_jobs.proofs.OtherLines.{events_begin_otherwise}
 use Rattle.policy_jobs.proofs.RunLaws.{made_behind, or_false}
@@ -102,7 +102,7 @@ steady_look base f = λ h on. (λ _. tt, λ no. absurd (true≢false no))
 
 -- ---- a policy that is added leaves the places of the actor
 
-added_inner : {P : Type 0} (p : PolicyPlaces P) (at : ℕ) (policy : Policy) (o : Option Refusal) → (added p at policy o).places.inner ≡ p.inner
+added_inner : {P : Type 0} (p : PolicyPlaces P) (at : ℕ) (policy : Policy) (o : Option Refusal) → (turn_of_adding p at policy o).places.inner ≡ p.inner
 added_inner p at policy None = refl
 added_inner p at policy (Some r) = refl
 
@@ -116,7 +116,7 @@ or_not_stop : (a b : Option Refusal) → NotStop a → NotStop b → NotStop (a 
 or_not_stop None b m n = n
 or_not_stop (Some r) b m n = m
 
-marked_not_stop : (at code mark : ℕ) (wrong : Bool) → (code ≡ stopped → ⊥) → NotStop (marked at code mark wrong)
+marked_not_stop : (at code mark : ℕ) (wrong : Bool) → (code ≡ stopped → ⊥) → NotStop (marked_refusal at code mark wrong)
 marked_not_stop at code mark true n = n
 marked_not_stop at code mark false n = tt
 
@@ -139,8 +139,8 @@ relation_not_stop at r (jobs.Drop table after) = hyper_not_stop at (found_in r t
 adding_not_stop : (at : ℕ) (r : Roster) (many : ℕ) (job : Job) (every : ℤ) → NotStop (adding_refusal at r many job every)
 adding_not_stop at r many job every =
     let good = not (has_offsets job && is_interval every && fits_step r job) in
-    or_not_stop (relation_refusal at r job) (refused at bad_policy good ⊳ marked at too_many_policies (suc most_policies) (nat_le most_policies many)) (relation_not_stop at r job)
-    (or_not_stop (refused at bad_policy good) (marked at too_many_policies (suc most_policies) (nat_le most_policies many)) (marked_not_stop at bad_policy 0 good (λ e. omega (arith, e)))
+    or_not_stop (relation_refusal at r job) (refusal_if at bad_policy good ⊳ marked_refusal at too_many_policies (suc most_policies) (nat_le most_policies many)) (relation_not_stop at r job)
+    (or_not_stop (refusal_if at bad_policy good) (marked_refusal at too_many_policies (suc most_policies) (nat_le most_policies many)) (marked_not_stop at bad_policy 0 good (λ e. omega (arith, e)))
     (marked_not_stop at too_many_policies (suc most_policies) (nat_le most_policies many) (λ e. omega (arith, e))))
 
 barred_not_stop : (b : Block) → NotStop (block_refusal b Defines)
@@ -181,7 +181,7 @@ good_look all stop at f good [] last given y g = absurd g
 good_look all stop at f good (None ∷ ps) last given y g = absurd (true≢false g.0)
 good_look all stop at f good (Some p ∷ ps) last given y g = good (prefix all p) p ps last given y g.3
 
-good_added : {P : Type 0} (all : History) (stop : Option ℕ) (at : ℕ) (p : PolicyPlaces P) (pos : ℕ) (policy : Policy) (o : Option Refusal) → NotStop o → AllGood all stop at (ends (added p pos policy o))
+good_added : {P : Type 0} (all : History) (stop : Option ℕ) (at : ℕ) (p : PolicyPlaces P) (pos : ℕ) (policy : Policy) (o : Option Refusal) → NotStop o → AllGood all stop at (ends (turn_of_adding p pos policy o))
 good_added all stop at p pos policy None n = good_line all stop at _ (said.Policy (suc (length p.policies)) pos) tt refl
 good_added all stop at p pos policy (Some r) n = good_line all stop at p (said.Fault r) (λ e. absurd (n e)) refl
 
@@ -235,8 +235,8 @@ module _ {P : Type 0} (within : P → Block) (does reply : P → List ℕ → �
   inner_ticks : (p : PolicyPlaces P) (now : ℤ) → HadBegun within p.inner old.history → InnerBegun (ticks does p now)
   inner_ticks p now begun =
       let line = turns p.inner (said.Tick now (length (due now p.policies))) in
-      elim (is_time now) as (λ t. InnerBegun (cond t (ending_as (beside (ticked now p.policies)) (runs_due does now p.inner p.policies)) (misses_time p))) [
-        | true ↦ inner_beside (ticked now p.policies) (runs_due does now p.inner p.policies) (begun_all (due_texts now p.policies) (ends line) (begun_end line begun))
+      elim (is_time now) as (λ t. InnerBegun (cond t (ending_as (beside (policies_after_tick now p.policies)) (runs_due does now p.inner p.policies)) (misses_time p))) [
+        | true ↦ inner_beside (policies_after_tick now p.policies) (runs_due does now p.inner p.policies) (begun_all (due_texts now p.policies) (ends line) (begun_end line begun))
         | false ↦ inner_look p.inner (λ h. refuses p (refusal bad_time h 0)) (λ h. refl) begun
       ]
 
@@ -244,7 +244,7 @@ module _ {P : Type 0} (within : P → Block) (does reply : P → List ℕ → �
   inner_performs p (stmts.Add job every) begun =
       let policy : Policy = record { job = job; every = every; ran = None } in
       let o : History → Option Refusal = λ h. adding_refusal (position h) (roster h) (length p.policies) job every in
-      inner_look p.inner (λ h. added p (position h) policy (o h)) (λ h. added_inner p (position h) policy (o h)) begun
+      inner_look p.inner (λ h. turn_of_adding p (position h) policy (o h)) (λ h. added_inner p (position h) policy (o h)) begun
   inner_performs p (stmts.Tick now) begun = inner_ticks p now begun
 
   inner_lets : (p : PolicyPlaces P) (stmt : PolicyStmt) (o : Option Refusal) → HadBegun within p.inner old.history → InnerBegun (lets_pass does p stmt o)
@@ -293,14 +293,14 @@ module _ {P : Type 0} (within : P → Block) (does reply : P → List ℕ → �
     told_ticks : (p : PolicyPlaces P) (now : ℤ) → HadBegun within p.inner old.history → Told (ticks does p now) (ticks reply p now)
     told_ticks p now begun =
         let line = turns p.inner (said.Tick now (length (due now p.policies))) in
-        elim (is_time now) as (λ t. Told (cond t (ending_as (beside (ticked now p.policies)) (runs_due does now p.inner p.policies)) (misses_time p)) (cond t (ending_as (beside (ticked now p.policies)) (runs_due reply now p.inner p.policies)) (misses_time p))) [
-          | true ↦ told_as (beside (ticked now p.policies)) (runs_due does now p.inner p.policies) (runs_due reply now p.inner p.policies) (told_all (due_texts now p.policies) (ends line) (ends line) (begun_end line begun) (told_same (ends line) tt))
+        elim (is_time now) as (λ t. Told (cond t (ending_as (beside (policies_after_tick now p.policies)) (runs_due does now p.inner p.policies)) (misses_time p)) (cond t (ending_as (beside (policies_after_tick now p.policies)) (runs_due reply now p.inner p.policies)) (misses_time p))) [
+          | true ↦ told_as (beside (policies_after_tick now p.policies)) (runs_due does now p.inner p.policies) (runs_due reply now p.inner p.policies) (told_all (due_texts now p.policies) (ends line) (ends line) (begun_end line begun) (told_same (ends line) tt))
           | false ↦ told_same (misses_time p) (steady_look old.history (λ h. refuses p (refusal bad_time h 0)))
         ]
 
     told_performs : (p : PolicyPlaces P) (stmt : PolicyStmt) → HadBegun within p.inner old.history → Told (performs does p stmt) (performs reply p stmt)
     told_performs p (stmts.Add job every) begun =
-        told_same (adds_policy p job every) (steady_look old.history (λ h. added p (position h) (record { job = job; every = every; ran = None }) (adding_refusal (position h) (roster h) (length p.policies) job every)))
+        told_same (adds_policy p job every) (steady_look old.history (λ h. turn_of_adding p (position h) (record { job = job; every = every; ran = None }) (adding_refusal (position h) (roster h) (length p.policies) job every)))
     told_performs p (stmts.Tick now) begun = told_ticks p now begun
 
     told_lets : (p : PolicyPlaces P) (stmt : PolicyStmt) (o : Option Refusal) → HadBegun within p.inner old.history → Told (lets_pass does p stmt o) (lets_pass reply p stmt o)
@@ -345,8 +345,8 @@ module _ {P : Type 0} (within : P → Block) (does reply : P → List ℕ → �
   good_ticks : (at : ℕ) (p : PolicyPlaces P) (now : ℤ) → base_position all ≤ at → AllGood all stop at (ticks reply p now)
   good_ticks at p now low =
       let line = said.Tick now (length (due now p.policies)) in
-      elim (is_time now) as (λ t. AllGood all stop at (cond t (ending_as (beside (ticked now p.policies)) (runs_due reply now p.inner p.policies)) (misses_time p))) [
-        | true ↦ good_beside at (ticked now p.policies) (runs_due reply now p.inner p.policies) (good_all at (due_texts now p.policies) (ends (turns p.inner line)) low (good_line all stop at p.inner line tt refl))
+      elim (is_time now) as (λ t. AllGood all stop at (cond t (ending_as (beside (policies_after_tick now p.policies)) (runs_due reply now p.inner p.policies)) (misses_time p))) [
+        | true ↦ good_beside at (policies_after_tick now p.policies) (runs_due reply now p.inner p.policies) (good_all at (due_texts now p.policies) (ends (turns p.inner line)) low (good_line all stop at p.inner line tt refl))
         | false ↦ good_look all stop at (λ h. refuses p (refusal bad_time h 0)) (λ h k. good_line all stop k p (said.Fault (refusal bad_time h 0)) (λ e. absurd (omega (arith, e))) refl)
       ]
 
@@ -354,7 +354,7 @@ module _ {P : Type 0} (within : P → Block) (does reply : P → List ℕ → �
   good_performs at p (stmts.Add job every) low =
       let policy : Policy = record { job = job; every = every; ran = None } in
       let o : History → Option Refusal = λ h. adding_refusal (position h) (roster h) (length p.policies) job every in
-      good_look all stop at (λ h. added p (position h) policy (o h)) (λ h k. good_added all stop k p (position h) policy (o h) (adding_not_stop (position h) (roster h) (length p.policies) job every))
+      good_look all stop at (λ h. turn_of_adding p (position h) policy (o h)) (λ h k. good_added all stop k p (position h) policy (o h) (adding_not_stop (position h) (roster h) (length p.policies) job every))
   good_performs at p (stmts.Tick now) low = good_ticks at p now low
 
   good_lets : (at : ℕ) (p : PolicyPlaces P) (stmt : PolicyStmt) (o : Option Refusal) → NotStop o → base_position all ≤ at → AllGood all stop at (lets_pass reply p stmt o)

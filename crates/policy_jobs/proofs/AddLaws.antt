@@ -7,7 +7,7 @@ use Rattle.ts_model.specs.declared.rosters.Roster.{Roster}
 use Rattle.ts_model.specs.History.{History, position}
 use Rattle.ts_model.specs.Roster.{roster}
 use Rattle.ts_model.specs.States.{State}
-use Rattle.stmt_check.specs.Refusals.{◌⊳◌, marked, refused}
+use Rattle.stmt_check.specs.Refusals.{◌⊳◌, marked_refusal, refusal_if}
 use Rattle.ts_model.specs.Numbers.{bad_policy, too_many_policies}
 use Rattle.result_text.specs.declared.replies.Said.TheVariants as said
 use Rattle.ts_sessions.specs.Procedures.{ends}
@@ -15,8 +15,8 @@ use Rattle.ts_sessions.specs.Sessions.{AnswersSo, IfAnswered, Reports, Stepped}
 use Rattle.ts_sessions.specs.declared.replies.StepEnd.{StepEnd}
 use Rattle.ts_sessions.specs.declared.replies.StepEnd.TheVariants as steps
 use Rattle.policy_jobs.specs.Adding.{AreKept, adding_refusal, fits_step, has_offsets, is_interval, most_policies, relation_refusal}
-use Rattle.policy_jobs.specs.Policies.{ticked}
-use Rattle.policy_jobs.specs.Turns.{PolicyPlaces, added}
+use Rattle.policy_jobs.specs.Policies.{policies_after_tick}
+use Rattle.policy_jobs.specs.Turns.{PolicyPlaces, turn_of_adding}
 use Rattle.policy_jobs.specs.declared.jobs.Job.{Job}
 use Rattle.policy_jobs.specs.declared.policies.Policy.{Policy}
 use Rattle.policy_jobs.proofs.TurnLaws.{line_stepped}
@@ -36,15 +36,15 @@ first_none : (a b : Option Refusal) → (a ⊳ b) ≡ None → a ≡ None
 first_none None b e = refl
 first_none (Some r) b e = absurd cc
 
-not_wrong : (at code : ℕ) (b : Bool) → refused at code (not b) ≡ None → b ≡ true
+not_wrong : (at code : ℕ) (b : Bool) → refusal_if at code (not b) ≡ None → b ≡ true
 not_wrong at code true e = refl
 not_wrong at code false e = absurd cc
 
 -- the numbers of a policy that passed are within bounds
 numbers_passed : (at : ℕ) (r : Roster) (many : ℕ) (job : Job) (every : ℤ) → adding_refusal at r many job every ≡ None → (has_offsets job ≡ true) × (is_interval every ≡ true)
 numbers_passed at r many job every e =
-    let wrong = refused at bad_policy (not (has_offsets job && is_interval every && fits_step r job)) in
-    let full = marked at too_many_policies (suc most_policies) (nat_le most_policies many) in
+    let wrong = refusal_if at bad_policy (not (has_offsets job && is_interval every && fits_step r job)) in
+    let full = marked_refusal at too_many_policies (suc most_policies) (nat_le most_policies many) in
     let passed = first_none wrong full (second_none (relation_refusal at r job) (wrong ⊳ full) e) in
     let good = not_wrong at bad_policy (has_offsets job && is_interval every && fits_step r job) passed in
     and_parts (has_offsets job) (is_interval every) (and_parts (has_offsets job && is_interval every) (fits_step r job) good).0
@@ -61,7 +61,7 @@ pub kept_push : (ps : List Policy) (p : Policy) → AreKept ps → has_offsets p
 kept_push [] p k e = (e, tt)
 kept_push (q ∷ qs) p k e = (k.0, kept_push qs p k.1 e)
 
-pub kept_ticked : (now : ℤ) (ps : List Policy) → AreKept ps → AreKept (ticked now ps)
+pub kept_ticked : (now : ℤ) (ps : List Policy) → AreKept ps → AreKept (policies_after_tick now ps)
 kept_ticked now [] k = tt
 kept_ticked now (p ∷ ps) k = (k.0, kept_ticked now ps k.1)
 
@@ -80,9 +80,9 @@ always steps.NoMemory X x = tt
 -- a policy was added where nothing refuses it
 pub added_stepped : {P : Type 0} (alone : Bool) (s : State) (name : List ℕ) (p q : PolicyPlaces P) (at : ℕ) (policy : Policy) (end : StepEnd) (n : ℕ) → n < 2 ^ 64
     → AnswersSo name (said.Policy (suc (length p.policies)) at ∷ []) false end → IfAnswered end (q ≡ record p { policies = p.policies ++ policy ∷ [] })
-    → Stepped alone s (ends (added p at policy None)) name end s q n n
+    → Stepped alone s (ends (turn_of_adding p at policy None)) name end s q n n
 added_stepped alone s name p q at policy (steps.Reply r) n short a e =
-    subst (λ x. Reports alone false s (ends (added p at policy None)) name r s x n n) (sym e)
+    subst (λ x. Reports alone false s (ends (turn_of_adding p at policy None)) name r s x n n) (sym e)
     (line_stepped alone s name (record p { policies = p.policies ++ policy ∷ [] }) (said.Policy (suc (length p.policies)) at) (steps.Reply r) n short refl a)
 added_stepped alone s name p q at policy (steps.DiskFault r) n short a e = absurd (true≢false (sym a.0))
 added_stepped alone s name p q at policy steps.NoMemory n short a e =

@@ -3,14 +3,14 @@ use Rattle.std.proofs.Common.{◌≡◌, suc, true, false, [], ◌∷◌, ◌++�
 use Rattle.ts_model.specs.History.{History, position, ◌▸◌}
 use Rattle.ts_model.specs.States.{State}
 use Rattle.ts_sessions.specs.Procedures.{Procedure, sees, adds, ends, followed_by}
-use Rattle.ts_sessions.specs.Walks.{Walks, history_after, ending}
+use Rattle.ts_sessions.specs.Walks.{Walks, history_after, end_of_walk}
 
-pub history_then : {A B : Type 0} (d : Procedure A) (f : A → Procedure B) (h : History) → history_after (followed_by d f) h ≡ history_after (f (ending d h)) (history_after d h)
+pub history_then : {A B : Type 0} (d : Procedure A) (f : A → Procedure B) (h : History) → history_after (followed_by d f) h ≡ history_after (f (end_of_walk d h)) (history_after d h)
 history_then (sees shown d) f h = history_then (d h) f h
 history_then (adds e next stop) f h = history_then next f (h ▸ e)
 history_then (ends a) f h = refl
 
-pub ending_then : {A B : Type 0} (d : Procedure A) (f : A → Procedure B) (h : History) → ending (followed_by d f) h ≡ ending (f (ending d h)) (history_after d h)
+pub ending_then : {A B : Type 0} (d : Procedure A) (f : A → Procedure B) (h : History) → end_of_walk (followed_by d f) h ≡ end_of_walk (f (end_of_walk d h)) (history_after d h)
 ending_then (sees shown d) f h = ending_then (d h) f h
 ending_then (adds e next stop) f h = ending_then next f (h ▸ e)
 ending_then (ends a) f h = refl
@@ -18,7 +18,7 @@ ending_then (ends a) f h = refl
 -- a store that is alone and goes on comes to what the procedure comes to
 pub record WalksAlone {A : Type 0} (d : Procedure A) (old : State) : Type 0 where
   pub new : State
-  pub walks : Walks true false old d new (ending d old.history)
+  pub walks : Walks true false old d new (end_of_walk d old.history)
 
 pub walks_alone : {A : Type 0} (d : Procedure A) (old : State) → old.failed ≡ None → WalksAlone d old
 walks_alone (sees shown d) old going =

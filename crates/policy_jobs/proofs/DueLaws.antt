@@ -31,9 +31,9 @@ use Rattle.ts_sessions.specs.Walks.{Walks}
 use Rattle.policy_jobs.specs.Adding.{adding_refusal, is_interval}
 use Rattle.policy_jobs.specs.Grammar as rule
 use Rattle.policy_jobs.specs.Laws.{ArePolicies, DueTextsAreStatements, IsLonger, LinesKeepPolicies, NeverRan, OnlyNewOnesAreDue, SecondTicksAreIdle, relation_in, tick_read}
-use Rattle.policy_jobs.specs.Policies.{due, due_text, is_back, is_due, ticked, ticked_one}
+use Rattle.policy_jobs.specs.Policies.{due, due_text, is_back, is_due, policies_after_tick, ticked_one}
 use Rattle.policy_jobs.specs.Reading.{statement}
-use Rattle.policy_jobs.specs.Turns.{PolicyPlaces, added, and_all, beside, lets_pass, misses_time, performs, policy_does, reads_as, runs_due, ticks}
+use Rattle.policy_jobs.specs.Turns.{PolicyPlaces, turn_of_adding, and_all, beside, lets_pass, misses_time, performs, policy_does, reads_as, runs_due, ticks}
 use Rattle.policy_jobs.specs.Words.{begins, refresh_word, retention_word, tick_word, after_word, end_word, interval_word, start_word}
 use Rattle.policy_jobs.specs.declared.jobs.Job.{Job}
 use Rattle.policy_jobs.specs.declared.jobs.Job.TheVariants as jobs
@@ -65,10 +65,10 @@ ran_then now p i =
       | false ↦ λ e. e
     ] refl
 
-pub none_due : (now : ℤ) (old new : List Policy) → ArePolicies old → due now (ticked now old ++ new) ≡ due now new
+pub none_due : (now : ℤ) (old new : List Policy) → ArePolicies old → due now (policies_after_tick now old ++ new) ≡ due now new
 none_due now [] new are = refl
 none_due now (p ∷ old) new are =
-    ap (λ t. cond t (ticked_one now p ∷ due now (ticked now old ++ new)) (due now (ticked now old ++ new))) (ran_then now p are.0.interval)
+    ap (λ t. cond t (ticked_one now p ∷ due now (policies_after_tick now old ++ new)) (due now (policies_after_tick now old ++ new))) (ran_then now p are.0.interval)
     ∙ none_due now old new are.1
 
 all_due : (now : ℤ) (new : List Policy) → NeverRan new → due now new ≡ new
@@ -87,7 +87,7 @@ idle_due now (p ∷ ps) e =
     ap (λ t. cond t (p ∷ due now ps) (due now ps)) k.0 ∙ idle_due now ps k.1
 
 -- and marks nothing
-pub idle_marked : (now : ℤ) (ps : List Policy) → list_any (is_due now) ps ≡ false → ticked now ps ≡ ps
+pub idle_marked : (now : ℤ) (ps : List Policy) → list_any (is_due now) ps ≡ false → policies_after_tick now ps ≡ ps
 idle_marked now [] e = refl
 idle_marked now (p ∷ ps) e =
     let k = or_parts (is_due now p) (list_any (is_due now) ps) e in
@@ -95,7 +95,7 @@ idle_marked now (p ∷ ps) e =
     (λ i. one i ∷ idle_marked now ps k.1 i)
 
 -- a second tick marks nothing
-pub marked_twice : (now : ℤ) (ps : List Policy) → ArePolicies ps → ticked now (ticked now ps) ≡ ticked now ps
+pub marked_twice : (now : ℤ) (ps : List Policy) → ArePolicies ps → policies_after_tick now (policies_after_tick now ps) ≡ policies_after_tick now ps
 marked_twice now [] are = refl
 marked_twice now (p ∷ ps) are =
     let q = ticked_one now p in
@@ -111,22 +111,22 @@ NamesIt (stmts.Tick now) = Unit {0}
 
 refresh_names : Holds rule.add_refresh NamesIt
 refresh_names =
-    past (base.keyword kw.Select) (past (rule.spelled refresh_word) (past (base.mark marks.Open)
-    (holds_then holds_quoted (λ n h. past (base.mark marks.Comma) (past (rule.spelled start_word) (past (base.mark marks.Arrow)
-    (holds_then (holds_any base.value) (λ from _. past (base.mark marks.Comma) (past (rule.spelled end_word) (past (base.mark marks.Arrow)
-    (holds_then (holds_any base.value) (λ to _. past (base.mark marks.Comma) (past (rule.spelled interval_word) (past (base.mark marks.Arrow)
+    past (base.keyword kw.Select) (past (rule.word_rule refresh_word) (past (base.mark marks.Open)
+    (holds_then holds_quoted (λ n h. past (base.mark marks.Comma) (past (rule.word_rule start_word) (past (base.mark marks.Arrow)
+    (holds_then (holds_any base.value) (λ from _. past (base.mark marks.Comma) (past (rule.word_rule end_word) (past (base.mark marks.Arrow)
+    (holds_then (holds_any base.value) (λ to _. past (base.mark marks.Comma) (past (rule.word_rule interval_word) (past (base.mark marks.Arrow)
     (holds_then (holds_any base.number) (λ every _. past (base.mark marks.Close)
     (holds_means (stmts.Add (jobs.Refresh n from to) every) NamesIt h)))))))))))))))))
 
 retention_names : Holds rule.add_retention NamesIt
 retention_names =
-    past (base.keyword kw.Select) (past (rule.spelled retention_word) (past (base.mark marks.Open)
-    (holds_then holds_quoted (λ n h. past (base.mark marks.Comma) (past (rule.spelled after_word) (past (base.mark marks.Arrow)
+    past (base.keyword kw.Select) (past (rule.word_rule retention_word) (past (base.mark marks.Open)
+    (holds_then holds_quoted (λ n h. past (base.mark marks.Comma) (past (rule.word_rule after_word) (past (base.mark marks.Arrow)
     (holds_then (holds_any base.number) (λ after _. holds_then (holds_any rule.interval) (λ every _. past (base.mark marks.Close)
     (holds_means (stmts.Add (jobs.Drop n after) every) NamesIt h))))))))))
 
 tick_names : Holds rule.tick NamesIt
-tick_names = past (rule.spelled tick_word) (holds_then (holds_any base.number) (λ n _. holds_means (stmts.Tick n) NamesIt tt))
+tick_names = past (rule.word_rule tick_word) (holds_then (holds_any base.number) (λ n _. holds_means (stmts.Tick n) NamesIt tt))
 
 form_names : Holds rule.form NamesIt
 unfolding rule.form
@@ -158,7 +158,7 @@ pub policies_behind : (ps qs : List Policy) → ArePolicies ps → ArePolicies q
 policies_behind [] qs a b = b
 policies_behind (p ∷ ps) qs a b = (a.0, policies_behind ps qs a.1 b)
 
-policies_ticked : (now : ℤ) (ps : List Policy) → ArePolicies ps → ArePolicies (ticked now ps)
+policies_ticked : (now : ℤ) (ps : List Policy) → ArePolicies ps → ArePolicies (policies_after_tick now ps)
 policies_ticked now [] are = tt
 policies_ticked now (p ∷ ps) are = (record { named = are.0.named; offsets = are.0.offsets; interval = are.0.interval }, policies_ticked now ps are.1)
 
@@ -179,10 +179,10 @@ module _ {P : Type 0} (alone : Bool) (R : List Policy → Type 0) where
       subst (λ x. R x.places.policies) (sym e.is) r
 
   module _ (within : P → Block) (does : P → List ℕ → ℕ → Procedure (Turn P)) (p : PolicyPlaces P) (same : R p.policies) where
-    leaves_ticks : (now : ℤ) → (is_time now ≡ true → R (ticked now p.policies)) → Leaves (ticks does p now)
+    leaves_ticks : (now : ℤ) → (is_time now ≡ true → R (policies_after_tick now p.policies)) → Leaves (ticks does p now)
     leaves_ticks now marked =
-        elim (is_time now) as (λ t. (t ≡ true → R (ticked now p.policies)) → Leaves (cond t (ending_as (beside (ticked now p.policies)) (runs_due does now p.inner p.policies)) (misses_time p))) [
-          | true ↦ λ m. leaves_beside (ticked now p.policies) (runs_due does now p.inner p.policies) (m refl)
+        elim (is_time now) as (λ t. (t ≡ true → R (policies_after_tick now p.policies)) → Leaves (cond t (ending_as (beside (policies_after_tick now p.policies)) (runs_due does now p.inner p.policies)) (misses_time p))) [
+          | true ↦ λ m. leaves_beside (policies_after_tick now p.policies) (runs_due does now p.inner p.policies) (m refl)
           | false ↦ λ _. leaves_look (λ h. refuses p (refusal bad_time h 0)) (λ h. same)
         ] marked
 
@@ -190,9 +190,9 @@ module _ {P : Type 0} (alone : Bool) (R : List Policy → Type 0) where
     abbrev IsLeft : PolicyStmt → Type 0
     IsLeft (stmts.Add job every) =
         (h : History) → adding_refusal (position h) (roster h) (length p.policies) job every ≡ None → R (p.policies ++ (record { job = job; every = every; ran = None }) ∷ [])
-    IsLeft (stmts.Tick now) = is_time now ≡ true → R (ticked now p.policies)
+    IsLeft (stmts.Tick now) = is_time now ≡ true → R (policies_after_tick now p.policies)
 
-    left_added : (at : ℕ) (policy : Policy) (o : Option Refusal) → (o ≡ None → R (p.policies ++ policy ∷ [])) → R (added p at policy o).places.policies
+    left_added : (at : ℕ) (policy : Policy) (o : Option Refusal) → (o ≡ None → R (p.policies ++ policy ∷ [])) → R (turn_of_adding p at policy o).places.policies
     left_added at policy None r = r refl
     left_added at policy (Some x) r = same
 
@@ -200,7 +200,7 @@ module _ {P : Type 0} (alone : Bool) (R : List Policy → Type 0) where
     leaves_performs (stmts.Add job every) r =
         let policy : Policy = record { job = job; every = every; ran = None } in
         let o : History → Option Refusal = λ h. adding_refusal (position h) (roster h) (length p.policies) job every in
-        leaves_look (λ h. added p (position h) policy (o h)) (λ h. left_added (position h) policy (o h) (r h))
+        leaves_look (λ h. turn_of_adding p (position h) policy (o h)) (λ h. left_added (position h) policy (o h) (r h))
     leaves_performs (stmts.Tick now) r = leaves_ticks now r
 
     leaves_lets : (stmt : PolicyStmt) (o : Option Refusal) → IsLeft stmt → Leaves (lets_pass does p stmt o)
@@ -243,24 +243,24 @@ module _ {P : Type 0} (does : P → List ℕ → ℕ → Procedure (Turn P)) (al
 
   -- a tick at a time ends with those that were due marked, whatever it came to
   module _ (failed : Bool) (old : State) (now : ℤ) (new : State) (y : Turn (PolicyPlaces P)) (time : is_time now ≡ true) (w : Walks alone failed old (ticks does p now) new y) where
-    pub due_marked : y.places.policies ≡ ticked now p.policies
+    pub due_marked : y.places.policies ≡ policies_after_tick now p.policies
     due_marked =
         let d = runs_due does now p.inner p.policies in
-        let there = subst (λ t. Walks alone failed old (cond t (ending_as (beside (ticked now p.policies)) d) (misses_time p)) new y) time w in
-        ap (λ z. z.places.policies) (ended_as (beside (ticked now p.policies)) alone failed old d new y there).is
+        let there = subst (λ t. Walks alone failed old (cond t (ending_as (beside (policies_after_tick now p.policies)) d) (misses_time p)) new y) time w in
+        ap (λ z. z.places.policies) (ended_as (beside (policies_after_tick now p.policies)) alone failed old d new y there).is
 
 -- a tick at which nothing is due, and which marks nothing, is its line alone
-pub idle : {P : Type 0} (does : P → List ℕ → ℕ → Procedure (Turn P)) (q : PolicyPlaces P) (now : ℤ) → is_time now ≡ true → due now q.policies ≡ [] → ticked now q.policies ≡ q.policies → ticks does q now ≡ ends (turns q (said.Tick now 0))
+pub idle : {P : Type 0} (does : P → List ℕ → ℕ → Procedure (Turn P)) (q : PolicyPlaces P) (now : ℤ) → is_time now ≡ true → due now q.policies ≡ [] → policies_after_tick now q.policies ≡ q.policies → ticks does q now ≡ ends (turns q (said.Tick now 0))
 idle does q now time none same =
-    ap (λ t. cond t (ending_as (beside (ticked now q.policies)) (runs_due does now q.inner q.policies)) (misses_time q)) time
-    ∙ ap (λ ps. ending_as (beside (ticked now q.policies)) (and_all does (ends (turns q.inner (said.Tick now (length ps)))) (map (λ p. due_text now p.job) ps))) none
+    ap (λ t. cond t (ending_as (beside (policies_after_tick now q.policies)) (runs_due does now q.inner q.policies)) (misses_time q)) time
+    ∙ ap (λ ps. ending_as (beside (policies_after_tick now q.policies)) (and_all does (ends (turns q.inner (said.Tick now (length ps)))) (map (λ p. due_text now p.job) ps))) none
     ∙ ap (λ ps. ends (turns (record { inner = q.inner; policies = ps }) (said.Tick now 0))) same
 
 pub second_ticks_are_idle : {P : Type 0} → SecondTicksAreIdle P
 second_ticks_are_idle does alone failed old p now new y time are w =
     let is = due_marked does alone p failed old now new y time w in
-    let none : due now y.places.policies ≡ [] = ap (due now) is ∙ ap (due now) (sym (append-nil (ticked now p.policies))) ∙ none_due now p.policies [] are in
-    let same : ticked now y.places.policies ≡ y.places.policies = ap (ticked now) is ∙ marked_twice now p.policies are ∙ sym is in
+    let none : due now y.places.policies ≡ [] = ap (due now) is ∙ ap (due now) (sym (append-nil (policies_after_tick now p.policies))) ∙ none_due now p.policies [] are in
+    let same : policies_after_tick now y.places.policies ≡ y.places.policies = ap (policies_after_tick now) is ∙ marked_twice now p.policies are ∙ sym is in
     idle does y.places now time none same
 
 pub lines_keep_policies : {P : Type 0} → LinesKeepPolicies P

@@ -12,7 +12,7 @@ use Rattle.std.proofs.lemmas.List.{append_assoc, length-append}
 use Rattle.ts_schema.specs.declared.memory.NoMemory.{NoMemory}
 use Rattle.ts_schema.specs.Names.{is_head, is_name, is_tail}
 use Rattle.ts_bucket.specs.Bucket.{is_time}
-use Rattle.stmt_reader.specs.Reading.{bind, call_rest, drop_rest, end, form, number, older_than, one, select_rest, semicolon, statement, takes, value, wanted, window}
+use Rattle.stmt_reader.specs.Reading.{bind, call_rest, drop_rest, end, form, number, older_than, one, select_rest, semicolon, statement, takes, value, token_parser, window}
 use Rattle.stmt_tokens.specs.Streams.{Stream, ends, ◌then◌, stream}
 use Rattle.stmt_tokens.specs.Tokens.{Token, word, number as number_at, mark, quoted}
 use Rattle.stmt_syntax.specs.Limits.{is_i64}
@@ -74,7 +74,7 @@ small_word z s = is_word z (omega (arith, s))
 
 refresh_is_read : (now : ℤ) (view : List ℕ) (from to : Option ℤ) (a b c d e f g h i p : ℕ) → IsEnd now from → IsEnd now to
     → statement (refresh_stream view (end_token now from) (end_token now to) a b c d e f g h i p) ≡ Ok (stmts.Refresh view (bound_of now from) (bound_of now to), ends p)
-unfolding statement form bind takes wanted one call_rest window value number semicolon end
+unfolding statement form bind takes token_parser one call_rest window value number semicolon end
 refresh_is_read now view None None a b c d e f g h i p s t = refl
 refresh_is_read now view None (Some to) a b c d e f g h i p s t = rw (small_word (end_of now to) t) refl
 refresh_is_read now view (Some from) None a b c d e f g h i p s t = rw (small_word (end_of now from) s) refl
@@ -132,7 +132,7 @@ drop_stream table z a b c d e f g p =
     then ((record { at = f; token = number_at z }) then ((record { at = g; token = mark Close }) then (ends p)))))))
 
 drop_is_read : (table : List ℕ) (z : ℤ) (a b c d e f g p : ℕ) → is_i64 z ≡ true → statement (drop_stream table z a b c d e f g p) ≡ Ok (stmts.Drop table z, ends p)
-unfolding statement form bind takes wanted one select_rest drop_rest older_than number semicolon end
+unfolding statement form bind takes token_parser one select_rest drop_rest older_than number semicolon end
 drop_is_read table z a b c d e f g p s = rw s refl
 
 drop_tokens : (text : List ℕ) (skip : ℕ) (table r1 r2 r3 r4 r5 r6 : List ℕ) (z : ℤ) (begins : Comes text skip (word (codes "select")) r1) (two : Comes text begins.end (word (codes "drop_chunks")) r2)

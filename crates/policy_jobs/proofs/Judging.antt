@@ -2,12 +2,12 @@
 use Rattle.std.proofs.Common.{◌≡◌, ℕ, Bool, true, false, ◌&&◌, ◌||◌, List, [], ◌∷◌, ◌++◌, Result, Ok, Err, refl, sym, ap, subst, ◌∙◌, inl, inr}
 use Rattle.std.proofs.lemmas.Bool.{both_ways}
 use Rattle.stmt_tokens.specs.Tokens.{Token}
-use Rattle.stmt_tokens.specs.Scan.{seen}
+use Rattle.stmt_tokens.specs.Scan.{seen_token}
 use Rattle.stmt_tokens.specs.Words.{is_keyword, is_spelled}
 use Rattle.stmt_tokens.specs.Streams.{Placed, Stream, ends, onto, plain, stream}
 use Rattle.stmt_reader.specs.Reading as base
 use Rattle.stmt_reader.specs.Reading.{gives, go_on, bind}
-use Rattle.stmt_reader.specs.Grammar.{sequence, either, wanted}
+use Rattle.stmt_reader.specs.Grammar.{sequence, either, token_rule}
 use Rattle.stmt_reader.specs.Refusals.{IsSaid, First, Verdict}
 use Rattle.stmt_reader.specs.declared.faults.Fault.{Fault}
 use Rattle.stmt_tokens.specs.declared.keywords.Keyword.TheVariants as kw
@@ -54,25 +54,25 @@ second_way a b c e f = rw (e, f) (or_right a)
 first_way : (a b : Bool) → a ≡ true → (a || b) ≡ true
 first_way a b e = rw e refl
 
-begins_tick : (ts : List Placed) (p : ℕ) (t : Token) (rest : List Token) → plain ts ≡ t ∷ rest → is_spelled tick_word (seen t) ≡ true → begins (onto ts (ends p)) ≡ true
+begins_tick : (ts : List Placed) (p : ℕ) (t : Token) (rest : List Token) → plain ts ≡ t ∷ rest → is_spelled tick_word (seen_token t) ≡ true → begins (onto ts (ends p)) ≡ true
 unfolding begins
 begins_tick [] p t rest e k = absurd cc
 begins_tick (x ∷ xs) p t rest e k =
     let h : x.token ≡ t = cc in
-    first_way _ _ (ap (λ y. is_spelled tick_word (seen y)) h ∙ k)
+    first_way _ _ (ap (λ y. is_spelled tick_word (seen_token y)) h ∙ k)
 
-begins_select : (ts : List Placed) (p : ℕ) (t u : Token) (rest : List Token) → plain ts ≡ t ∷ u ∷ rest → is_keyword kw.Select (seen t) ≡ true → adds (seen u) ≡ true → begins (onto ts (ends p)) ≡ true
+begins_select : (ts : List Placed) (p : ℕ) (t u : Token) (rest : List Token) → plain ts ≡ t ∷ u ∷ rest → is_keyword kw.Select (seen_token t) ≡ true → adds (seen_token u) ≡ true → begins (onto ts (ends p)) ≡ true
 unfolding begins
 begins_select [] p t u rest e k l = absurd cc
 begins_select (x ∷ []) p t u rest e k l = absurd cc
 begins_select (x ∷ y ∷ zs) p t u rest e k l =
     let h : x.token ≡ t = cc in
     let m : y.token ≡ u = cc in
-    second_way _ _ _ (ap (λ z. is_keyword kw.Select (seen z)) h ∙ k) (ap (λ z. adds (seen z)) m ∙ l)
+    second_way _ _ _ (ap (λ z. is_keyword kw.Select (seen_token z)) h ∙ k) (ap (λ z. adds (seen_token z)) m ∙ l)
 
 -- a form begins as a statement on policies does
 begins_form : (ts : List Placed) (p : ℕ) (us vs : List Token) (a : PolicyStmt) → plain ts ≡ us ++ vs → form us a → begins (onto ts (ends p)) ≡ true
-unfolding form sequence either wanted
+unfolding form sequence either token_rule
 begins_form ts p us vs a e (inl (xs, ys, u, e1, (t, t-is, k), (zs, ws, w, e2, (r, r-is, l), m))) =
     begins_select ts p t r (ws ++ vs) (e ∙ ap (λ y. y ++ vs) (e1 ∙ ap (λ y. y ++ ys) t-is ∙ ap (λ y. t ∷ y) (e2 ∙ ap (λ y. y ++ ws) r-is))) k (first_way _ _ l)
 begins_form ts p us vs a e (inr (inl (xs, ys, u, e1, (t, t-is, k), (zs, ws, w, e2, (r, r-is, l), m)))) =

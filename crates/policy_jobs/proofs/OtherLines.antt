@@ -3,9 +3,9 @@ use Rattle.std.proofs.Common.{◌≡◌, ℕ, true, false, List, codes, refl, su
 use Rattle.std.specs.Prelude.{◌||◌, ◌&&◌}
 use Rattle.std.specs.Str.{bytes_eq}
 use Rattle.std.proofs.lemmas.Slice.Eq.{bytes_eq-Decides}
-use Rattle.stmt_reader.specs.Reading.{bind, bucket, fold_rest, form, select_rest, statement, takes, wanted, block}
+use Rattle.stmt_reader.specs.Reading.{bind, bucket, fold_rest, form, select_rest, statement, takes, token_parser, block}
 use Rattle.stmt_tokens.specs.Streams.{Stream, ends, stops, ◌then◌, heads}
-use Rattle.stmt_tokens.specs.Scan.{seen}
+use Rattle.stmt_tokens.specs.Scan.{seen_token}
 use Rattle.stmt_tokens.specs.Tokens.{Token, word, number, quoted, mark}
 use Rattle.ts_sessions.specs.Actors.{ReadsEvent}
 use Rattle.policy_jobs.specs.Words.{adds, begins, refresh_word, retention_word, tick_word}
@@ -16,16 +16,16 @@ same_bytes v w e = (bytes_eq-Decides v w).0 e
 
 -- no statement begins with TICK
 no_tick : (at : ℕ) (s : Stream) → ReadsEvent (statement ((record { at = at; token = word (codes "tick") }) then s)) → ⊥
-unfolding statement form bind takes wanted block
+unfolding statement form bind takes token_parser block
 no_tick at s e = e
 
 -- nor with SELECT and a name that is no word of the grammar
 no_refresh : (at to : ℕ) (s : Stream) → ReadsEvent (statement ((record { at = at; token = word (codes "select") }) then ((record { at = to; token = word (codes "add_continuous_aggregate_policy") }) then s))) → ⊥
-unfolding statement form bind takes wanted select_rest fold_rest bucket
+unfolding statement form bind takes token_parser select_rest fold_rest bucket
 no_refresh at to s e = e
 
 no_retention : (at to : ℕ) (s : Stream) → ReadsEvent (statement ((record { at = at; token = word (codes "select") }) then ((record { at = to; token = word (codes "add_retention_policy") }) then s))) → ⊥
-unfolding statement form bind takes wanted select_rest fold_rest bucket
+unfolding statement form bind takes token_parser select_rest fold_rest bucket
 no_retention at to s e = e
 
 -- ---- what comes next
@@ -41,7 +41,7 @@ by_name at to v s e =
       ] refl
     ] refl
 
-by_second : (at to : ℕ) (t : Token) (s : Stream) → ReadsEvent (statement ((record { at = at; token = word (codes "select") }) then ((record { at = to; token = t }) then s))) → adds (seen t) ≡ false
+by_second : (at to : ℕ) (t : Token) (s : Stream) → ReadsEvent (statement ((record { at = at; token = word (codes "select") }) then ((record { at = to; token = t }) then s))) → adds (seen_token t) ≡ false
 by_second at to (word v) s e = by_name at to v s e
 by_second at to (number z) s e = refl
 by_second at to (quoted v) s e = refl

@@ -13,11 +13,11 @@ use Rattle.result_text.specs.declared.replies.Said.TheVariants as said
 use Rattle.result_text.specs.Replies.{reply_text}
 use Rattle.ts_sessions.specs.Procedures.{Procedure}
 use Rattle.ts_sessions.specs.Places.{Turn}
-use Rattle.ts_sessions.specs.Script.{LineResult, ScriptState, Semantics, executes, executes_as, executes_kind, final_script_state, is_refused, output, places_of, reads_in, refused, refused_line, takes_turn, with_places}
+use Rattle.ts_sessions.specs.Script.{LineResult, ScriptState, Semantics, executes, executes_as, executes_kind, final_script_state, is_refused, output, places_of, reads_in, line_of_refusal, refused_line, takes_turn, with_places}
 use Rattle.ts_model.specs.Limits.{most_sessions}
 use Rattle.stmt_syntax.specs.Limits.{longest_line}
 use Rattle.ts_sessions.specs.Step.{bare}
-use Rattle.ts_sessions.specs.Walks.{ending}
+use Rattle.ts_sessions.specs.Walks.{end_of_walk}
 use Rattle.policy_jobs.specs.Laws.{LinesSeeTheirOwnPlaces, OthersSeeNoPlaces, is_line_of, is_of_kind, with_session}
 
 -- ---- names
@@ -116,13 +116,13 @@ module _ {P : Type 0} (semantics : Semantics P) (other : List ℕ) (p q : P) whe
 
   takes : (s : ScriptState P) (name : List ℕ) (d : Procedure (Turn P)) → same_name other name ≡ false → places_of other s.sessions ≡ Some p → Moves (takes_turn (with_session s other q) name d) (takes_turn s name d)
   takes s name d apart there =
-      let r = (ending d s.history).places in
+      let r = (end_of_walk d s.history).places in
       record {
         moves = ap (λ sessions. record (takes_turn s name d) { script_state = record (takes_turn s name d).script_state { sessions = sessions } }) (put_both other name apart p q r s.sessions there);
         keeps = found_still name other (turned_round other name apart) r s.sessions ∙ there;
       }
 
-  refuses : (s : ScriptState P) (text : List ℕ) → places_of other s.sessions ≡ Some p → Moves (refused (with_session s other q) text) (refused s text)
+  refuses : (s : ScriptState P) (text : List ℕ) → places_of other s.sessions ≡ Some p → Moves (line_of_refusal (with_session s other q) text) (line_of_refusal s text)
   refuses s text there = record { moves = refl; keeps = there }
 
   as_found : (s : ScriptState P) (name text : List ℕ) (skip : ℕ) (o : Option P) → same_name other name ≡ false → places_of other s.sessions ≡ Some p
@@ -131,9 +131,9 @@ module _ {P : Type 0} (semantics : Semantics P) (other : List ℕ) (p q : P) whe
   as_found s name text skip None apart there =
       let t = with_session s other q in
       let full : List ℕ = reply_text name (said.Fault (bare too_many_sessions)) in
-      subst (λ many. Moves (cond (nat_lt many most_sessions) (takes_turn t name (semantics.does (semantics.opening many) text skip)) (refused t full)) (executes_as semantics s name text skip None))
+      subst (λ many. Moves (cond (nat_lt many most_sessions) (takes_turn t name (semantics.does (semantics.opening many) text skip)) (line_of_refusal t full)) (executes_as semantics s name text skip None))
       (sym (as_many other p q s.sessions there))
-      (elim (nat_lt (length s.sessions) most_sessions) as (λ b. Moves (cond b (takes_turn t name (semantics.does (semantics.opening (length s.sessions)) text skip)) (refused t full)) (cond b (takes_turn s name (semantics.does (semantics.opening (length s.sessions)) text skip)) (refused s full))) [
+      (elim (nat_lt (length s.sessions) most_sessions) as (λ b. Moves (cond b (takes_turn t name (semantics.does (semantics.opening (length s.sessions)) text skip)) (line_of_refusal t full)) (cond b (takes_turn s name (semantics.does (semantics.opening (length s.sessions)) text skip)) (line_of_refusal s full))) [
         | true ↦ takes s name (semantics.does (semantics.opening (length s.sessions)) text skip) apart there
         | false ↦ refuses s full there
       ])

@@ -20,7 +20,7 @@ use Rattle.policy_jobs.specs.declared.statements.PolicyStmt.{PolicyStmt}
 use Rattle.policy_jobs.specs.declared.statements.PolicyStmt.TheVariants as stmt
 use Rattle.policy_jobs.specs.declared.jobs.Job.TheVariants as jobs
 
-reads_spelled : (n : ℕ) (w : List ℕ) → Reads n (read.spelled w) (rule.spelled w) none
+reads_spelled : (n : ℕ) (w : List ℕ) → Reads n (read.word_parser w) (rule.word_rule w) none
 reads_spelled n w = reads_wanted n (is_spelled w) (word w) refl (same_text w)
 
 -- ---- TICK
@@ -36,7 +36,7 @@ reads_tick n = reads_last n stmt.Tick (reads_number n)
 
 abbrev refresh_rule : Rule PolicyStmt
 refresh_rule =
-    behind (is_mark marks.Open) (sequence grammar.quoted (λ v. behind (is_mark marks.Comma)
+    behind (is_mark marks.Open) (sequence grammar.quoted_name (λ v. behind (is_mark marks.Comma)
     (behind (is_spelled start_word) (behind (is_mark marks.Arrow) (sequence grammar.value (λ from. behind (is_mark marks.Comma)
     (behind (is_spelled end_word) (behind (is_mark marks.Arrow) (sequence grammar.value (λ to. behind (is_mark marks.Comma)
     (behind (is_spelled interval_word) (behind (is_mark marks.Arrow) (sequence grammar.number (λ every. behind (is_mark marks.Close)
@@ -69,7 +69,7 @@ reads_interval n = takes_mark n marks.Comma reads_interval_rest (reads_gives n (
 
 abbrev retention_rule : Rule PolicyStmt
 retention_rule =
-    behind (is_mark marks.Open) (sequence grammar.quoted (λ t. behind (is_mark marks.Comma)
+    behind (is_mark marks.Open) (sequence grammar.quoted_name (λ t. behind (is_mark marks.Comma)
     (behind (is_spelled after_word) (behind (is_mark marks.Arrow) (sequence grammar.number (λ after. sequence rule.interval (λ every. behind (is_mark marks.Close)
     (means (stmt.Add (jobs.Drop t after) every)))))))))
 

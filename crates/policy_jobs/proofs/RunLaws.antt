@@ -20,7 +20,7 @@ use Rattle.ts_sessions.specs.declared.replies.Reply.{Reply}
 use Rattle.ts_sessions.specs.declared.replies.StepEnd.{StepEnd}
 use Rattle.ts_sessions.specs.declared.replies.StepEnd.TheVariants as steps
 use Rattle.ts_sessions.proofs.WalkLaws.{break_together, breaks_first, put_together, walks_as, walks_break}
-use Rattle.policy_jobs.specs.declared.runs.Run.{Run}
+use Rattle.policy_jobs.specs.declared.runs.TickOutcome.{TickOutcome}
 use Rattle.policy_jobs.specs.Runs.{GoesOnBy, IsBehind, IsRunnable, RunsTo}
 use Rattle.policy_jobs.specs.Turns.{and_all, and_then, behind}
 
@@ -96,7 +96,7 @@ module _ {P : Type 0} (does : P → List ℕ → ℕ → Procedure (Turn P)) (al
   breaks_all (text ∷ texts) so_far new b = breaks_all texts (and_then does so_far text) new (breaks_first alone old so_far (λ y. ending_as (behind y) (does y.places text 0)) new b)
 
   -- a run goes on by one statement more
-  pub run_then : (run : Run) (end : StepEnd) (result : Result Run NoMemory) (mid : State) (p : P) (text : List ℕ) (new : State) (q : P) (before between after : ℕ)
+  pub run_then : (run : TickOutcome) (end : StepEnd) (result : Result TickOutcome NoMemory) (mid : State) (p : P) (text : List ℕ) (new : State) (q : P) (before between after : ℕ)
       → before < 2 ^ 64 → Reports alone run.failed old first name run.reply mid p before between → Stepped alone mid (does p text 0) name end new q between after → GoesOnBy run end result
       → RunsTo alone old (and_then does first text) name result new q before after
   run_then run (steps.Reply more) (Ok next) mid p text new q before between after short r s g =
@@ -122,7 +122,7 @@ all_next does first (t ∷ ts) rest item text some r i e =
     ap (λ x. and_all does (and_then does first x) ts) (sym (e ∙ i)) ∙ ap (and_all does (and_then does first text)) left
 
 -- a run that broke off
-pub broken_run : {P : Type 0} (alone : Bool) (s : State) (d : Procedure (Turn P)) (name : List ℕ) (result : Result Run NoMemory) (new : State) (q : P) (before after : ℕ) → IsErr result → Breaks alone s d new → before ≤ after → RunsTo alone s d name result new q before after
+pub broken_run : {P : Type 0} (alone : Bool) (s : State) (d : Procedure (Turn P)) (name : List ℕ) (result : Result TickOutcome NoMemory) (new : State) (q : P) (before after : ℕ) → IsErr result → Breaks alone s d new → before ≤ after → RunsTo alone s d name result new q before after
 broken_run alone s d name (Ok run) new q before after i b le = absurd (true≢false (sym i))
 broken_run alone s d name (Err e) new q before after i b le = (b, le)
 
@@ -135,7 +135,7 @@ module _ {P : Type 0} (within : P → Block) (does : P → List ℕ → ℕ → 
       law alone failed mid p text 0 new (record { places = q; said = s.said; reads = s.read }) out runs.event s.walks
 
   -- it stays outside a block
-  pub outside_then : (alone : Bool) (run : Run) (end : StepEnd) (result : Result Run NoMemory) (mid : State) (p : P) (text name : List ℕ) (new : State) (q : P) (between after : ℕ)
+  pub outside_then : (alone : Bool) (run : TickOutcome) (end : StepEnd) (result : Result TickOutcome NoMemory) (mid : State) (p : P) (text name : List ℕ) (new : State) (q : P) (between after : ℕ)
       → StaysOutside within does → within p ≡ none → IsRunnable text → Stepped alone mid (does p text 0) name end new q between after → GoesOnBy run end result → OnOk result (within q ≡ none)
   outside_then alone run (steps.Reply r) (Ok next) mid p text name new q between after law out runs s g = outside_after alone false mid p text name r new q between after law out runs s
   outside_then alone run (steps.DiskFault r) (Ok next) mid p text name new q between after law out runs s g = outside_after alone true mid p text name r new q between after law out runs s
@@ -143,7 +143,7 @@ module _ {P : Type 0} (within : P → Block) (does : P → List ℕ → ℕ → 
   outside_then alone run end (Err e) mid p text name new q between after law out runs s g = tt
 
 -- and what holds where it answered
-pub held_then : (run : Run) (end : StepEnd) (result : Result Run NoMemory) (H : Type 0) → GoesOnBy run end result → IfAnswered end H → OnOk result H
+pub held_then : (run : TickOutcome) (end : StepEnd) (result : Result TickOutcome NoMemory) (H : Type 0) → GoesOnBy run end result → IfAnswered end H → OnOk result H
 held_then run (steps.Reply r) (Ok next) H g h = h
 held_then run (steps.DiskFault r) (Ok next) H g h = h
 held_then run steps.NoMemory (Ok next) H g h = absurd g

@@ -20,9 +20,9 @@ use Rattle.ts_sessions.specs.Places.{Places, Turn, none, turns}
 use Rattle.ts_sessions.specs.Procedures.{Procedure, ends, ending_as}
 use Rattle.ts_sessions.specs.Script.{LineResult, ScriptState, executes, executes_as, executes_kind, final_script_state, has_fault, is_refused, output, places_of, reads_in, refused_line, takes_turn, text_of, with_places}
 use Rattle.ts_sessions.specs.Step.{block_refusal, step}
-use Rattle.ts_sessions.specs.Walks.{history_after, ending}
+use Rattle.ts_sessions.specs.Walks.{history_after, end_of_walk}
 use Rattle.policy_jobs.specs.Laws.{ArePolicies, IsPolicy, IsTickLine, TicksAreTheirLines, due_lines, due_statement, line_of, policy_sessions, with_session}
-use Rattle.policy_jobs.specs.Policies.{due, due_text, due_texts, is_due, ticked}
+use Rattle.policy_jobs.specs.Policies.{due, due_text, due_texts, is_due, policies_after_tick}
 use Rattle.policy_jobs.specs.Reading.{statement}
 use Rattle.policy_jobs.specs.Turns.{PolicyPlaces, and_all, and_then, behind, beside, lets_pass, misses_time, policy_does, reads_as, runs_due}
 use Rattle.policy_jobs.specs.declared.jobs.Job.{Job}
@@ -45,10 +45,10 @@ record Came (P : Type 0) : Type 0 where
 
 module _ {P : Type 0} (does : P → List ℕ → ℕ → Procedure (Turn P)) where
   abbrev came_of : Procedure (Turn P) → History → Came P
-  came_of d h = record { history = history_after d h; turn = ending d h }
+  came_of d h = record { history = history_after d h; turn = end_of_walk d h }
 
   abbrev next_turn : Came P → List ℕ → Turn P
-  next_turn c text = ending (does c.turn.places text 0) c.history
+  next_turn c text = end_of_walk (does c.turn.places text 0) c.history
 
   abbrev goes_on : Came P → List ℕ → Came P
   goes_on c text = record { history = history_after (does c.turn.places text 0) c.history; turn = behind c.turn (next_turn c text) }
@@ -59,7 +59,7 @@ module _ {P : Type 0} (does : P → List ℕ → ℕ → Procedure (Turn P)) whe
 
   goes_then : (d : Procedure (Turn P)) (text : List ℕ) (h : History) → came_of (and_then does d text) h ≡ goes_on (came_of d h) text
   goes_then d text h =
-      let y = ending d h in
+      let y = end_of_walk d h in
       let g = history_after d h in
       let more = does y.places text 0 in
       let first = history_then d (λ x. ending_as (behind x) (does x.places text 0)) h ∙ history_then more (λ z. ends (behind y z)) g in
@@ -75,7 +75,7 @@ module _ {P : Type 0} (does : P → List ℕ → ℕ → Procedure (Turn P)) whe
 -- two procedures come to the same over a history
 record ComeTogether {A : Type 0} (d e : Procedure A) (h : History) : Type 0 where
   history : history_after d h ≡ history_after e h
-  end : ending d h ≡ ending e h
+  end : end_of_walk d h ≡ end_of_walk e h
 
 -- the places of a session outside a block
 abbrev outside : Option ℕ → List (ℕ × ℕ) → Places
@@ -217,7 +217,7 @@ module _ (stays : StaysOutside (λ (p : Places). p.block) step) (name : List ℕ
 
 module _ (s : ScriptState (PolicyPlaces Places)) (n : ℕ) (name line : List ℕ) (now : ℤ) (p : PolicyPlaces Places) (is : IsTickLine name now line) (there : places_of name s.sessions ≡ Some p) (out : p.inner.block ≡ none) (time : is_time now ≡ true) where
   abbrev procedure : Procedure (Turn (PolicyPlaces Places))
-  procedure = ending_as (beside (ticked now p.policies)) (runs_due step now p.inner p.policies)
+  procedure = ending_as (beside (policies_after_tick now p.policies)) (runs_due step now p.inner p.policies)
 
   tick_does : policy_does step (λ q. q.block) p (take is.end line) is.skip ≡ procedure
   tick_does =
@@ -243,7 +243,7 @@ module _ (s : ScriptState (PolicyPlaces Places)) (n : ℕ) (name line : List ℕ
   last = come step first (due_texts now p.policies)
 
   tick_comes : executes policy_sessions s n line ≡ record {
-    script_state = record { history = last.history; sessions = with_places name (record { inner = last.turn.places; policies = ticked now p.policies }) s.sessions };
+    script_state = record { history = last.history; sessions = with_places name (record { inner = last.turn.places; policies = policies_after_tick now p.policies }) s.sessions };
     text = text_of name last.turn.said;
     fault = has_fault last.turn.said;
     reads = last.turn.reads;
@@ -251,8 +251,8 @@ module _ (s : ScriptState (PolicyPlaces Places)) (n : ℕ) (name line : List ℕ
   tick_comes =
       let d = runs_due step now p.inner p.policies in
       let came = all_come step (due_texts now p.policies) (ends first.turn) s.history in
-      let after = history_then d (λ y. ends (beside (ticked now p.policies) y)) s.history ∙ ap (λ c. c.history) came in
-      let end = ending_then d (λ y. ends (beside (ticked now p.policies) y)) s.history ∙ ap (λ c. beside (ticked now p.policies) c.turn) came in
+      let after = history_then d (λ y. ends (beside (policies_after_tick now p.policies) y)) s.history ∙ ap (λ c. c.history) came in
+      let end = ending_then d (λ y. ends (beside (policies_after_tick now p.policies) y)) s.history ∙ ap (λ c. beside (policies_after_tick now p.policies) c.turn) came in
       tick_taken
       ∙ (λ i. record {
         script_state = record { history = after i; sessions = with_places name (end i).places s.sessions };
@@ -266,9 +266,9 @@ ticks_are_their_lines stays s n k name line now p is there out time are =
     let session = subst IsSession is.session (session_of_line line is.len is.skip is.end is.kind) in
     let comes = tick_comes s n name line now p is there out time in
     let c = first s n name line now p is there out time in
-    let lines = are_lines stays name (ticked now p.policies) s.sessions (due_texts now p.policies) c k out (due_line_each name now p.policies session time are) in
+    let lines = are_lines stays name (policies_after_tick now p.policies) s.sessions (due_texts now p.policies) c k out (due_line_each name now p.policies session time are) in
     record {
-      text = ap (λ r. r.text) comes ∙ lines.text ∙ ap (λ t. t ++ output policy_sessions (with_session s name (record p { policies = ticked now p.policies })) k (due_lines name now p.policies)) (append-nil (reply_text name (said.Tick now (length (due now p.policies)))));
+      text = ap (λ r. r.text) comes ∙ lines.text ∙ ap (λ t. t ++ output policy_sessions (with_session s name (record p { policies = policies_after_tick now p.policies })) k (due_lines name now p.policies)) (append-nil (reply_text name (said.Tick now (length (due now p.policies)))));
       fault = ap (λ r. r.fault) comes ∙ lines.fault;
       reads = ap (λ r. r.reads) comes ∙ lines.reads ∙ omega arith;
       leaves = ap (λ r. r.script_state) comes ∙ lines.leaves;

@@ -18,7 +18,7 @@ use Rattle.ts_sessions.proofs.MadeLaws.{seen_made}
 use Rattle.ts_sessions.proofs.NameCheckWalks.{unraised}
 use Rattle.ts_sessions.proofs.WalkLaws.{breaks_first, walks_as}
 use Rattle.policy_jobs.specs.declared.policies.Policy.{Policy}
-use Rattle.policy_jobs.specs.declared.runs.Run.{Run}
+use Rattle.policy_jobs.specs.declared.runs.TickOutcome.{TickOutcome}
 use Rattle.policy_jobs.specs.Runs.{RunsTo}
 use Rattle.policy_jobs.specs.Turns.{beside}
 
@@ -84,7 +84,7 @@ beside_stepped policies alone old d name steps.NoMemory new q before after t = (
 
 -- ---- the end of a run
 
-pub run_stepped : {P : Type 0} (alone : Bool) (old : State) (d : Procedure (Turn P)) (name : List ℕ) (run : Run) (end : StepEnd) (new : State) (q : P) (before after : ℕ) → RunsTo alone old d name (Ok run) new q before after → IsReplied run.failed run.reply end → Stepped alone old d name end new q before after
+pub run_stepped : {P : Type 0} (alone : Bool) (old : State) (d : Procedure (Turn P)) (name : List ℕ) (run : TickOutcome) (end : StepEnd) (new : State) (q : P) (before after : ℕ) → RunsTo alone old d name (Ok run) new q before after → IsReplied run.failed run.reply end → Stepped alone old d name end new q before after
 run_stepped alone old d name run (steps.Reply r) new q before after t e =
     subst (λ f. Reports alone f old d name r new q before after) e.0 (subst (λ x. Reports alone run.failed old d name x new q before after) (sym e.1) t)
 run_stepped alone old d name run (steps.DiskFault r) new q before after t e =

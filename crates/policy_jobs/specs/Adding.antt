@@ -8,7 +8,7 @@ use Rattle.ts_model.specs.Roster.{view_of}
 use Rattle.ts_catalog.specs.declared.relations.Found.{Found}
 use Rattle.ts_catalog.specs.declared.relations.Found.TheVariants as found
 use Rattle.ts_catalog.specs.Relations.{found_in}
-use Rattle.stmt_check.specs.Refusals.{◌⊳◌, hypertable_refusal, marked, refused, view_refusal}
+use Rattle.stmt_check.specs.Refusals.{◌⊳◌, hypertable_refusal, marked_refusal, refusal_if, view_refusal}
 use Rattle.ts_model.specs.Numbers.{bad_policy, too_many_policies}
 use Rattle.policy_jobs.specs.declared.jobs.Job.{Job}
 use Rattle.policy_jobs.specs.declared.jobs.Job.TheVariants as jobs
@@ -69,5 +69,5 @@ relation_refusal at r (jobs.Drop table after) = hypertable_refusal at (found_in 
 abbrev pub adding_refusal : ℕ → Roster → ℕ → Job → ℤ → Option Refusal
 adding_refusal at r many job every =
     relation_refusal at r job
-    ⊳ refused at bad_policy (not (has_offsets job && is_interval every && fits_step r job))
-    ⊳ marked at too_many_policies (suc most_policies) (nat_le most_policies many)
+    ⊳ refusal_if at bad_policy (not (has_offsets job && is_interval every && fits_step r job))
+    ⊳ marked_refusal at too_many_policies (suc most_policies) (nat_le most_policies many)

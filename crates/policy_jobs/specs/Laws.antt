@@ -22,7 +22,7 @@ use Rattle.ts_sessions.specs.Procedures.{Procedure, ends}
 use Rattle.ts_sessions.specs.Script.{LineResult, ScriptState, Semantics, executes, final_script_state, is_refused, output, places_of, reads_in, session_semantics, with_places}
 use Rattle.ts_sessions.specs.Walks.{Walks}
 use Rattle.policy_jobs.specs.Adding.{has_offsets, is_interval}
-use Rattle.policy_jobs.specs.Policies.{due, due_text, due_texts, end_of, ticked}
+use Rattle.policy_jobs.specs.Policies.{due, due_text, due_texts, end_of, policies_after_tick}
 use Rattle.policy_jobs.specs.Reading.{statement}
 use Rattle.policy_jobs.specs.Turns.{PolicyPlaces, policy_does, policy_semantics, ticks}
 use Rattle.policy_jobs.specs.Words.{begins}
@@ -71,7 +71,7 @@ DueTextsAreStatements =
 -- after a tick, whatever is added until the next at the same time is all that is due then
 abbrev pub OnlyNewOnesAreDue : Type 0
 OnlyNewOnesAreDue =
-    (now : ℤ) (old new : List Policy) → ArePolicies old → NeverRan new → due now (ticked now old ++ new) ≡ new
+    (now : ℤ) (old new : List Policy) → ArePolicies old → NeverRan new → due now (policies_after_tick now old ++ new) ≡ new
 
 -- ---- what lines leave of the policies
 
@@ -108,7 +108,7 @@ pub record LinesKeepPolicies (P : Type 0) : Type 0 where
   pub marks :
       (does : P → List ℕ → ℕ → Procedure (Turn P)) (alone failed : Bool) (old : State) (p : PolicyPlaces P) (now : ℤ)
       (new : State) (y : Turn (PolicyPlaces P))
-      → is_time now ≡ true → Walks alone failed old (ticks does p now) new y → y.places.policies ≡ ticked now p.policies
+      → is_time now ≡ true → Walks alone failed old (ticks does p now) new y → y.places.policies ≡ policies_after_tick now p.policies
 
 -- after a tick over any store, whatever came of its statements, a tick at the same time is its line alone, and the
 -- session stays as it is
@@ -166,7 +166,7 @@ TicksAreTheirLines =
     → ArePolicies p.policies
     → IsLineAndScript policy_sessions (executes policy_sessions s n line)
     (reply_text name (said.Tick now (length (due now p.policies))))
-    (with_session s name (record p { policies = ticked now p.policies })) k (due_lines name now p.policies)
+    (with_session s name (record p { policies = policies_after_tick now p.policies })) k (due_lines name now p.policies)
 
 -- ---- sessions beside one another
 

@@ -72,5 +72,5 @@ abbrev pub ticked_one : ℤ → Policy → Policy
 ticked_one now p = record p { ran = cond (is_due now p) (Some now) p.ran }
 
 -- so did each that is due
-abbrev pub ticked : ℤ → List Policy → List Policy
-ticked now ps = map (ticked_one now) ps
+abbrev pub policies_after_tick : ℤ → List Policy → List Policy
+policies_after_tick now ps = map (ticked_one now) ps

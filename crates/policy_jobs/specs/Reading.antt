@@ -1,7 +1,7 @@
 -- Reading a statement on policies from left to right.
 use Rattle.std.specs.Prelude.{ℕ, ℤ, pos, List}
 use Rattle.stmt_tokens.specs.Words.{is_spelled, is_mark}
-use Rattle.stmt_reader.specs.Reading.{Parser, gives, ◌>>=◌, ◌>>◌, takes, wanted, keyword, mark, quoted, number, value, semicolon, end}
+use Rattle.stmt_reader.specs.Reading.{Parser, gives, ◌>>=◌, ◌>>◌, takes, token_parser, keyword, mark, quoted_name, number, value, semicolon, end}
 use Rattle.stmt_tokens.specs.declared.keywords.Keyword.TheVariants as kw
 use Rattle.stmt_tokens.specs.declared.tokens.Mark.TheVariants as marks
 use Rattle.policy_jobs.specs.Words.{tick_word, refresh_word, retention_word, start_word, end_word, interval_word, after_word}
@@ -10,24 +10,24 @@ use Rattle.policy_jobs.specs.declared.statements.PolicyStmt.TheVariants as stmt
 use Rattle.policy_jobs.specs.declared.jobs.Job.TheVariants as jobs
 
 -- a word in any case
-abbrev pub spelled : List ℕ → Parser (Unit {0})
-spelled w = wanted (is_spelled w)
+abbrev pub word_parser : List ℕ → Parser (Unit {0})
+word_parser w = token_parser (is_spelled w)
 
 -- ( 'n' , start_offset => bound , end_offset => bound , schedule_interval => num )
 unfoldable pub refresh_rest : Parser PolicyStmt
 refresh_rest = do
   mark marks.Open
-  n ← quoted
+  n ← quoted_name
   mark marks.Comma
-  spelled start_word
+  word_parser start_word
   mark marks.Arrow
   from ← value
   mark marks.Comma
-  spelled end_word
+  word_parser end_word
   mark marks.Arrow
   to ← value
   mark marks.Comma
-  spelled interval_word
+  word_parser interval_word
   mark marks.Arrow
   every ← number
   mark marks.Close
@@ -35,7 +35,7 @@ refresh_rest = do
 
 -- schedule_interval => num
 unfoldable pub interval_rest : Parser ℤ
-interval_rest = spelled interval_word >> mark marks.Arrow >> number
+interval_rest = word_parser interval_word >> mark marks.Arrow >> number
 
 -- [, schedule_interval => num]
 unfoldable pub interval : Parser ℤ
@@ -45,9 +45,9 @@ interval = takes (is_mark marks.Comma) interval_rest (gives (pos 1))
 unfoldable pub retention_rest : Parser PolicyStmt
 retention_rest = do
   mark marks.Open
-  n ← quoted
+  n ← quoted_name
   mark marks.Comma
-  spelled after_word
+  word_parser after_word
   mark marks.Arrow
   after ← number
   every ← interval
@@ -56,7 +56,7 @@ retention_rest = do
 
 -- what follows SELECT
 unfoldable pub select_rest : Parser PolicyStmt
-select_rest = takes (is_spelled refresh_word) refresh_rest (spelled retention_word >> retention_rest)
+select_rest = takes (is_spelled refresh_word) refresh_rest (word_parser retention_word >> retention_rest)
 
 -- what follows TICK
 unfoldable pub tick_rest : Parser PolicyStmt

@@ -13,7 +13,7 @@ use Rattle.ts_sessions.specs.Walks.{Breaks}
 use Rattle.ts_sessions.specs.declared.replies.Reply.{Reply}
 use Rattle.ts_sessions.specs.declared.replies.StepEnd.{StepEnd}
 use Rattle.ts_sessions.specs.declared.replies.StepEnd.TheVariants as steps
-use Rattle.policy_jobs.specs.declared.runs.Run.{Run}
+use Rattle.policy_jobs.specs.declared.runs.TickOutcome.{TickOutcome}
 
 -- a text that is short enough, and a statement that makes an event
 pub record IsRunnable (text : List ℕ) : Type 0 where
@@ -22,7 +22,7 @@ pub record IsRunnable (text : List ℕ) : Type 0 where
 
 -- a run has reported a procedure so far, whose disk failed or not, or broke off for want of memory
 abbrev pub RunsTo :
-    {P : Type 0} → Bool → State → Procedure (Turn P) → List ℕ → Result Run NoMemory → State → P → ℕ → ℕ → Type 0
+    {P : Type 0} → Bool → State → Procedure (Turn P) → List ℕ → Result TickOutcome NoMemory → State → P → ℕ → ℕ → Type 0
 RunsTo alone old procedure name (Ok run) new places before after =
     Reports alone run.failed old procedure name run.reply new places before after
 RunsTo alone old procedure name (Err e) new places before after = Breaks alone old procedure new × (before ≤ after)
@@ -34,7 +34,7 @@ pub record IsBehind (first then whole : Reply) : Type 0 where
   pub events : whole.events ≡ first.events ++ then.events
 
 -- a run, and the end of one statement more behind it
-abbrev pub GoesOnBy : Run → StepEnd → Result Run NoMemory → Type 0
+abbrev pub GoesOnBy : TickOutcome → StepEnd → Result TickOutcome NoMemory → Type 0
 GoesOnBy run (steps.Reply r) (Ok next) = IsBehind run.reply r next.reply × (next.failed ≡ run.failed)
 GoesOnBy run (steps.DiskFault r) (Ok next) = IsBehind run.reply r next.reply × (next.failed ≡ true)
 GoesOnBy run steps.NoMemory (Ok next) = ⊥

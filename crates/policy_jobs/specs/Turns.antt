@@ -19,7 +19,7 @@ use Rattle.policy_jobs.specs.declared.jobs.Job.{Job}
 use Rattle.policy_jobs.specs.declared.statements.PolicyStmt.{PolicyStmt}
 use Rattle.policy_jobs.specs.declared.statements.PolicyStmt.TheVariants as stmts
 use Rattle.policy_jobs.specs.Adding.{adding_refusal}
-use Rattle.policy_jobs.specs.Policies.{due, due_texts, ticked}
+use Rattle.policy_jobs.specs.Policies.{due, due_texts, policies_after_tick}
 use Rattle.policy_jobs.specs.Reading.{statement}
 use Rattle.policy_jobs.specs.Words.{begins}
 
@@ -40,15 +40,15 @@ behind y z = record { places = z.places; said = y.said ++ z.said; reads = y.read
 -- ---- adding
 
 -- a policy was added at a position, or refused
-abbrev pub added : {P : Type 0} → PolicyPlaces P → ℕ → Policy → Option Refusal → Turn (PolicyPlaces P)
-added p at policy (Some r) = refuses p r
-added p at policy None =
+abbrev pub turn_of_adding : {P : Type 0} → PolicyPlaces P → ℕ → Policy → Option Refusal → Turn (PolicyPlaces P)
+turn_of_adding p at policy (Some r) = refuses p r
+turn_of_adding p at policy None =
     turns (record p { policies = p.policies ++ policy ∷ [] }) (said.Policy (suc (length p.policies)) at)
 
 -- a policy is added by one look, unless it is refused there. It has not run yet
 abbrev pub adds_policy : {P : Type 0} → PolicyPlaces P → Job → ℤ → Procedure (Turn (PolicyPlaces P))
 adds_policy p job every =
-    looks (λ h. ends (added p (position h) (record { job = job; every = every; ran = None })
+    looks (λ h. ends (turn_of_adding p (position h) (record { job = job; every = every; ran = None })
     (adding_refusal (position h) (roster h) (length p.policies) job every)))
 
 -- a time out of range
@@ -78,7 +78,7 @@ module _ {P : Type 0} (does : P → List ℕ → ℕ → Procedure (Turn P)) whe
   -- a tick at a time: what is due runs, and each of those has run then, whatever came of it
   abbrev pub ticks : PolicyPlaces P → ℤ → Procedure (Turn (PolicyPlaces P))
   ticks p now =
-      cond (is_time now) (ending_as (beside (ticked now p.policies)) (runs_due now p.inner p.policies)) (misses_time p)
+      cond (is_time now) (ending_as (beside (policies_after_tick now p.policies)) (runs_due now p.inner p.policies)) (misses_time p)
 
   -- ---- lines
 

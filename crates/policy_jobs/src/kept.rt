@@ -1,7 +1,7 @@
 //! The policies that a session keeps, with the time before which none of them is due.
 ghost use Rattle.std.specs.Prelude.{◌≡◌, [], ◌∷◌, ◌++◌, ◌^◌, ◌<◌, length, not, OnErr, OnOk};
 ghost use Rattle.std.specs.List.{list_any};
-ghost use Rattle.policy_jobs.specs.Policies.{is_due, ticked};
+ghost use Rattle.policy_jobs.specs.Policies.{is_due, policies_after_tick};
 
 use crate::policies::{Policy, first_due, is_before, is_idle, mark_due};
 use std::alloc::Global;
@@ -77,7 +77,7 @@ impl KeptPolicies {
 
     /// Those that are due at a time have run then.
     pub fn mark(&mut self, now: i64)
-        ensures ran { self.new ≡ ticked now self.old }
+        ensures ran { self.new ≡ policies_after_tick now self.old }
     {
         mark_due(self.items.as_mut_slice(), now);
         self.due_from = first_due(self.items.as_slice());

@@ -2,7 +2,7 @@
 ghost use Rattle.std.specs.Prelude.{◌≡◌, ◌+ℤ◌, ◌++◌, int_lt, not, true, IfOk, OnOk, Some};
 ghost use Rattle.std.specs.List.{AllByRecursion, list_any};
 ghost use Rattle.ts_bucket.specs.Bucket.{is_time};
-ghost use Rattle.policy_jobs.specs.Policies.{due_text, due_texts as texts_due, end_of, end_text, is_due, refresh_text, retention_text, ticked, ticked_one};
+ghost use Rattle.policy_jobs.specs.Policies.{due_text, due_texts as texts_due, end_of, end_text, is_due, refresh_text, retention_text, policies_after_tick, ticked_one};
 ghost use Rattle.policy_jobs.specs.Policies as spec;
 ghost use Rattle.policy_jobs.specs.Adding.{AreKept, has_offsets};
 ghost use Rattle.policy_jobs.specs.Runs.{IsRunnable};
@@ -134,7 +134,7 @@ pub(crate) fn is_before(now: i64, from: i128) -> bool
 
 /// Those that are due at a time have run then.
 pub fn mark_due(policies: &mut [Policy], now: i64)
-    ensures ran { policies.new ≡ ticked now policies.old }
+    ensures ran { policies.new ≡ policies_after_tick now policies.old }
 {
     for policy in policies.iter_mut() {
         policy.mark(now);

@@ -152,7 +152,7 @@ fn read_refresh(reader: &mut Reader<'_>) -> Result<PolicyStmt, ReadError>
     ensures { Gives result (spec.refresh_rest (ahead reader.old)) (ahead reader.new) }
 {
     reader.mark(Mark::Open)?;
-    let view = reader.quoted()?;
+    let view = reader.read_quoted()?;
     reader.mark(Mark::Comma)?;
     reader.word(START_OFFSET)?;
     reader.mark(Mark::Arrow)?;
@@ -176,7 +176,7 @@ fn read_retention(reader: &mut Reader<'_>) -> Result<PolicyStmt, ReadError>
     ensures { Gives result (spec.retention_rest (ahead reader.old)) (ahead reader.new) }
 {
     reader.mark(Mark::Open)?;
-    let table = reader.quoted()?;
+    let table = reader.read_quoted()?;
     reader.mark(Mark::Comma)?;
     reader.word(DROP_AFTER)?;
     reader.mark(Mark::Arrow)?;

@@ -13,11 +13,11 @@ use std::alloc::Global;
 use std::thread::Threads;
 use ts_model::{Backend, Gate};
 use ts_schema::{NoMemory, Seq, Steps};
-use ts_sessions::{Actor, Reply, StepEnd, replied};
+use ts_sessions::{Actor, Reply, StepEnd, step_end};
 
 /// What statements came to so far.
 #[derive(Drop)]
-pub(crate) struct Run {
+pub(crate) struct TickOutcome {
     /// Their replies, as one.
     pub reply: Reply,
     /// Whether the disk failed at an event.
@@ -33,9 +33,9 @@ pub(crate) fn run_all<A, R, B, G, L>(
     backend: &mut B,
     gate: &G,
     texts: &[Seq<u8>],
-    run: Run,
+    run: TickOutcome,
     steps: &mut Steps<L>,
-) -> Result<Run, NoMemory>
+) -> Result<TickOutcome, NoMemory>
 where
     A: Actor<Shot = B::Shot>,
     R: Threads + Sync,
@@ -73,9 +73,9 @@ fn run_one<A, R, B, G, L>(
     backend: &mut B,
     gate: &G,
     text: &[u8],
-    run: Run,
+    run: TickOutcome,
     steps: &mut Steps<L>,
-) -> Result<Run, NoMemory>
+) -> Result<TickOutcome, NoMemory>
 where
     A: Actor<Shot = B::Shot>,
     R: Threads + Sync,
@@ -102,17 +102,17 @@ where
     run.goes_on(end)
 }
 
-impl Run {
+impl TickOutcome {
     /// What one statement more came to stands behind it.
-    fn goes_on(self, end: StepEnd) -> Result<Run, NoMemory>
+    fn goes_on(self, end: StepEnd) -> Result<TickOutcome, NoMemory>
         ensures { GoesOnBy self end result }
     {
         match end {
-            StepEnd::Reply(more) => Ok(Run {
+            StepEnd::Reply(more) => Ok(TickOutcome {
                 reply: put_behind(self.reply, &more)?,
                 failed: self.failed,
             }),
-            StepEnd::DiskFault(more) => Ok(Run {
+            StepEnd::DiskFault(more) => Ok(TickOutcome {
                 reply: put_behind(self.reply, &more)?,
                 failed: true,
             }),

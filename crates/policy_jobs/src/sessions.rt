@@ -9,7 +9,7 @@ ghost use Rattle.ts_sessions.specs.Places.{Block as BlockPlace, block_kind, none
 ghost use Rattle.ts_sessions.specs.Sessions.{AnswersSo, IfAnswered, IsReply, Stepped};
 ghost use Rattle.ts_sessions.specs.Step.{block_refusal, misread as misread_as};
 ghost use Rattle.ts_model.specs.Numbers.{bad_time};
-ghost use Rattle.policy_jobs.specs.Policies.{ticked};
+ghost use Rattle.policy_jobs.specs.Policies.{policies_after_tick};
 ghost use Rattle.policy_jobs.specs.Runs.{RunsTo};
 ghost use Rattle.policy_jobs.specs.Sessions.{HoldsOf, places_in};
 ghost use Rattle.policy_jobs.specs.Turns.{adds_policy, lets_pass, misses_time, runs_due, ticks};
@@ -19,7 +19,7 @@ use crate::jobs::Job;
 use crate::kept::KeptPolicies;
 use crate::policies::{Policy, due_texts};
 use crate::reading::{PolicyRead, read_policy};
-use crate::runs::{Run, run_all};
+use crate::runs::{TickOutcome, run_all};
 use crate::statements::PolicyStmt;
 use result_text::Said;
 use std::alloc::Global;
@@ -28,7 +28,7 @@ use stmt_reader::Fault;
 use ts_bucket::{MAX_TIME, MIN_TIME};
 use ts_model::{Backend, Gate, Refusal, Shown, codes};
 use ts_schema::{Name, NoMemory, Steps};
-use ts_sessions::{Actor, Block, Reply, StepEnd, bare, placed, replied, write_reply};
+use ts_sessions::{Actor, Block, Reply, StepEnd, bare, step_end, text_refusal, write_reply};
 
 /// A session with policies: an actor, which executes every line that is none on policies, and the policies
 /// that were added, in the order of adding. They live as long as it does.
@@ -172,7 +172,7 @@ impl<A: Actor> PolicySession<A> {
         match self.run_due(rt, alloc, backend, gate, now, steps) {
             Ok(run) => {
                 self.mark(now);
-                replied(run.reply, run.failed)
+                step_end(run.reply, run.failed)
             }
             Err(NoMemory) => StepEnd::NoMemory,
         }
@@ -180,7 +180,7 @@ impl<A: Actor> PolicySession<A> {
 
     /// What is due at a time has run then.
     fn mark(&mut self, now: i64)
-        ensures policies { self.new.policies ≡ ticked now self.old.policies }
+        ensures policies { self.new.policies ≡ policies_after_tick now self.old.policies }
         ensures actor { self.new.actor ≡ self.old.actor }
     {
         self.policies.mark(now);
@@ -209,7 +209,7 @@ impl<A: Actor> PolicySession<A> {
         gate: &G,
         now: i64,
         steps: &mut Steps<L>,
-    ) -> Result<Run, NoMemory>
+    ) -> Result<TickOutcome, NoMemory>
         requires sync { IsSync R.row }
         requires time { is_time_of now ≡ true }
         requires outside { A.within (A.places self.old.actor) ≡ none }
@@ -231,7 +231,7 @@ impl<A: Actor> PolicySession<A> {
             due: texts.len() as u64,
         };
         let reply = write_line(alloc, self.actor.name(), line)?;
-        let run = Run {
+        let run = TickOutcome {
             reply,
             failed: false,
         };
@@ -282,9 +282,9 @@ pub(crate) fn misread(fault: Fault) -> Refusal
     ensures { result ≡ misread_as fault }
 {
     match fault {
-        Fault::NoToken(place) => placed(codes::NO_TOKEN, place),
-        Fault::Syntax(place) => placed(codes::SYNTAX, place),
-        Fault::BadNumber(place) => placed(codes::BAD_NUMBER, place),
+        Fault::NoToken(place) => text_refusal(codes::NO_TOKEN, place),
+        Fault::Syntax(place) => text_refusal(codes::SYNTAX, place),
+        Fault::BadNumber(place) => text_refusal(codes::BAD_NUMBER, place),
     }
 }
 

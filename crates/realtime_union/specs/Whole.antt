@@ -10,8 +10,8 @@ use Rattle.ts_model.specs.Rows.{in_order}
 use Rattle.realtime_union.specs.Live.{all_times}
 
 -- the rows that pass every test, in row order, with all their columns, where the time column is at this place
-abbrev pub passing : ℕ → List Test → List Row → List (List Datum)
-passing at tests rows = map (all_columns at) (filter (λ row. passes_all row tests) (in_order rows))
+abbrev pub passing_rows : ℕ → List Test → List Row → List (List Datum)
+passing_rows at tests rows = map (all_columns at) (filter (λ row. passes_all row tests) (in_order rows))
 
 -- how many stored rows a scan of all times looks at
 abbrev pub all_reads : ℤ → List Row → ℕ

@@ -7,7 +7,7 @@ ghost use Rattle.ts_model.specs.Answers.{all_columns};
 ghost use Rattle.ts_model.specs.Rows.{in_order};
 ghost use Rattle.ts_num.specs.Aggregates.{shown_or_null};
 ghost use Rattle.group_fold.specs.Spans.{HaveTimes};
-ghost use Rattle.realtime_union.specs.Whole.{all_reads, passing};
+ghost use Rattle.realtime_union.specs.Whole.{all_reads, passing_rows};
 
 use crate::tables::whole_time;
 use cell_rows::CellRows;
@@ -28,7 +28,7 @@ pub fn passing_rows<W: RowsAt, L>(
     steps: &mut Steps<L>,
 ) -> Result<ResultRows, NoMemory>
     requires times { HaveTimes (W.visible rows.now table) }
-    ensures rows { IfOk result (λ shown. shown ≡ passing at tests.now (W.visible rows.now table)) }
+    ensures rows { IfOk result (λ shown. shown ≡ passing_rows at tests.now (W.visible rows.now table)) }
     ensures read { Ticks result (all_reads (W.interval rows.now table) (W.stored rows.now table)) steps.old steps.new }
 {
     let _so_far = steps.count();
@@ -118,14 +118,14 @@ fn put_part(vals: &Values, from: usize, to: usize, cells: &mut Vec<Datum>) -> Re
         ++ map shown_or_null (take (to - from) (drop from vals.now))) }
 {
     for i in from..to {
-        cells.push(shown(vals.get(i)))?;
+        cells.push(number_or_null(vals.get(i)))?;
     }
     Ok(())
 }
 
 /// A number as it is shown, or NULL.
 #[inline(always)]
-fn shown(value: Option<i64>) -> Datum
+fn number_or_null(value: Option<i64>) -> Datum
     ensures { result ≡ shown_or_null value }
 {
     match value {

@@ -7,7 +7,7 @@ use Rattle.ts_bucket.specs.Spans.{meets}
 use Rattle.ts_bucket.specs.Touches.{log_touch}
 use Rattle.ts_bucket.proofs.PositionLaws.{later-none, later-assoc, above_last-later, above_last-nothing}
 use Rattle.inval_log.specs.declared.entries.Entry.{Entry}
-use Rattle.mat_log.specs.Feeding.{pending_after, pending_after_all, are_rising, noted}
+use Rattle.mat_log.specs.Feeding.{pending_after, pending_after_all, are_rising, note_of}
 use Rattle.mat_log.proofs.FeedLaws.{rise_parts}
 
 -- there is no position, or it is at most n
@@ -39,12 +39,12 @@ upto_more n m None le u = u
 upto_more n m (Some p) le u = omega arith
 
 -- what is pending after entries whose positions rise from what is pending on is the later of what was pending and of the latest entry above the last refresh
-pub pending_after_all-touch : (w : WidthValue) (b : ℤ) (n : ℕ) (r : Option ℕ) (es : List Entry) (v : Option ℕ) → IsUpto n v → are_rising n es ≡ true → pending_after_all w b r es v ≡ later v (above_last r (log_touch w b (map noted es)))
+pub pending_after_all-touch : (w : WidthValue) (b : ℤ) (n : ℕ) (r : Option ℕ) (es : List Entry) (v : Option ℕ) → IsUpto n v → are_rising n es ≡ true → pending_after_all w b r es v ≡ later v (above_last r (log_touch w b (map note_of es)))
 pending_after_all-touch w b n r [] v u h = sym (ap (later v) (above_last-nothing r) ∙ later-none v)
 pending_after_all-touch w b n r (e ∷ es) v u h =
     let parts = rise_parts n e.pos (are_rising e.pos es) h in
     let upto : IsUpto e.pos v = upto_more n e.pos v parts.0 u in
-    let rest = log_touch w b (map noted es) in
+    let rest = log_touch w b (map note_of es) in
     pending_after_all-touch w b e.pos r es (pending_after w b r e v) (upto_after (meets w b e.hull) e.pos r v upto) parts.1
     ∙ ap (λ x. later x (above_last r rest)) (one_after (meets w b e.hull) e.pos r v upto)
     ∙ later-assoc v (above_last r (cond (meets w b e.hull) (Some e.pos) None)) (above_last r rest)

@@ -36,7 +36,7 @@ fn fed_logs(
 }
 
 /// An empty log whose threshold is that of a log, or `hi` where that is higher.
-fn emptied(alloc: Global, log: &InvalLog, hi: i64) -> InvalLog
+fn empty_log(alloc: Global, log: &InvalLog, hi: i64) -> InvalLog
     ensures threshold { result.threshold ≡ int_max log.now.threshold hi }
     ensures entries { result.entries ≡ [] }
 {
@@ -57,7 +57,7 @@ pub fn cut(alloc: Global, log: &InvalLog, mats: &Seq<MatLog>, hi: i64) -> Result
 {
     let mats = fed_logs(alloc, mats.items(), log.entries())?;
     Ok(CutParts {
-        log: emptied(alloc, log, hi),
+        log: empty_log(alloc, log, hi),
         mats,
     })
 }

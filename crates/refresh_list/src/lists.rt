@@ -78,7 +78,7 @@ fn state_of(refresh: Refresh) -> Pending
 }
 
 /// A refresh that an event finished, unless it was finished before.
-fn marked(refresh: Refresh, by: u64) -> Refresh
+fn finish_at(refresh: Refresh, by: u64) -> Refresh
     ensures { result ≡ finished_one by refresh }
 {
     let by = match refresh.stage {
@@ -104,8 +104,8 @@ fn with_mark(
 {
     // A length that is read has 64 bits.
     let _many = list.len();
-    let marked = marked(*list.get(place), by);
-    list.replaced(place, place + 1, &[marked])
+    let marked = finish_at(*list.get(place), by);
+    list.replace(place, place + 1, &[marked])
 }
 
 impl Refreshes {
@@ -126,7 +126,7 @@ impl Refreshes {
         let mut list = BlockList::new(alloc);
         push_together(&mut list, waiting, done)?;
         Ok(Refreshes {
-            list: list.shared()?,
+            list: list.share()?,
         })
     }
 
@@ -181,13 +181,13 @@ impl Refreshes {
             stage: Stage::Waits { view, span },
         })?;
         Ok(Refreshes {
-            list: list.shared()?,
+            list: list.share()?,
         })
     }
 
     /// The refreshes after the event with number `by` finished the one with number `cut`, unless it was
     /// finished before.
-    pub fn finished(&self, cut: u64, by: u64) -> Result<Refreshes, NoMemory>
+    pub fn with_finish(&self, cut: u64, by: u64) -> Result<Refreshes, NoMemory>
         ensures finished { IfOk result (λ new. new ≡ map (finished_at cut by) self.now) }
     {
         match place_of(&self.list, cut) {

@@ -10,43 +10,43 @@ pub record Entry : Type 0 where
   pub word : List ℕ
   pub tail : Tail
 
-abbrev pub named : List ℕ → Tail → Entry
-named word tail = record { word = word; tail = tail }
+abbrev pub entry_named : List ℕ → Tail → Entry
+entry_named word tail = record { word = word; tail = tail }
 
 -- the table of refusals; a number that isn't in it has no word of its own
 abbrev pub entry_of : ℕ → Entry
 entry_of code =
-    if code == line_long then named (codes "line_long") Bare
-    else if code == not_ascii then named (codes "not_ascii") Bare
-    else if code == no_session then named (codes "no_session") Bare
-    else if code == no_token then named (codes "no_token") Place
-    else if code == syntax then named (codes "syntax") Place
-    else if code == no_relation then named (codes "no_relation") Position
-    else if code == name_taken then named (codes "name_taken") Position
-    else if code == no_column then named (codes "no_column") Position
-    else if code == bad_time then named (codes "bad_time") Position
-    else if code == bad_number then named (codes "bad_number") Place
-    else if code == value_count then named (codes "value_count") Position
-    else if code == null_value then named (codes "null_value") Position
-    else if code == not_hypertable then named (codes "not_hypertable") Position
-    else if code == bad_width then named (codes "bad_width") Position
-    else if code == no_bucket then named (codes "no_bucket") Position
-    else if code == in_write_block then named (codes "in_write_block") Bare
-    else if code == in_read_block then named (codes "in_read_block") Bare
-    else if code == no_block then named (codes "no_block") Bare
-    else if code == no_refresh then named (codes "no_refresh") Finish
-    else if code == no_snapshot then named (codes "no_snapshot") Position
-    else if code == too_many then named (codes "too_many") Count
-    else if code == not_aggregate then named (codes "not_aggregate") Position
-    else if code == too_many_sessions then named (codes "too_many_sessions") Bare
-    else if code == stopped then named (codes "stopped") Position
-    else if code == image_long then named (codes "image_long") Bytes
-    else if code == bad_policy then named (codes "bad_policy") Position
-    else if code == too_many_policies then named (codes "too_many_policies") Count
-    else if code == bad_rollup then named (codes "bad_rollup") Position
-    else if code == bad_unit then named (codes "bad_unit") Position
-    else if code == history_full then named (codes "history_full") Position
-    else named (codes "unnamed") Bare
+    if code == line_long then entry_named (codes "line_long") Bare
+    else if code == not_ascii then entry_named (codes "not_ascii") Bare
+    else if code == no_session then entry_named (codes "no_session") Bare
+    else if code == no_token then entry_named (codes "no_token") Place
+    else if code == syntax then entry_named (codes "syntax") Place
+    else if code == no_relation then entry_named (codes "no_relation") Position
+    else if code == name_taken then entry_named (codes "name_taken") Position
+    else if code == no_column then entry_named (codes "no_column") Position
+    else if code == bad_time then entry_named (codes "bad_time") Position
+    else if code == bad_number then entry_named (codes "bad_number") Place
+    else if code == value_count then entry_named (codes "value_count") Position
+    else if code == null_value then entry_named (codes "null_value") Position
+    else if code == not_hypertable then entry_named (codes "not_hypertable") Position
+    else if code == bad_width then entry_named (codes "bad_width") Position
+    else if code == no_bucket then entry_named (codes "no_bucket") Position
+    else if code == in_write_block then entry_named (codes "in_write_block") Bare
+    else if code == in_read_block then entry_named (codes "in_read_block") Bare
+    else if code == no_block then entry_named (codes "no_block") Bare
+    else if code == no_refresh then entry_named (codes "no_refresh") Finish
+    else if code == no_snapshot then entry_named (codes "no_snapshot") Position
+    else if code == too_many then entry_named (codes "too_many") Count
+    else if code == not_aggregate then entry_named (codes "not_aggregate") Position
+    else if code == too_many_sessions then entry_named (codes "too_many_sessions") Bare
+    else if code == stopped then entry_named (codes "stopped") Position
+    else if code == image_long then entry_named (codes "image_long") Bytes
+    else if code == bad_policy then entry_named (codes "bad_policy") Position
+    else if code == too_many_policies then entry_named (codes "too_many_policies") Count
+    else if code == bad_rollup then entry_named (codes "bad_rollup") Position
+    else if code == bad_unit then entry_named (codes "bad_unit") Position
+    else if code == history_full then entry_named (codes "history_full") Position
+    else entry_named (codes "unnamed") Bare
 
 -- the position looked at
 abbrev pub position_text : ℕ → List ℕ

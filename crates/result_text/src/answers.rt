@@ -182,7 +182,7 @@ fn put_group(text: &mut Text, row: &GroupRow<'_>) -> Result<(), NoMemory>
     ensures written { OnOk result (text.new.after ≡ text.old.after ++ cells_text (group_cells row.now)) }
     ensures kept { text.new.before ≡ text.old.before }
 {
-    text.signed(i128::from(row.start))?;
+    text.push_signed(i128::from(row.start))?;
     put_keys(text, row.keys)?;
     put_parts(text, row.aggs, row.parts)
 }
@@ -205,7 +205,7 @@ fn put_key(text: &mut Text, key: Option<i64>) -> Result<(), NoMemory>
     ensures kept { text.new.before ≡ text.old.before }
 {
     match key {
-        Some(key) => text.signed(i128::from(key)),
+        Some(key) => text.push_signed(i128::from(key)),
         None => text.datum(&Datum::Null),
     }
 }

@@ -192,7 +192,7 @@ fn put_spaced(text: &mut Text, n: i64) -> Result<(), NoMemory>
     ensures kept { text.new.before ≡ text.old.before }
 {
     text.bytes(b" ")?;
-    text.signed(i128::from(n))
+    text.push_signed(i128::from(n))
 }
 
 /// Appends a space and the name of the column at a place, where it is there.

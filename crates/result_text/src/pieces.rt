@@ -82,7 +82,7 @@ impl Text {
 
     /// Appends a whole number with its sign.
     #[tactic(auto, using(crate::proofs::Writing::appended_behind))]
-    pub(crate) fn signed(&mut self, n: i128) -> Result<(), NoMemory>
+    pub(crate) fn push_signed(&mut self, n: i128) -> Result<(), NoMemory>
         ensures written { OnOk result (self.new.after ≡ self.old.after ++ signed_decimal n) }
         ensures kept { self.new.before ≡ self.old.before }
     {

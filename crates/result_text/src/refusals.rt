@@ -120,7 +120,7 @@ fn put_finish(text: &mut Text, finish: u64) -> Result<(), NoMemory>
 }
 
 /// A word and a tail.
-fn named(word: &'static [u8], tail: Tail) -> Entry
+fn entry_named(word: &'static [u8], tail: Tail) -> Entry
     ensures word { result.word.now ≡ word.now }
     ensures tail { result.tail ≡ tail }
 {
@@ -133,36 +133,36 @@ fn entry_for(code: u8) -> Entry
     ensures tail { result.tail ≡ (entry_of code).tail }
 {
     match code {
-        codes::LINE_LONG => named(b"line_long", Tail::Bare),
-        codes::NOT_ASCII => named(b"not_ascii", Tail::Bare),
-        codes::NO_SESSION => named(b"no_session", Tail::Bare),
-        codes::NO_TOKEN => named(b"no_token", Tail::Place),
-        codes::SYNTAX => named(b"syntax", Tail::Place),
-        codes::NO_RELATION => named(b"no_relation", Tail::Position),
-        codes::NAME_TAKEN => named(b"name_taken", Tail::Position),
-        codes::NO_COLUMN => named(b"no_column", Tail::Position),
-        codes::BAD_TIME => named(b"bad_time", Tail::Position),
-        codes::BAD_NUMBER => named(b"bad_number", Tail::Place),
-        codes::VALUE_COUNT => named(b"value_count", Tail::Position),
-        codes::NULL_VALUE => named(b"null_value", Tail::Position),
-        codes::NOT_HYPERTABLE => named(b"not_hypertable", Tail::Position),
-        codes::BAD_WIDTH => named(b"bad_width", Tail::Position),
-        codes::NO_BUCKET => named(b"no_bucket", Tail::Position),
-        codes::IN_WRITE_BLOCK => named(b"in_write_block", Tail::Bare),
-        codes::IN_READ_BLOCK => named(b"in_read_block", Tail::Bare),
-        codes::NO_BLOCK => named(b"no_block", Tail::Bare),
-        codes::NO_REFRESH => named(b"no_refresh", Tail::Finish),
-        codes::NO_SNAPSHOT => named(b"no_snapshot", Tail::Position),
-        codes::TOO_MANY => named(b"too_many", Tail::Count),
-        codes::NOT_AGGREGATE => named(b"not_aggregate", Tail::Position),
-        codes::TOO_MANY_SESSIONS => named(b"too_many_sessions", Tail::Bare),
-        codes::STOPPED => named(b"stopped", Tail::Position),
-        codes::IMAGE_LONG => named(b"image_long", Tail::Bytes),
-        codes::BAD_POLICY => named(b"bad_policy", Tail::Position),
-        codes::TOO_MANY_POLICIES => named(b"too_many_policies", Tail::Count),
-        codes::BAD_ROLLUP => named(b"bad_rollup", Tail::Position),
-        codes::BAD_UNIT => named(b"bad_unit", Tail::Position),
-        codes::HISTORY_FULL => named(b"history_full", Tail::Position),
-        _ => named(b"unnamed", Tail::Bare),
+        codes::LINE_LONG => entry_named(b"line_long", Tail::Bare),
+        codes::NOT_ASCII => entry_named(b"not_ascii", Tail::Bare),
+        codes::NO_SESSION => entry_named(b"no_session", Tail::Bare),
+        codes::NO_TOKEN => entry_named(b"no_token", Tail::Place),
+        codes::SYNTAX => entry_named(b"syntax", Tail::Place),
+        codes::NO_RELATION => entry_named(b"no_relation", Tail::Position),
+        codes::NAME_TAKEN => entry_named(b"name_taken", Tail::Position),
+        codes::NO_COLUMN => entry_named(b"no_column", Tail::Position),
+        codes::BAD_TIME => entry_named(b"bad_time", Tail::Position),
+        codes::BAD_NUMBER => entry_named(b"bad_number", Tail::Place),
+        codes::VALUE_COUNT => entry_named(b"value_count", Tail::Position),
+        codes::NULL_VALUE => entry_named(b"null_value", Tail::Position),
+        codes::NOT_HYPERTABLE => entry_named(b"not_hypertable", Tail::Position),
+        codes::BAD_WIDTH => entry_named(b"bad_width", Tail::Position),
+        codes::NO_BUCKET => entry_named(b"no_bucket", Tail::Position),
+        codes::IN_WRITE_BLOCK => entry_named(b"in_write_block", Tail::Bare),
+        codes::IN_READ_BLOCK => entry_named(b"in_read_block", Tail::Bare),
+        codes::NO_BLOCK => entry_named(b"no_block", Tail::Bare),
+        codes::NO_REFRESH => entry_named(b"no_refresh", Tail::Finish),
+        codes::NO_SNAPSHOT => entry_named(b"no_snapshot", Tail::Position),
+        codes::TOO_MANY => entry_named(b"too_many", Tail::Count),
+        codes::NOT_AGGREGATE => entry_named(b"not_aggregate", Tail::Position),
+        codes::TOO_MANY_SESSIONS => entry_named(b"too_many_sessions", Tail::Bare),
+        codes::STOPPED => entry_named(b"stopped", Tail::Position),
+        codes::IMAGE_LONG => entry_named(b"image_long", Tail::Bytes),
+        codes::BAD_POLICY => entry_named(b"bad_policy", Tail::Position),
+        codes::TOO_MANY_POLICIES => entry_named(b"too_many_policies", Tail::Count),
+        codes::BAD_ROLLUP => entry_named(b"bad_rollup", Tail::Position),
+        codes::BAD_UNIT => entry_named(b"bad_unit", Tail::Position),
+        codes::HISTORY_FULL => entry_named(b"history_full", Tail::Position),
+        _ => entry_named(b"unnamed", Tail::Bare),
     }
 }

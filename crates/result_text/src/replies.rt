@@ -270,7 +270,7 @@ fn put_tick(text: &mut Text, time: i64, due: u64) -> Result<(), NoMemory>
     ensures kept { text.new.before ≡ text.old.before }
 {
     text.bytes(b"TICK ")?;
-    text.signed(i128::from(time))?;
+    text.push_signed(i128::from(time))?;
     text.bytes(b" due ")?;
     text.number(due)?;
     text.bytes(b"\n")

@@ -13,7 +13,7 @@ pub(crate) fn put_span(text: &mut Text, min: i64, span: Span) -> Result<(), NoMe
 {
     put_start(text, min, span.lo)?;
     text.bytes(b"..")?;
-    text.signed(i128::from(span.hi))
+    text.push_signed(i128::from(span.hi))
 }
 
 /// Appends a range that ends a line.
@@ -34,6 +34,6 @@ fn put_start(text: &mut Text, min: i64, lo: i64) -> Result<(), NoMemory>
     if lo == min {
         text.bytes(b"min")
     } else {
-        text.signed(i128::from(lo))
+        text.push_signed(i128::from(lo))
     }
 }

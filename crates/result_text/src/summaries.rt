@@ -90,6 +90,6 @@ fn put_total(text: &mut Text, total: i128) -> Result<(), NoMemory>
     ensures kept { text.new.before ≡ text.old.before }
 {
     text.bytes(b"total ")?;
-    text.signed(total)?;
+    text.push_signed(total)?;
     text.bytes(b"\n")
 }

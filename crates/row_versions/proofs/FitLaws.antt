@@ -12,7 +12,7 @@ use Rattle.ts_model.specs.History.{◌▸◌, position, prefix}
 use Rattle.ts_model.specs.Roster.{roster, table_of, of_hyper, of_table}
 use Rattle.ts_model.specs.Rows.{in_order, rows}
 use Rattle.ts_model.specs.Effect.{all_appended}
-use Rattle.ts_model.specs.Reads.{inserted}
+use Rattle.ts_model.specs.Reads.{rows_inserted}
 use Rattle.ts_model.specs.Sound.{row_fits}
 use Rattle.ts_model.proofs.FitLaws.{rows_are_times, rows_fit_tables}
 use Rattle.row_versions.specs.Laws.{TablesBegin, CommitsFit}
@@ -29,13 +29,13 @@ no_rows o (x ∷ xs) e ok = absurd (true≢false (sym (and_parts (of_table (λ d
 pub tables_begin : TablesBegin
 tables_begin t h table ok none empty = record {
   seen = λ q. rw empty (no_rows (table_of (roster h) t) (rows t (prefix h q)) none (rows_fit_tables.rows t h q ok));
-  stored = rw empty (ap in_order (no_rows (table_of (roster h) t) (inserted t h) none (rows_fit_tables.inserted t h ok)));
+  stored = rw empty (ap in_order (no_rows (table_of (roster h) t) (rows_inserted t h) none (rows_fit_tables.inserted t h ok)));
   up_to = rw empty refl;
 }
 
 pub commits_fit : CommitsFit
 commits_fit t h ops table held ok = record {
   up_to = up_to_more (position h) (suc (position h)) table.versions (omega arith) held.up_to;
-  times = (and_parts (list_all (λ row. is_time row.at) (inserted t h)) (list_all (λ row. is_time row.at) (all_appended t ops))
-      (sym (list_all-append (λ row. is_time row.at) (inserted t h) (all_appended t ops)) ∙ rows_are_times.inserted t (h ▸ Commit ops) ok)).1;
+  times = (and_parts (list_all (λ row. is_time row.at) (rows_inserted t h)) (list_all (λ row. is_time row.at) (all_appended t ops))
+      (sym (list_all-append (λ row. is_time row.at) (rows_inserted t h) (all_appended t ops)) ∙ rows_are_times.inserted t (h ▸ Commit ops) ok)).1;
 }

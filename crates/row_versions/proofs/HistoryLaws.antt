@@ -24,7 +24,7 @@ use Rattle.std.proofs.lemmas.List.{append-nil}
 use Rattle.ts_model.specs.History.{History, ◌▸◌, position, prefix}
 use Rattle.ts_model.specs.Rows.{with_row, with_rows, in_order, after_ops, rows}
 use Rattle.ts_model.specs.Effect.{all_appended}
-use Rattle.ts_model.specs.Reads.{inserted, spans_meet}
+use Rattle.ts_model.specs.Reads.{rows_inserted, spans_meet}
 use Rattle.ts_bucket.specs.Chunks.{chunk_of}
 use Rattle.ts_model.specs.Windows.{last_end}
 use Rattle.ts_model.proofs.HistoryLaws.{prefix_end}
@@ -56,7 +56,7 @@ module _ (t : ℕ) (h : History) (ops : List Op) (old new : ChunksValue) (held :
   pub commit_held : Holds t (h ▸ Commit ops) new
   commit_held = record {
     seen = λ q. seen_at q (nat_lt (position h) q) refl;
-    stored = follows.stored ∙ same_before (rows_of old.versions) (inserted t h) (all_appended t ops) held.stored;
+    stored = follows.stored ∙ same_before (rows_of old.versions) (rows_inserted t h) (all_appended t ops) held.stored;
     up_to = follows.up_to;
   }
 
@@ -105,7 +105,7 @@ same_rows t h (Commit ops) quiet = absurd (true≢false quiet)
 same_rows t h (Cut v span) quiet = refl
 same_rows t h (Built cut snap) quiet = refl
 
-same_inserted : (t : ℕ) (h : History) (e : Event) → is_commit e ≡ false → inserted t (h ▸ e) ≡ inserted t h
+same_inserted : (t : ℕ) (h : History) (e : Event) → is_commit e ≡ false → rows_inserted t (h ▸ e) ≡ rows_inserted t h
 same_inserted t h (Table def) quiet = refl
 same_inserted t h (Hyper u hyper) quiet = refl
 same_inserted t h (View def) quiet = refl
@@ -191,7 +191,7 @@ latest_seen t h table q held = sym (latest_of-in_order (visible_rows q table.ver
 pub held_tables_tell : HeldTablesTell
 held_tables_tell t h table held = record {
   rows_are = λ q s. sym (filter-in_order (λ row. in_span s row.at) (visible_rows q table.versions)) ∙ ap (filter (λ row. in_span s row.at)) (held.seen q);
-  read = λ interval spans. count_alike (λ row. list_any (spans_meet (chunk_of interval row.at)) spans) (rows_of table.versions) (inserted t h) held.stored;
+  read = λ interval spans. count_alike (λ row. list_any (spans_meet (chunk_of interval row.at)) spans) (rows_of table.versions) (rows_inserted t h) held.stored;
   latest = λ q. latest_seen t h table q held;
   last_bucket = λ q w width. ap (option_map (λ time. bucket_of w time +ℤ w.step)) (latest_seen t h table q held) ∙ last_end_is w (rows t (prefix h q)) width;
 }

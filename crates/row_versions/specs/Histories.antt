@@ -2,7 +2,7 @@
 use Rattle.std.specs.Prelude.{◌≡◌, ℕ}
 use Rattle.ts_model.specs.History.{History, position, prefix}
 use Rattle.ts_model.specs.Rows.{in_order, rows}
-use Rattle.ts_model.specs.Reads.{inserted}
+use Rattle.ts_model.specs.Reads.{rows_inserted}
 use Rattle.seg_rows.specs.Versions.{rows_of}
 use Rattle.chunk_catalog.specs.Chunks.{ChunksValue}
 use Rattle.row_versions.specs.Tables.{rows_seen, IsUpTo}
@@ -12,5 +12,5 @@ use Rattle.row_versions.specs.Tables.{rows_seen, IsUpTo}
 -- are stored, removed or not, and no change is later than the history
 pub record Holds (t : ℕ) (h : History) (table : ChunksValue) : Type 0 where
   pub seen : (q : ℕ) → rows_seen q table ≡ rows t (prefix h q)
-  pub stored : in_order (rows_of table.versions) ≡ in_order (inserted t h)
+  pub stored : in_order (rows_of table.versions) ≡ in_order (rows_inserted t h)
   pub up_to : IsUpTo (position h) table.versions

@@ -12,7 +12,7 @@ use Rattle.ts_model.specs.declared.events.Op.{Op}
 use Rattle.ts_model.specs.History.{History, ◌▸◌, position, prefix}
 use Rattle.ts_model.specs.Roster.{roster, hyper_of}
 use Rattle.ts_model.specs.Rows.{in_order, rows}
-use Rattle.ts_model.specs.Reads.{inserted, rows_near}
+use Rattle.ts_model.specs.Reads.{rows_inserted, rows_near}
 use Rattle.ts_model.specs.Allowed.{all_consistent}
 use Rattle.ts_model.specs.Windows.{last_end}
 use Rattle.seg_rows.specs.Versions.{rows_of, latest_at, latest_of}
@@ -78,7 +78,7 @@ pub record Tells (t : ℕ) (h : History) (table : ChunksValue) : Type 0 where
       → in_order (rows_of_span s (visible_rows q table.versions)) ≡ rows_of_span s (rows t (prefix h q))
   -- as many stored rows are in chunks that meet these spans as inserted ones
   pub read : (interval : ℤ) (spans : List Span)
-      → rows_near interval (rows_of table.versions) spans ≡ rows_near interval (inserted t h) spans
+      → rows_near interval (rows_of table.versions) spans ≡ rows_near interval (rows_inserted t h) spans
   -- the greatest visible time is that of the rows there, and the bucket that holds it is the last one with a row
   pub latest : (q : ℕ) → latest_at q table.versions ≡ latest_of (rows t (prefix h q))
   pub last_bucket : (q : ℕ) (w : Width) → IsWidth w

@@ -21,7 +21,7 @@ use Rattle.ts_sessions.specs.Procedures.{Procedure}
 use Rattle.ts_sessions.specs.Held.{GoesOn}
 use Rattle.ts_sessions.specs.Places.{Turn}
 use Rattle.ts_sessions.specs.Step.{bare}
-use Rattle.ts_sessions.specs.Script.{Semantics, LineResult, ScriptState, text_of, has_fault, takes_turn, with_places, places_of, executes, executes_kind, executes_as, refused, refused_line}
+use Rattle.ts_sessions.specs.Script.{Semantics, LineResult, ScriptState, text_of, has_fault, takes_turn, with_places, places_of, executes, executes_kind, executes_as, line_of_refusal, refused_line}
 use Rattle.ts_model.specs.Limits.{most_sessions}
 use Rattle.stmt_syntax.specs.Limits.{longest_line}
 use Rattle.ts_sessions.specs.Sessions.{IfAnswered, Stepped}
@@ -124,16 +124,16 @@ module _ {P : Type 0} (end : StepEnd) (old new : State) (script_state : ScriptSt
   as_missing semantics s name text skip o missing l = subst (λ o. Comes (executes_as semantics s name text skip o)) (sym missing) l
 
   -- a new session where there is no room for it
-  pub as_many : (semantics : Semantics P) (s : ScriptState P) (name text : List ℕ) (skip : ℕ) → most_sessions ≤ length s.sessions → Comes (refused s (reply_text name (said.Fault (bare too_many_sessions)))) → Comes (executes_as semantics s name text skip None)
+  pub as_many : (semantics : Semantics P) (s : ScriptState P) (name text : List ℕ) (skip : ℕ) → most_sessions ≤ length s.sessions → Comes (line_of_refusal s (reply_text name (said.Fault (bare too_many_sessions)))) → Comes (executes_as semantics s name text skip None)
   as_many semantics s name text skip many l =
       let full : nat_lt (length s.sessions) most_sessions ≡ false = le-ltb (length s.sessions) most_sessions many in
-      subst (λ b. Comes (cond b (takes_turn s name (semantics.does (semantics.opening (length s.sessions)) text skip)) (refused s (reply_text name (said.Fault (bare too_many_sessions)))))) (sym full) l
+      subst (λ b. Comes (cond b (takes_turn s name (semantics.does (semantics.opening (length s.sessions)) text skip)) (line_of_refusal s (reply_text name (said.Fault (bare too_many_sessions)))))) (sym full) l
 
   -- and where there is
   pub as_few : (semantics : Semantics P) (s : ScriptState P) (name own text : List ℕ) (skip : ℕ) → own ≡ name → length s.sessions < most_sessions → Comes (takes_turn s own (semantics.does (semantics.opening (length s.sessions)) text skip)) → Comes (executes_as semantics s name text skip None)
   as_few semantics s name own text skip named few l =
       let room : nat_lt (length s.sessions) most_sessions ≡ true = lt-ltb (length s.sessions) most_sessions few in
-      subst (λ b. Comes (cond b (takes_turn s name (semantics.does (semantics.opening (length s.sessions)) text skip)) (refused s (reply_text name (said.Fault (bare too_many_sessions)))))) (sym room)
+      subst (λ b. Comes (cond b (takes_turn s name (semantics.does (semantics.opening (length s.sessions)) text skip)) (line_of_refusal s (reply_text name (said.Fault (bare too_many_sessions)))))) (sym room)
       (subst (λ n. Comes (takes_turn s n (semantics.does (semantics.opening (length s.sessions)) text skip))) named l)
 
   -- a line of a kind that has at most 65,536 bytes
@@ -161,7 +161,7 @@ either_begins false h x y p q = q
 pub session_begins : {P : Type 0} (semantics : Semantics P) (s : ScriptState P) (name text : List ℕ) (skip : ℕ) (o : Option P) → Begins s.history (executes_as semantics s name text skip o).script_state.history
 session_begins semantics s name text skip (Some p) = turn_begins s name (semantics.does p text skip)
 session_begins semantics s name text skip None =
-    either_begins (nat_lt (length s.sessions) most_sessions) s.history (takes_turn s name (semantics.does (semantics.opening (length s.sessions)) text skip)) (refused s (reply_text name (said.Fault (bare too_many_sessions))))
+    either_begins (nat_lt (length s.sessions) most_sessions) s.history (takes_turn s name (semantics.does (semantics.opening (length s.sessions)) text skip)) (line_of_refusal s (reply_text name (said.Fault (bare too_many_sessions))))
     (turn_begins s name (semantics.does (semantics.opening (length s.sessions)) text skip)) same
 
 kind_begins : {P : Type 0} (semantics : Semantics P) (s : ScriptState P) (n : ℕ) (line : List ℕ) (kind : LineKind) → Begins s.history (executes_kind semantics s n line kind).script_state.history

@@ -13,11 +13,11 @@ use Rattle.ts_sessions.specs.Script.{Semantics, LineResult, ScriptState, execute
 use Rattle.ts_sessions.specs.Step.{bare}
 use Rattle.script_run.specs.declared.scripts.ScriptStop.{ScriptStop}
 use Rattle.script_run.specs.declared.scripts.ScriptStop.TheVariants.{WriteFault, DiskFault, NoMemory}
-use Rattle.script_run.specs.Went.{IsBetween, FailedBetween}
+use Rattle.script_run.specs.RunStates.{IsBetween, FailedBetween}
 use Rattle.script_run.specs.LineEnds.{LineWritten}
 use Rattle.script_run.specs.Stops.{EventFailed, LineCut, LineGivenUp, RefusalCut, ReplyCut}
 use Rattle.script_run.specs.Stopped.{end_of_input, end_of_stop}
-use Rattle.script_run.specs.Runs.{Executed, Left, Ran, ReadWhole, StoppedAtEvent, StoppedBefore, StoppedWithin, StoppedWriting, executed, has_fault, history_of, output_of, reads_of, script_state_after}
+use Rattle.script_run.specs.Runs.{Executed, Left, Ran, ReadWhole, StoppedAtEvent, StoppedBefore, StoppedWithin, StoppedWriting, executed_lines, has_fault, history_of, output_of, reads_of, script_state_after}
 use Rattle.script_run.proofs.Counting.{raised_twice}
 use Rattle.script_run.proofs.LineLaws.{line_begins, long_line}
 use Rattle.script_run.proofs.ScriptLaws.{final-append, output-append, reads-append, refused-append}
@@ -163,7 +163,7 @@ module _ {P : Type 0} (semantics : Semantics P) (h : History) where
         counted = subst (λ k. k ≤ after) p.counted l.counted;
       }
 
-      pub stops_at : (stop : ScriptStop) (input : List ℕ) (end_of_source : Option (List ℕ)) → lines ≡ executed input → LineCut stop (executes semantics (script_state_at s sessions) n line) s t (script_state_at t later) w v read after
+      pub stops_at : (stop : ScriptStop) (input : List ℕ) (end_of_source : Option (List ℕ)) → lines ≡ executed_lines input → LineCut stop (executes semantics (script_state_at s sessions) n line) s t (script_state_at t later) w v read after
           → Ran (end_of_stop stop) semantics h input end_of_source (left_at t v after)
       stops_at WriteFault input end_of_source e l = subst (λ ls. StoppedWriting semantics h ls (left_at t v after)) e (stops_writing l)
       stops_at DiskFault input end_of_source e l = subst (λ ls. StoppedAtEvent semantics h ls (left_at t v after)) e (stops_at_event l)
@@ -209,7 +209,7 @@ module _ {P : Type 0} (semantics : Semantics P) (h : History) where
   }
 
 -- a run that came to the end of its input
-pub end_ran : {P : Type 0} (refused : Bool) (semantics : Semantics P) (h : History) (input : List ℕ) (rest : Option (List ℕ)) (left : Left) → ReadWhole input rest → Executed semantics h (executed input) left → has_fault semantics h (executed input) ≡ refused
+pub end_ran : {P : Type 0} (refused : Bool) (semantics : Semantics P) (h : History) (input : List ℕ) (rest : Option (List ℕ)) (left : Left) → ReadWhole input rest → Executed semantics h (executed_lines input) left → has_fault semantics h (executed_lines input) ≡ refused
     → Ran (end_of_input refused) semantics h input rest left
 end_ran true semantics h input rest left whole done fault = (whole, done, fault)
 end_ran false semantics h input rest left whole done fault = (whole, done, fault)

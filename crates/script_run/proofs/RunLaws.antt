@@ -6,18 +6,18 @@ use Rattle.ts_io.specs.Lines.{lines_within}
 use Rattle.ts_io.specs.Reader.{ReadsLine, SkipsLong, SpendsAlike}
 use Rattle.ts_io.specs.declared.limits.TheConstants.{INPUT_LIMIT, LINE_LIMIT}
 use Rattle.ts_io.specs.declared.line_reader.LineEnd.TheVariants.{Line, LineLong, End, InputLong}
-use Rattle.script_run.specs.Runs.{ReadWhole, executed}
+use Rattle.script_run.specs.Runs.{ReadWhole, executed_lines}
 
 -- as many bytes of the input are gone as of its limit, and R holds of the lines that are executed and of those that are left
 abbrev pub OfInput : Option (List ℕ) → ℕ → Option (List ℕ) → (List (List ℕ) → List (List ℕ) → Type 0) → Type 0
 OfInput None n now R = ⊤
 OfInput (Some input) n None R = ⊥
-OfInput (Some input) n (Some text) R = (length input + n ≡ length text + INPUT_LIMIT) × R (executed input) (lines_within n text)
+OfInput (Some input) n (Some text) R = (length input + n ≡ length text + INPUT_LIMIT) × R (executed_lines input) (lines_within n text)
 
 -- at the start all lines are left
 pub input_first : (start : Option (List ℕ)) (held : List ℕ) (n : ℕ) (R : List (List ℕ) → List (List ℕ) → Type 0) → held ≡ [] → n ≡ INPUT_LIMIT → ((all : List (List ℕ)) → R all all) → OfInput start n (prepend_known held start) R
 input_first None held n R none whole first = tt
-input_first (Some input) held n R none whole first = rw (none, whole) (refl, first (executed input))
+input_first (Some input) held n R none whole first = rw (none, whole) (refl, first (executed_lines input))
 
 -- a run that ends before it began
 pub ends_first : (start : Option (List ℕ)) (Q : List ℕ → Type 0) → ((input : List ℕ) → Q input) → IfSome start Q
@@ -39,7 +39,7 @@ module _ (R : List (List ℕ) → List (List ℕ) → Type 0) (n m : ℕ) where
   input_line S (Some input) (Some text) None line shown e reads alike step t = absurd reads
   input_line S (Some input) (Some text) (Some rest) line shown e reads alike step t = (
     omega (arith, alike, t.0),
-    step (executed input) (lines_within m rest) (subst (λ l. R (executed input) (l ∷ lines_within m rest)) (sym e) (subst (λ ls. R (executed input) ls) reads.0 t.1)),
+    step (executed_lines input) (lines_within m rest) (subst (λ l. R (executed_lines input) (l ∷ lines_within m rest)) (sym e) (subst (λ ls. R (executed_lines input) ls) reads.0 t.1)),
   )
 
   -- the line that is too long is the next
@@ -53,31 +53,31 @@ module _ (R : List (List ℕ) → List (List ℕ) → Type 0) (n m : ℕ) where
   input_long_line S (Some input) None new line reads alike step t = absurd t
   input_long_line S (Some input) (Some text) None line reads alike step t = absurd reads
   input_long_line S (Some input) (Some text) (Some rest) line reads alike step t =
-      (omega (arith, alike, t.0), skipped S (executed input) (lines_within n text) (lines_within m rest) reads step t.1)
+      (omega (arith, alike, t.0), skipped S (executed_lines input) (lines_within n text) (lines_within m rest) reads step t.1)
 
   module _ (Q : List ℕ → Type 0) where
     -- a run that ends, whatever is left
-    pub ends_anywhere : (start left : Option (List ℕ)) → ((input : List ℕ) (rest : List (List ℕ)) → R (executed input) rest → Q input) → OfInput start n left R → IfSome start Q
+    pub ends_anywhere : (start left : Option (List ℕ)) → ((input : List ℕ) (rest : List (List ℕ)) → R (executed_lines input) rest → Q input) → OfInput start n left R → IfSome start Q
     ends_anywhere None left end t = tt
     ends_anywhere (Some input) None end t = absurd t
     ends_anywhere (Some input) (Some text) end t = end input (lines_within n text) t.1
 
     -- a run that ends at the line that was given
     pub ends_at_line : (start left new : Option (List ℕ)) (line shown : List ℕ) → shown ≡ line → ReadsLine Line n left m new line
-        → ((input : List ℕ) (rest : List (List ℕ)) → R (executed input) (shown ∷ rest) → Q input) → OfInput start n left R → IfSome start Q
+        → ((input : List ℕ) (rest : List (List ℕ)) → R (executed_lines input) (shown ∷ rest) → Q input) → OfInput start n left R → IfSome start Q
     ends_at_line None left new line shown e reads end t = tt
     ends_at_line (Some input) None new line shown e reads end t = absurd t
     ends_at_line (Some input) (Some text) None line shown e reads end t = absurd reads
     ends_at_line (Some input) (Some text) (Some rest) line shown e reads end t =
-        end input (lines_within m rest) (subst (λ l. R (executed input) (l ∷ lines_within m rest)) (sym e) (subst (λ ls. R (executed input) ls) reads.0 t.1))
+        end input (lines_within m rest) (subst (λ l. R (executed_lines input) (l ∷ lines_within m rest)) (sym e) (subst (λ ls. R (executed_lines input) ls) reads.0 t.1))
 
     -- a run that ends at a line that is too long
-    skipped_last : (input : List ℕ) (lines rest : List (List ℕ)) → SkipsLong lines rest → ((input : List ℕ) (rest : List (List ℕ)) (line : List ℕ) → LINE_LIMIT < length line → R (executed input) (line ∷ rest) → Q input) → R (executed input) lines → Q input
+    skipped_last : (input : List ℕ) (lines rest : List (List ℕ)) → SkipsLong lines rest → ((input : List ℕ) (rest : List (List ℕ)) (line : List ℕ) → LINE_LIMIT < length line → R (executed_lines input) (line ∷ rest) → Q input) → R (executed_lines input) lines → Q input
     skipped_last input [] rest s end r = absurd s
     skipped_last input (line ∷ lines) rest s end r = end input lines line s.0 r
 
     pub ends_at_long_line : (start left new : Option (List ℕ)) (line : List ℕ) → ReadsLine LineLong n left m new line
-        → ((input : List ℕ) (rest : List (List ℕ)) (line : List ℕ) → LINE_LIMIT < length line → R (executed input) (line ∷ rest) → Q input) → OfInput start n left R → IfSome start Q
+        → ((input : List ℕ) (rest : List (List ℕ)) (line : List ℕ) → LINE_LIMIT < length line → R (executed_lines input) (line ∷ rest) → Q input) → OfInput start n left R → IfSome start Q
     ends_at_long_line None left new line reads end t = tt
     ends_at_long_line (Some input) None new line reads end t = absurd t
     ends_at_long_line (Some input) (Some text) None line reads end t = absurd reads
@@ -85,18 +85,18 @@ module _ (R : List (List ℕ) → List (List ℕ) → Type 0) (n m : ℕ) where
 
     -- a run that ends where no line is left
     pub ends_last : (start left rest : Option (List ℕ)) (held line : List ℕ) → ReadsLine End n left m (prepend_known held rest) line
-        → ((input : List ℕ) → ReadWhole input rest → R (executed input) [] → Q input) → OfInput start n left R → IfSome start Q
+        → ((input : List ℕ) → ReadWhole input rest → R (executed_lines input) [] → Q input) → OfInput start n left R → IfSome start Q
     ends_last None left rest held line reads end t = tt
     ends_last (Some input) None rest held line reads end t = absurd t
     ends_last (Some input) (Some text) None held line reads end t = absurd reads
     ends_last (Some input) (Some text) (Some bytes) held line reads end t =
-        end input (record { within = omega (arith, ap length reads.1, t.0); at_end = end_of_all held bytes reads.2 }) (subst (λ ls. R (executed input) ls) reads.0 t.1)
+        end input (record { within = omega (arith, ap length reads.1, t.0); at_end = end_of_all held bytes reads.2 }) (subst (λ ls. R (executed_lines input) ls) reads.0 t.1)
 
     -- a run that ends beyond the limit of the input
     pub ends_beyond : (start left new : Option (List ℕ)) (line : List ℕ) → ReadsLine InputLong n left m new line
-        → ((input : List ℕ) → INPUT_LIMIT < length input → R (executed input) [] → Q input) → OfInput start n left R → IfSome start Q
+        → ((input : List ℕ) → INPUT_LIMIT < length input → R (executed_lines input) [] → Q input) → OfInput start n left R → IfSome start Q
     ends_beyond None left new line reads end t = tt
     ends_beyond (Some input) None new line reads end t = absurd t
     ends_beyond (Some input) (Some text) None line reads end t = absurd reads
     ends_beyond (Some input) (Some text) (Some bytes) line reads end t =
-        end input (omega (arith, reads.1, t.0)) (subst (λ ls. R (executed input) ls) reads.0 t.1)
+        end input (omega (arith, reads.1, t.0)) (subst (λ ls. R (executed_lines input) ls) reads.0 t.1)

@@ -8,8 +8,8 @@ use Rattle.ts_model.specs.History.{History, ◌▸◌, Begins, same, further}
 use Rattle.ts_model.specs.States.{State, Makes, Fails, stands_still}
 use Rattle.ts_model.proofs.HistoryLaws.{begins_trans}
 use Rattle.ts_sessions.specs.Procedures.{Procedure, sees, adds, ends}
-use Rattle.ts_sessions.specs.Walks.{Walks, Breaks, Sees, history_after, ending}
-use Rattle.script_run.specs.Went.{WentOn, IsBetween, FailedBetween}
+use Rattle.ts_sessions.specs.Walks.{Walks, Breaks, Sees, history_after, end_of_walk}
+use Rattle.script_run.specs.RunStates.{WentOn, IsBetween, FailedBetween}
 
 -- ---- how a store that is alone is left
 
@@ -71,7 +71,7 @@ begins_after (ends a) h = same
 -- a procedure came to its end
 pub record WalkedWhole {A : Type 0} (procedure : Procedure A) (old new : State) (y : A) : Type 0 where
   pub history : new.history ≡ history_after procedure old.history
-  pub end : y ≡ ending procedure old.history
+  pub end : y ≡ end_of_walk procedure old.history
   pub went : WentOn false old new
 
 -- the disk failed at one of its events
@@ -89,7 +89,7 @@ module _ {A : Type 0} (e : Event) (next stop : Procedure A) (old mid new : State
   made_whole : (y : A) → Makes e old mid → WalkedWhole next mid new y → WalkedWhole (adds e next stop) old new y
   made_whole y m w = record {
     history = w.history ∙ ap (history_after next) m.history;
-    end = w.end ∙ ap (ending next) m.history;
+    end = w.end ∙ ap (end_of_walk next) m.history;
     went = went_trans false old mid new (went_made e old mid m) w.went;
   }
 

@@ -1,5 +1,5 @@
 pub mod Sessions
-pub mod Went
+pub mod RunStates
 pub mod LineEnds
 pub mod Runs
 pub mod Stops

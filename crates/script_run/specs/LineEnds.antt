@@ -8,7 +8,7 @@ use Rattle.ts_sessions.specs.declared.replies.Reply.{Reply as ReplyMade}
 use Rattle.ts_sessions.specs.declared.replies.StepEnd.{StepEnd}
 use Rattle.ts_sessions.specs.declared.replies.StepEnd.TheVariants.{Reply, DiskFault, NoMemory}
 use Rattle.ts_sessions.specs.Script.{LineResult, ScriptState}
-use Rattle.script_run.specs.Went.{WentOn, IsBetween, FailedBetween}
+use Rattle.script_run.specs.RunStates.{WentOn, IsBetween, FailedBetween}
 
 -- a reply with this text, which is a FAULT or not
 pub record RepliesWith (text : List ℕ) (fault : Bool) (reply : ReplyMade) : Type 0 where

@@ -9,11 +9,11 @@ use Rattle.ts_model.specs.States.{State}
 use Rattle.ts_sessions.specs.Script.{Semantics, LineResult, ScriptState, executes, output, is_refused, reads_in, final_script_state, opening_script_state}
 use Rattle.script_run.specs.declared.ends.RunEnd.{RunEnd}
 use Rattle.script_run.specs.declared.ends.RunEnd.TheVariants.{Done, Refused, ReadFault, WriteFault, DiskFault, NoMemory, InputLong}
-use Rattle.script_run.specs.Went.{IsBetween, FailedBetween}
+use Rattle.script_run.specs.RunStates.{IsBetween, FailedBetween}
 
 -- the lines of an input that are executed: those that end within the limit
-abbrev pub executed : List ℕ → List (List ℕ)
-executed input = lines_within INPUT_LIMIT input
+abbrev pub executed_lines : List ℕ → List (List ℕ)
+executed_lines input = lines_within INPUT_LIMIT input
 
 -- ---- a script over a history, whose lines count from 1
 
@@ -110,16 +110,16 @@ pub record StoppedWithin {P : Type 0} (semantics : Semantics P) (h : History) (l
 -- what a run that ended so over a history has read of an input, executed of its lines, and written of their replies
 abbrev pub Ran : {P : Type 0} → RunEnd → Semantics P → History → List ℕ → Option (List ℕ) → Left → Type 0
 Ran Done semantics h input rest left =
-    ReadWhole input rest × Executed semantics h (executed input) left
-    × (has_fault semantics h (executed input) ≡ false)
+    ReadWhole input rest × Executed semantics h (executed_lines input) left
+    × (has_fault semantics h (executed_lines input) ≡ false)
 Ran Refused semantics h input rest left =
-    ReadWhole input rest × Executed semantics h (executed input) left
-    × (has_fault semantics h (executed input) ≡ true)
-Ran ReadFault semantics h input rest left = StoppedBefore semantics h (executed input) left
-Ran WriteFault semantics h input rest left = StoppedWriting semantics h (executed input) left
-Ran DiskFault semantics h input rest left = StoppedAtEvent semantics h (executed input) left
-Ran NoMemory semantics h input rest left = StoppedWithin semantics h (executed input) left
-Ran InputLong semantics h input rest left = (INPUT_LIMIT < length input) × Executed semantics h (executed input) left
+    ReadWhole input rest × Executed semantics h (executed_lines input) left
+    × (has_fault semantics h (executed_lines input) ≡ true)
+Ran ReadFault semantics h input rest left = StoppedBefore semantics h (executed_lines input) left
+Ran WriteFault semantics h input rest left = StoppedWriting semantics h (executed_lines input) left
+Ran DiskFault semantics h input rest left = StoppedAtEvent semantics h (executed_lines input) left
+Ran NoMemory semantics h input rest left = StoppedWithin semantics h (executed_lines input) left
+Ran InputLong semantics h input rest left = (INPUT_LIMIT < length input) × Executed semantics h (executed_lines input) left
 
 -- ---- faults
 

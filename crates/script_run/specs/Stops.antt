@@ -9,14 +9,14 @@ use Rattle.ts_sessions.specs.declared.replies.StepEnd.TheVariants as steps
 use Rattle.ts_sessions.specs.Script.{LineResult, ScriptState}
 use Rattle.script_run.specs.declared.scripts.ScriptStop.{ScriptStop}
 use Rattle.script_run.specs.declared.scripts.ScriptStop.TheVariants.{WriteFault, DiskFault, NoMemory}
-use Rattle.script_run.specs.Went.{IsBetween, FailedBetween}
+use Rattle.script_run.specs.RunStates.{IsBetween, FailedBetween}
 
 -- the reply to a line that ended so, or why there is none, by whether the store then stands still
-abbrev pub settled : Bool → StepEnd → Result ReplyMade ScriptStop
-settled still (steps.Reply r) = Ok r
-settled still (steps.DiskFault r) = Err DiskFault
-settled true steps.NoMemory = Err DiskFault
-settled false steps.NoMemory = Err NoMemory
+abbrev pub reply_or_stop : Bool → StepEnd → Result ReplyMade ScriptStop
+reply_or_stop still (steps.Reply r) = Ok r
+reply_or_stop still (steps.DiskFault r) = Err DiskFault
+reply_or_stop true steps.NoMemory = Err DiskFault
+reply_or_stop false steps.NoMemory = Err NoMemory
 
 -- a line was executed, and a part of its reply written
 pub record ReplyCut {P : Type 0} (line_result : LineResult P) (script_state : ScriptState P)

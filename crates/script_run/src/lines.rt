@@ -6,7 +6,7 @@ ghost use Rattle.script_run.specs.Executing.{AreReady, HaveTaken};
 ghost use Rattle.script_run.specs.Sessions.{script_over};
 ghost use Rattle.stmt_tokens.specs.Lines.{session_name, IsStatementLine};
 
-use crate::replies::{ending, refuse_line, silence};
+use crate::replies::{refuse_line, silence, step_end_of};
 use crate::sessions::{Sessions, execute_in_session};
 use std::alloc::Global;
 use std::thread::Threads;
@@ -37,8 +37,8 @@ where
 {
     match split_line(line) {
         LineKind::Blank => StepEnd::Reply(silence(alloc)),
-        LineKind::NotAscii => ending(refuse_line(alloc, number, codes::NOT_ASCII)),
-        LineKind::NoSession => ending(refuse_line(alloc, number, codes::NO_SESSION)),
+        LineKind::NotAscii => step_end_of(refuse_line(alloc, number, codes::NOT_ASCII)),
+        LineKind::NoSession => step_end_of(refuse_line(alloc, number, codes::NO_SESSION)),
         LineKind::Stmt {
             name_len,
             skip,

@@ -11,7 +11,7 @@ use ts_schema::{Name, NoMemory, Seq};
 use ts_sessions::{Reply, StepEnd, bare};
 
 /// The end of a line that has this reply, unless there was no memory for it.
-pub(crate) fn ending(reply: Result<Reply, NoMemory>) -> StepEnd
+pub(crate) fn step_end_of(reply: Result<Reply, NoMemory>) -> StepEnd
     ensures { result ≡ ends_with reply }
 {
     match reply {

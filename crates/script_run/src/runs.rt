@@ -60,13 +60,13 @@ where
         match lines.next(source) {
             LineEnd::Line => match script.execute(rt, alloc, backend, lines.line(), sink, steps) {
                 Ok(()) => {}
-                Err(stop) => return stopped(stop),
+                Err(stop) => return run_end_of_stop(stop),
             },
             LineEnd::LineLong => match script.refuse_long(alloc, sink) {
                 Ok(()) => {}
-                Err(stop) => return stopped(stop),
+                Err(stop) => return run_end_of_stop(stop),
             },
-            LineEnd::End => return ended(script.refused),
+            LineEnd::End => return run_end_of_input(script.refused),
             LineEnd::InputLong => return RunEnd::InputLong,
             LineEnd::ReadFault => return RunEnd::ReadFault,
         }
@@ -74,7 +74,7 @@ where
 }
 
 /// How a run ends that stopped at a line.
-fn stopped(stop: ScriptStop) -> RunEnd
+fn run_end_of_stop(stop: ScriptStop) -> RunEnd
     ensures { result ≡ end_of_stop stop }
 {
     match stop {
@@ -85,7 +85,7 @@ fn stopped(stop: ScriptStop) -> RunEnd
 }
 
 /// How a run ends whose input was executed to its end.
-fn ended(refused: bool) -> RunEnd
+fn run_end_of_input(refused: bool) -> RunEnd
     ensures { result ≡ end_of_input refused }
 {
     if refused {

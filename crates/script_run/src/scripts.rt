@@ -11,9 +11,9 @@ ghost use Rattle.ts_sessions.specs.Script.{executes};
 ghost use Rattle.ts_sessions.specs.Step.{bare};
 ghost use Rattle.script_run.specs.Executing.{AreReady};
 ghost use Rattle.script_run.specs.Sessions.{waiting_in, AreSessions, script_over};
-ghost use Rattle.script_run.specs.Went.{WentOn};
+ghost use Rattle.script_run.specs.RunStates.{WentOn};
 ghost use Rattle.script_run.specs.LineEnds.{LineWritten};
-ghost use Rattle.script_run.specs.Stops.{LineCut, RefusalCut, is_disk_stop, is_write_stop, settled, stops_by};
+ghost use Rattle.script_run.specs.Stops.{LineCut, RefusalCut, is_disk_stop, is_write_stop, reply_or_stop, stops_by};
 
 use crate::lines::execute_line;
 use crate::replies::refuse_line;
@@ -156,7 +156,7 @@ impl<A> Script<A> {
 /// The reply to a line that ended so, or why there is none. Where the disk failed and then there was no
 /// memory, the disk fault is reported.
 fn reply_of<B: Backend>(end: StepEnd, backend: &B) -> Result<Reply, ScriptStop>
-    ensures { result ≡ settled (stands_still (B.state backend.now)) end }
+    ensures { result ≡ reply_or_stop (stands_still (B.state backend.now)) end }
 {
     match end {
         StepEnd::Reply(reply) => Ok(reply),

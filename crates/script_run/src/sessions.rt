@@ -10,7 +10,7 @@ ghost use Rattle.ts_sessions.specs.Sessions.{IfAnswered, Stepped};
 ghost use Rattle.script_run.specs.Executing.{AreReady, HaveTaken};
 ghost use Rattle.script_run.specs.Sessions.{sessions_of, script_over};
 
-use crate::replies::{ending, refuse_session};
+use crate::replies::{refuse_session, step_end_of};
 use indexmap::IndexMap;
 use std::alloc::Global;
 use std::thread::Threads;
@@ -51,12 +51,12 @@ where
             let (_, actor) = sessions.pair_mut(place);
             take_turn(rt, alloc, backend, actor, text, skip, steps)
         }
-        None => meet_session(rt, alloc, backend, sessions, name, text, skip, steps),
+        None => find_or_begin(rt, alloc, backend, sessions, name, text, skip, steps),
     }
 }
 
 /// A session that has not appeared before has its first line, where there is room for it.
-fn meet_session<A, R, B, L>(
+fn find_or_begin<A, R, B, L>(
     rt: &R,
     alloc: Global,
     backend: &mut B,
@@ -87,7 +87,7 @@ where
     if sessions.len() < MOST_SESSIONS {
         begin_session(rt, alloc, backend, sessions, session, text, skip, steps)
     } else {
-        ending(refuse_session(alloc, &session, codes::TOO_MANY_SESSIONS))
+        step_end_of(refuse_session(alloc, &session, codes::TOO_MANY_SESSIONS))
     }
 }
 

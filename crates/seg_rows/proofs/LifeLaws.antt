@@ -10,7 +10,7 @@ use Rattle.seg_rows.proofs.DeathLaws.{died_out-append, died_out-lives}
 use Rattle.seg_rows.proofs.HullLaws.{hull_of-append}
 use Rattle.seg_rows.specs.declared.lives.Lives.{Lives}
 use Rattle.seg_rows.specs.declared.lives.Lives.TheVariants.{Together, Born, Each}
-use Rattle.seg_rows.specs.Lives.{AreUnharmed, all_died, Covers, IsSealed, lives_of, unharmed, with_life, with_lives, versions_of}
+use Rattle.seg_rows.specs.Lives.{AreUnharmed, all_died, Covers, IsSealed, lives_of, life_from, with_life, with_lives, versions_of}
 
 pub length-with_lives : (rows : List Row) (lives : List Life) → length lives ≡ length rows → length (with_lives rows lives) ≡ length rows
 length-with_lives [] lives e = refl
@@ -26,7 +26,7 @@ get_or-with_lives (x ∷ rows) (y ∷ lives) zero r l d e h = refl
 get_or-with_lives (x ∷ rows) (y ∷ lives) (suc i) r l d e h = get_or-with_lives rows lives i r l d (omega (arith, e)) (omega arith)
 
 -- rows that were born together
-pub with_lives-together : (rows : List Row) (p : ℕ) → with_lives rows (replicate (length rows) (unharmed p)) ≡ map (newborn p) rows
+pub with_lives-together : (rows : List Row) (p : ℕ) → with_lives rows (replicate (length rows) (life_from p)) ≡ map (newborn p) rows
 with_lives-together [] p = refl
 with_lives-together (r ∷ rows) p = ap (λ vs. newborn p r ∷ vs) (with_lives-together rows p)
 
@@ -56,13 +56,13 @@ version_read rows lives i r l d covers h e f =
     get_or-with_lives rows (lives_of (length rows) lives) i r l d covers h ∙ (ap (λ x. with_life x (get_or (lives_of (length rows) lives) i l)) (sym e) ∙ ap (with_life r) (sym f))
 
 -- versions that were born together, or that are kept by their births alone, are unharmed
-together_unharmed : (n p : ℕ) → AreUnharmed (replicate n (unharmed p))
+together_unharmed : (n p : ℕ) → AreUnharmed (replicate n (life_from p))
 together_unharmed zero p = refl
-together_unharmed (suc n) p = ap (λ ls. unharmed p ∷ ls) (together_unharmed n p)
+together_unharmed (suc n) p = ap (λ ls. life_from p ∷ ls) (together_unharmed n p)
 
-born_unharmed : (births : List ℕ) → AreUnharmed (map unharmed births)
+born_unharmed : (births : List ℕ) → AreUnharmed (map life_from births)
 born_unharmed [] = refl
-born_unharmed (p ∷ births) = ap (λ ls. unharmed p ∷ ls) (born_unharmed births)
+born_unharmed (p ∷ births) = ap (λ ls. life_from p ∷ ls) (born_unharmed births)
 
 pub plain_together : (lives : Lives) (p : ℕ) → lives ≡ Together p → (n : ℕ) → AreUnharmed (lives_of n lives)
 plain_together lives p is n = subst (λ (ls : Lives). AreUnharmed (lives_of n ls)) (sym is) (together_unharmed n p)
@@ -71,18 +71,18 @@ pub plain_born : (lives : Lives) (births : List ℕ) → lives ≡ Born births �
 plain_born lives births is n = subst (λ (ls : Lives). AreUnharmed (lives_of n ls)) (sym is) (born_unharmed births)
 
 -- one of unharmed lives
-unharmed_at : (lives : List Life) (i : ℕ) (l : Life) → AreUnharmed lives → i < length lives → unharmed (get_or lives i l).born ≡ get_or lives i l
+unharmed_at : (lives : List Life) (i : ℕ) (l : Life) → AreUnharmed lives → i < length lives → life_from (get_or lives i l).born ≡ get_or lives i l
 unharmed_at [] i l plain h = absurd (omega (arith, h))
-unharmed_at (x ∷ lives) zero l plain h = let head : unharmed x.born ≡ x = cc in head
+unharmed_at (x ∷ lives) zero l plain h = let head : life_from x.born ≡ x = cc in head
 unharmed_at (x ∷ lives) (suc i) l plain h = let tail : AreUnharmed lives = cc in unharmed_at lives i l tail (omega arith)
 
 -- one birth more
-pub births_more : (done : List ℕ) (lives before : List Life) (i : ℕ) (l : Life) → AreUnharmed lives → i < length lives → l ≡ get_or lives i l → map unharmed done ≡ before ++ take i lives
-    → map unharmed (done ++ l.born ∷ []) ≡ before ++ take (i + 1) lives
+pub births_more : (done : List ℕ) (lives before : List Life) (i : ℕ) (l : Life) → AreUnharmed lives → i < length lives → l ≡ get_or lives i l → map life_from done ≡ before ++ take i lives
+    → map life_from (done ++ l.born ∷ []) ≡ before ++ take (i + 1) lives
 births_more done lives before i l plain h is e =
-    let this : unharmed l.born ≡ l = ap (λ (x : Life). unharmed x.born) is ∙ (unharmed_at lives i l plain h ∙ sym is) in
-    map-append unharmed done (l.born ∷ [])
-    ∙ (ap (λ ls. ls ++ unharmed l.born ∷ []) e
+    let this : life_from l.born ≡ l = ap (λ (x : Life). life_from x.born) is ∙ (unharmed_at lives i l plain h ∙ sym is) in
+    map-append life_from done (l.born ∷ [])
+    ∙ (ap (λ ls. ls ++ life_from l.born ∷ []) e
     ∙ (ap (λ x. (before ++ take i lives) ++ x ∷ []) this
     ∙ (append_assoc before (take i lives) (l ∷ [])
     ∙ ap (λ ls. before ++ ls) (ap (λ x. take i lives ++ x ∷ []) is ∙ sym (take_more lives i l h)))))
@@ -113,12 +113,12 @@ joined_sealed first second rows l m lives g h hull d e dead one two rows_are liv
     }
 
 -- rows that were born together
-pub sealed_together : (rows : List Row) (n p : ℕ) (hull : Option HullValue) (dead : Option ℕ) → n ≡ length rows → hull ≡ hull_of rows → dead ≡ all_died (replicate n (unharmed p))
+pub sealed_together : (rows : List Row) (n p : ℕ) (hull : Option HullValue) (dead : Option ℕ) → n ≡ length rows → hull ≡ hull_of rows → dead ≡ all_died (replicate n (life_from p))
     → IsSealed rows (Together p) hull dead
 sealed_together rows n p hull dead many hull_is dead_is = record {
-  covers = length-replicate (length rows) (unharmed p);
+  covers = length-replicate (length rows) (life_from p);
   hull_is = hull_is;
-  dead_is = dead_is ∙ (ap (λ k. all_died (replicate k (unharmed p))) many ∙ sym (died_out-lives rows (replicate (length rows) (unharmed p)) (length-replicate (length rows) (unharmed p))));
+  dead_is = dead_is ∙ (ap (λ k. all_died (replicate k (life_from p))) many ∙ sym (died_out-lives rows (replicate (length rows) (life_from p)) (length-replicate (length rows) (life_from p))));
 }
 
 -- the same rows with other lives

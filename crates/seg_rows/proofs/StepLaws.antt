@@ -8,7 +8,7 @@ use Rattle.ts_schema.specs.declared.conditions.Test.{Test}
 use Rattle.seg_rows.specs.declared.lives.Life.{Life}
 use Rattle.seg_rows.specs.declared.lives.Lives.{Lives}
 use Rattle.seg_rows.specs.Hulls.{joined_hull, hull_at, hull_of}
-use Rattle.seg_rows.specs.Lives.{Covers, lives_of, is_alive_at, unharmed, with_life, with_lives, versions_of}
+use Rattle.seg_rows.specs.Lives.{Covers, lives_of, is_alive_at, life_from, with_life, with_lives, versions_of}
 use Rattle.seg_rows.specs.Versions.{Version, shown_at, rows_at, is_taken, taken_at, after_kill, later_time, latest_at}
 use Rattle.seg_rows.proofs.LifeLaws.{length-versions_of, version_read, with_lives-more}
 use Rattle.seg_rows.proofs.VersionLaws.{rows_at-more, taken_at-more_length, taken_at-more_hull, taken_at-length, latest_at-more}
@@ -47,9 +47,9 @@ module _ (rows : List Row) (lives : Lives) (i : ℕ) (r : Row) (l : Life) (cover
 -- a row outside of the span adds nothing to what is shown, whatever its life
 pub hidden_step : (rows : List Row) (lives : Lives) (i : ℕ) (r : Row) → Covers (length rows) lives → i < length rows → r ≡ get_or rows i r → (p : ℕ) (s : SpanValue) → in_span s r.at ≡ false → rows_at p s (take (i + 1) (versions_of rows lives)) ≡ rows_at p s (take i (versions_of rows lives))
 hidden_step rows lives i r covers h row_is p s outside =
-    let l = get_or (lives_of (length rows) lives) i (unharmed 0) in
+    let l = get_or (lives_of (length rows) lives) i (life_from 0) in
     let inside : i < length (lives_of (length rows) lives) = omega (arith, covers, h) in
-    let life_is : l ≡ get_or (lives_of (length rows) lives) i l = get_or_default (lives_of (length rows) lives) i (unharmed 0) l inside in
+    let life_is : l ≡ get_or (lives_of (length rows) lives) i l = get_or_default (lives_of (length rows) lives) i (life_from 0) l inside in
     let hidden : shown_at p s (with_life r l) ≡ false = rw outside (and-false (is_alive_at p l)) in
     shown_step rows lives i r l covers h row_is life_is p s
     ∙ (ap (λ b. rows_at p s (take i (versions_of rows lives)) ++ cond b (r ∷ []) []) hidden ∙ append-nil (rows_at p s (take i (versions_of rows lives))))

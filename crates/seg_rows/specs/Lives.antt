@@ -9,8 +9,8 @@ use Rattle.seg_rows.specs.declared.lives.Lives.{Lives}
 use Rattle.seg_rows.specs.declared.lives.Lives.TheVariants.{Together, Born, Each}
 
 -- born at p and never died
-abbrev pub unharmed : ℕ → Life
-unharmed p = record { born = p; died = None }
+abbrev pub life_from : ℕ → Life
+life_from p = record { born = p; died = None }
 
 -- such a version is visible at p
 abbrev pub is_alive_at : ℕ → Life → Bool
@@ -18,13 +18,13 @@ is_alive_at p life = nat_le life.born p && not (is_dead_at p life.died)
 
 -- the lives of n rows
 abbrev pub lives_of : ℕ → Lives → List Life
-lives_of n (Together p) = replicate n (unharmed p)
-lives_of n (Born births) = map unharmed births
+lives_of n (Together p) = replicate n (life_from p)
+lives_of n (Born births) = map life_from births
 lives_of n (Each lives) = lives
 
 -- none of these has died
 abbrev pub AreUnharmed : List Life → Type 0
-AreUnharmed lives = map unharmed (map (λ life. life.born) lives) ≡ lives
+AreUnharmed lives = map life_from (map (λ life. life.born) lives) ≡ lives
 
 -- the position at which the last of these ended, where all have; where there is none, the first position
 abbrev pub all_died : List Life → Option ℕ

@@ -1,6 +1,6 @@
 //! When versions have died, all of them.
 ghost use Rattle.std.specs.Prelude.{◌≡◌, ℕ, replicate};
-ghost use Rattle.seg_rows.specs.Lives.{all_died, unharmed};
+ghost use Rattle.seg_rows.specs.Lives.{all_died, life_from};
 ghost use Rattle.seg_rows.specs.Versions.{is_dead_at, later_death};
 
 use crate::lives::Life;
@@ -40,7 +40,7 @@ pub fn last_death(lives: &[Life]) -> Option<u64>
 
 /// The same of so many versions that were born at a position and live on.
 pub fn newborn_death(count: usize) -> Option<u64>
-    ensures last { (p : ℕ) → result ≡ all_died (replicate count (unharmed p)) }
+    ensures last { (p : ℕ) → result ≡ all_died (replicate count (life_from p)) }
 {
     if count == 0 { Some(0) } else { None }
 }

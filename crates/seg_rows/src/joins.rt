@@ -1,6 +1,6 @@
 //! Rows of segments copied, and segments joined into one.
 ghost use Rattle.std.specs.Prelude.{◌≡◌, ◌++◌, map, IfOk, OnOk};
-ghost use Rattle.seg_rows.specs.Lives.{AreUnharmed, Covers, Keeps, lives_of, unharmed};
+ghost use Rattle.seg_rows.specs.Lives.{AreUnharmed, Covers, Keeps, lives_of, life_from};
 
 use crate::lives::{Life, Lives};
 use crate::scans::copy_of;
@@ -66,7 +66,7 @@ pub fn joined_lives(
 fn append_births(into: &mut Vec<u64>, lives: &Lives, count: usize) -> Result<(), NoMemory>
     requires covers { Covers count lives.now }
     requires unharmed { AreUnharmed (lives_of count lives.now) }
-    ensures { OnOk result (map unharmed into.new.items ≡ map unharmed into.old.items ++ lives_of count lives.now) }
+    ensures { OnOk result (map life_from into.new.items ≡ map life_from into.old.items ++ lives_of count lives.now) }
 {
     for i in 0..count {
         into.push(lives.at(i, count).born)?;

@@ -6,9 +6,9 @@
 #![tactic(auto)]
 
 mod deaths;
+mod deletes;
 mod hulls;
 mod joins;
-mod kills;
 mod lives;
 mod scans;
 mod segments;

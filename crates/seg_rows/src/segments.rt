@@ -5,9 +5,9 @@ ghost use Rattle.seg_rows.specs.Versions.{after_kill, died_out, later_time, late
 ghost use Rattle.ts_schema.specs.Counts.{raised_by, RaisedUpTo};
 
 use crate::deaths::{both_died, last_death, newborn_death};
+use crate::deletes::{lives_after, taken_by};
 use crate::hulls::{greatest_time, join_hulls, row_hull};
 use crate::joins::{joined_lives, joined_rows};
-use crate::kills::{lives_after, taken_by};
 use crate::lives::Lives;
 use crate::scans::{is_no_later, last_time, later, scan_rows};
 use std::alloc::Global;

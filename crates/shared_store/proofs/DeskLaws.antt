@@ -26,7 +26,7 @@ use Rattle.shared_store.specs.Wrapped.{Wrapped, StaysKept, events_in}
 use Rattle.shared_store.specs.Stores.{Ticket, IsPassOf, history_of}
 use Rattle.shared_store.specs.Turns.{Begun, CanEnd, Ended}
 use Rattle.shared_store.specs.Desks.{AtDesk, place_of, failed_at, desk_state, IsLast, IsDesk}
-use Rattle.shared_store.specs.declared.turns.Left.{Left}
+use Rattle.shared_store.specs.declared.turns.TurnEnd.{TurnEnd}
 use Rattle.shared_store.proofs.AfterLaws.{followed_after, end_after, prefix_after}
 use Rattle.shared_store.proofs.GoesOnLaws.{is_there, one_after, called_still, looked_still}
 
@@ -93,7 +93,7 @@ there_is : {A : Type 0} (o : Option A) → IsTrue (is_some o) → (x : A) × (o 
 there_is None e = absurd (true≢false (sym e))
 there_is (Some x) e = (x, refl)
 
-closed_last : {B : Type 0} (state : B → State) (desk : AtDesk B) (last : Option (Left B)) {e : Event} → IsLast state desk last → failed_at state last ≡ Some e → closed_of desk.pass ≡ Some e
+closed_last : {B : Type 0} (state : B → State) (desk : AtDesk B) (last : Option (TurnEnd B)) {e : Event} → IsLast state desk last → failed_at state last ≡ Some e → closed_of desk.pass ≡ Some e
 closed_last state desk None d is = absurd (is_there is refl)
 closed_last state desk (Some left) d is = d.0 ∙ is
 
@@ -120,7 +120,7 @@ module _ {B K : Type 0} (alone : Bool) (state : B → State) (kin : B → K) whe
             let still = b.stays event.0 (closed_last state desk desk.last d.last event.1) in
             (still.0 ∙ sym event.1, still.1)
 
-    module _ (k : Wrapped B) (new : Ticket B) (left : Left B) (s : StaysKept alone state kin held.value k) (e : Ended state desk.store turn new k) (l : left.backend.value ≡ k.backend) where
+    module _ (k : Wrapped B) (new : Ticket B) (left : TurnEnd B) (s : StaysKept alone state kin held.value k) (e : Ended state desk.store turn new k) (l : left.backend.value ≡ k.backend) where
       abbrev pub after : AtDesk B
       after = record { store = desk.store; pass = new; last = Some left }
 

@@ -4,13 +4,13 @@ use Rattle.ts_model.specs.declared.events.Event.{Event}
 use Rattle.ts_model.specs.States.{State, stop_of}
 use Rattle.turn_lock.specs.Pass.{shares_of, closed_of, made_of}
 use Rattle.shared_store.specs.Stores.{Ticket, Shared, IsPassOf, history_of}
-use Rattle.shared_store.specs.declared.turns.Left.{Left}
+use Rattle.shared_store.specs.declared.turns.TurnEnd.{TurnEnd}
 
 -- a desk as clauses see it: its store, its pass, and what its last call left, if it made one
 pub record AtDesk (B : Type 0) : Type 0 where
   pub store : Shared B
   pub pass : Ticket B
-  pub last : Option (Left B)
+  pub last : Option (TurnEnd B)
 
 -- what its owner knows a desk by
 pub record Place (B : Type 0) : Type 0 where
@@ -26,12 +26,12 @@ fresh_desk store pass = record { store = store; pass = pass; last = None }
 
 module _ {B : Type 0} (state : B → State) where
   -- the event at which the disk failed, as the last call found or left it
-  abbrev pub failed_at : Option (Left B) → Option Event
+  abbrev pub failed_at : Option (TurnEnd B) → Option Event
   failed_at None = None
   failed_at (Some left) = (state left.backend.value).failed
 
   -- the count that the last call left, and before the first that of the start
-  abbrev pub faults_at : ℕ → Option (Left B) → ℕ
+  abbrev pub faults_at : ℕ → Option (TurnEnd B) → ℕ
   faults_at first None = first
   faults_at first (Some left) = (state left.backend.value).faults
 
@@ -46,7 +46,7 @@ module _ {B : Type 0} (state : B → State) where
   }
 
   -- what the last call left is what the pass has seen
-  abbrev pub IsLast : AtDesk B → Option (Left B) → Type 0
+  abbrev pub IsLast : AtDesk B → Option (TurnEnd B) → Type 0
   IsLast desk None = Unit {0}
   IsLast desk (Some left) =
       (closed_of desk.pass ≡ (state left.backend.value).failed)

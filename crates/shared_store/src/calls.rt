@@ -5,7 +5,7 @@ ghost use Rattle.ts_bucket.specs.Bucket.{is_time};
 ghost use Rattle.ts_model.specs.declared.events.Event.TheVariants.{Table, Hyper as HyperMade, View, Mode, Commit};
 ghost use Rattle.ts_model.specs.Roster.{roster, view_of};
 ghost use Rattle.ts_model.specs.Sound.{sound};
-ghost use Rattle.ts_model.specs.Calls.{making_table, making_hyper, making_view, setting_mode, committing, cutting, finishing, Snapped};
+ghost use Rattle.ts_model.specs.Calls.{making_table, making_hyper, making_view, setting_mode, act_of_commit, act_of_cut, act_of_finish, Snapped};
 ghost use Rattle.shared_store.specs.Wrapped.{StaysKept, CalledIn, LookedIn};
 
 use crate::kept::Kept;
@@ -54,7 +54,7 @@ impl<B: Backend> Kept<B> {
 
     pub(crate) fn commit(&mut self, ops: Seq<Op>) -> Outcome<Committed>
         requires { IsTrue (sound (B.state self.old.backend).history (Commit ops)) }
-        ensures called { CalledIn B.alone B.state self.old (committing ops) result self.new }
+        ensures called { CalledIn B.alone B.state self.old (act_of_commit ops) result self.new }
         ensures kept { StaysKept B.alone B.state B.kin self.old self.new }
     {
         self.backend.commit(ops)
@@ -64,7 +64,7 @@ impl<B: Backend> Kept<B> {
         requires view { IsSome (view_of (roster (B.state self.old.backend).history) view) }
         requires low { ForSome lo (λ t. IsTrue (is_time t)) }
         requires high { ForSome hi (λ t. IsTrue (is_time t)) }
-        ensures called { CalledIn B.alone B.state self.old (cutting view lo hi) result self.new }
+        ensures called { CalledIn B.alone B.state self.old (act_of_cut view lo hi) result self.new }
         ensures kept { StaysKept B.alone B.state B.kin self.old self.new }
     {
         self.backend.cut(view, lo, hi)
@@ -73,7 +73,7 @@ impl<B: Backend> Kept<B> {
     pub(crate) fn finish(&mut self, job: <B::Shot as Shown>::Job) -> Outcome<u64>
         requires { B.Shot.fits job (B.state self.old.backend).history }
         ensures called { CalledIn B.alone B.state self.old
-            (finishing (B.Shot.cut_of job) (B.Shot.snap_of job)) result self.new }
+            (act_of_finish (B.Shot.cut_of job) (B.Shot.snap_of job)) result self.new }
         ensures kept { StaysKept B.alone B.state B.kin self.old self.new }
     {
         self.backend.finish(job)

@@ -5,7 +5,7 @@ ghost use Rattle.shared_store.specs.Stores.{IsPassOf, shared_of};
 ghost use Rattle.shared_store.specs.Desks.{fresh_desk, IsLast};
 
 use crate::store::{Pass, SharedStore, StoreLock};
-use crate::turns::{self, Left};
+use crate::turns::{self, TurnEnd};
 use std::marker::Model;
 use std::sync::Wait;
 use std::thread::Threads;
@@ -21,7 +21,7 @@ pub struct Desk<'a, B: Backend, R: Threads + Wait> {
     rt: &'a R,
     pass: Pass<B>,
     // What the last call left.
-    last: Option<Left<B>>,
+    last: Option<TurnEnd<B>>,
 }
 
 impl<'a, B: Backend, R: Threads + Wait> Model for Desk<'a, B, R> {

@@ -3,7 +3,7 @@ ghost use Rattle.std.specs.Prelude.{◌≡◌};
 ghost use Rattle.ts_model.specs.States.{stop_of};
 ghost use Rattle.shared_store.specs.Wrapped.{IsKept};
 
-use crate::turns::Left;
+use crate::turns::TurnEnd;
 use std::marker::Model;
 use std::snapshot::Snapshot;
 use ts_model::{Backend, Event};
@@ -58,11 +58,11 @@ impl<B: Backend> Kept<B> {
     }
 
     // The position at which the backend stands still, if it does, and what it is.
-    pub(crate) fn left(&self) -> Left<B>
+    pub(crate) fn turn_end(&self) -> TurnEnd<B>
         ensures stopped { result.stopped ≡ stop_of (B.state self.now.backend) }
         ensures backend { result.backend.value ≡ self.now.backend }
     {
-        Left {
+        TurnEnd {
             stopped: self.backend.stopped(),
             backend: Snapshot::of(&self.backend),
         }

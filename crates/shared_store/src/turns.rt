@@ -14,7 +14,7 @@ use turn_lock::Held;
 
 /// What a turn left: the position at which the backend stands still, if it does, and what the backend is.
 #[derive(Drop)]
-pub struct Left<B> {
+pub struct TurnEnd<B> {
     pub(crate) stopped: Option<u64>,
     pub(crate) backend: Snapshot<B>,
 }
@@ -39,13 +39,13 @@ pub(crate) fn end<B: Backend>(
     lock: &StoreLock<B>,
     pass: &mut Pass<B>,
     held: Held<Kept<B>>,
-) -> Left<B>
+) -> TurnEnd<B>
     requires { CanEnd B.state (shared_of lock.now) pass.old held }
     ensures ended { Ended B.state (shared_of lock.now) pass.old pass.new held.value }
     ensures stopped { result.stopped ≡ stop_of (B.state held.value.backend) }
     ensures backend { result.backend.value ≡ held.value.backend }
 {
-    let left = held.value.left();
+    let left = held.value.turn_end();
     lock.give(pass, held);
     left
 }

@@ -10,7 +10,7 @@ use Rattle.ts_bucket.specs.Spans.{SpanValue, in_span}
 use Rattle.span_map.specs.declared.edges.Edge.{Edge}
 use Rattle.span_map.specs.declared.changes.Change.{Change}
 use Rattle.span_map.specs.Edges.{value_from, last_value, IsBelowFirst, IsRising, place_upto, place_below, begins_at}
-use Rattle.span_map.specs.Changes.{changed, edge_changed, edges_halfway, with_edge, ChangesValues}
+use Rattle.span_map.specs.Changes.{value_after, edge_changed, edges_halfway, with_edge, ChangesValues}
 use Rattle.span_map.proofs.EdgeLaws.{value_from-below, last_value-end, IsBelowFirst-from}
 
 -- neither of two numbers is below the other
@@ -155,24 +155,24 @@ same_side s p t le lo hi = by_lt_z p s.lo
     (λ over. grind (arith, ints)))
 
 -- from a number on, at which the values before and after the change are known
-values_on : (s : SpanValue) (c : Change) (p : ℤ) (v w : Option ℕ) (es : List Edge) (t : ℤ) → IsBelowFirst p es → IsRising es → (p <ℤ s.lo → HasEdge s.lo es) → (p <ℤ s.hi → HasEdge s.hi es) → w ≡ cond (in_span s p) (changed c v) v → p ≤ℤ t → value_from w (map (edge_changed s c) es) t ≡ cond (in_span s t) (changed c (value_from v es t)) (value_from v es t)
-values_on s c p v w [] t h r lo hi e le = e ∙ ap (λ b. cond b (changed c v) v) (same_side s p t le (λ l. absurd (lo l)) (λ l. absurd (hi l)))
+values_on : (s : SpanValue) (c : Change) (p : ℤ) (v w : Option ℕ) (es : List Edge) (t : ℤ) → IsBelowFirst p es → IsRising es → (p <ℤ s.lo → HasEdge s.lo es) → (p <ℤ s.hi → HasEdge s.hi es) → w ≡ cond (in_span s p) (value_after c v) v → p ≤ℤ t → value_from w (map (edge_changed s c) es) t ≡ cond (in_span s t) (value_after c (value_from v es t)) (value_from v es t)
+values_on s c p v w [] t h r lo hi e le = e ∙ ap (λ b. cond b (value_after c v) v) (same_side s p t le (λ l. absurd (lo l)) (λ l. absurd (hi l)))
 values_on s c p v w (x ∷ xs) t h r lo hi e le = by_lt_z t x.from
     (λ below.
     let low : int_lt t x.from ≡ true = grind (arith, ints) in
     let ends : (y : ℤ) → (p <ℤ y → HasEdge y (x ∷ xs)) → p <ℤ y → t <ℤ y = λ y has l. (let first : x.from ≤ℤ y = at_or_above_first x xs y r (has l) in omega (arith, ints)) in
     ap (λ b. cond b w (value_from (edge_changed s c x).value (map (edge_changed s c) xs) t)) low
-    ∙ e ∙ ap (λ b. cond b (changed c v) v) (same_side s p t le (ends s.lo lo) (ends s.hi hi))
-    ∙ sym (ap (λ b. cond (in_span s t) (changed c (cond b v (value_from x.value xs t))) (cond b v (value_from x.value xs t))) low))
+    ∙ e ∙ ap (λ b. cond b (value_after c v) v) (same_side s p t le (ends s.lo lo) (ends s.hi hi))
+    ∙ sym (ap (λ b. cond (in_span s t) (value_after c (cond b v (value_from x.value xs t))) (cond b v (value_from x.value xs t))) low))
     (λ above.
     let high : int_lt t x.from ≡ false = grind (arith, ints) in
     let before : p <ℤ x.from = h in
     ap (λ b. cond b w (value_from (edge_changed s c x).value (map (edge_changed s c) xs) t)) high
     ∙ values_on s c x.from x.value (edge_changed s c x).value xs t r.0 r.1 (λ l. later_edge x xs s.lo l (lo (omega (arith, ints)))) (λ l. later_edge x xs s.hi l (hi (omega (arith, ints)))) refl above
-    ∙ sym (ap (λ b. cond (in_span s t) (changed c (cond b v (value_from x.value xs t))) (cond b v (value_from x.value xs t))) high))
+    ∙ sym (ap (λ b. cond (in_span s t) (value_after c (cond b v (value_from x.value xs t))) (cond b v (value_from x.value xs t))) high))
 
 -- edges with one at each end of the span
-values-changed : (s : SpanValue) (c : Change) (es : List Edge) (t : ℤ) → s.lo <ℤ s.hi → IsRising es → HasEdge s.lo es → HasEdge s.hi es → value_from None (map (edge_changed s c) es) t ≡ cond (in_span s t) (changed c (value_from None es t)) (value_from None es t)
+values-changed : (s : SpanValue) (c : Change) (es : List Edge) (t : ℤ) → s.lo <ℤ s.hi → IsRising es → HasEdge s.lo es → HasEdge s.hi es → value_from None (map (edge_changed s c) es) t ≡ cond (in_span s t) (value_after c (value_from None es t)) (value_from None es t)
 values-changed s c [] t l r lo hi = absurd lo
 values-changed s c (x ∷ xs) t l r lo hi =
     let first : x.from ≤ℤ s.lo = at_or_above_first x xs s.lo r lo in
@@ -181,12 +181,12 @@ values-changed s c (x ∷ xs) t l r lo hi =
     let low : int_lt t x.from ≡ true = grind (arith, ints) in
     let out : in_span s t ≡ false = grind (arith, ints) in
     ap (λ b. cond b None (value_from (edge_changed s c x).value (map (edge_changed s c) xs) t)) low
-    ∙ sym (ap (λ b. cond b (changed c (value_from None (x ∷ xs) t)) (value_from None (x ∷ xs) t)) out ∙ ap (λ b. cond b None (value_from x.value xs t)) low))
+    ∙ sym (ap (λ b. cond b (value_after c (value_from None (x ∷ xs) t)) (value_from None (x ∷ xs) t)) out ∙ ap (λ b. cond b None (value_from x.value xs t)) low))
     (λ above.
     let high : int_lt t x.from ≡ false = grind (arith, ints) in
     ap (λ b. cond b None (value_from (edge_changed s c x).value (map (edge_changed s c) xs) t)) high
     ∙ values_on s c x.from x.value (edge_changed s c x).value xs t r.0 r.1 (λ below. later_edge x xs s.lo below lo) (λ below. later_edge x xs s.hi below hi) refl above
-    ∙ sym (ap (λ b. cond (in_span s t) (changed c (cond b None (value_from x.value xs t))) (cond b None (value_from x.value xs t))) high))
+    ∙ sym (ap (λ b. cond (in_span s t) (value_after c (cond b None (value_from x.value xs t))) (cond b None (value_from x.value xs t))) high))
 
 -- ---- edges changed one after another
 
@@ -298,10 +298,10 @@ equal_values (Some p) (Some q) differ e f = by (nat_eq p q) refl
 
 -- edges below a span, and those above its end, stay
 kept_below : (s : SpanValue) (c : Change) (e : Edge) → e.from <ℤ s.lo → edge_changed s c e ≡ e
-kept_below s c e l = let out : in_span s e.from ≡ false = grind (arith, ints) in ap (λ b. record { from = e.from; value = cond b (changed c e.value) e.value }) out
+kept_below s c e l = let out : in_span s e.from ≡ false = grind (arith, ints) in ap (λ b. record { from = e.from; value = cond b (value_after c e.value) e.value }) out
 
 kept_above : (s : SpanValue) (c : Change) (e : Edge) → s.hi ≤ℤ e.from → edge_changed s c e ≡ e
-kept_above s c e l = let out : in_span s e.from ≡ false = grind (arith, ints) in ap (λ b. record { from = e.from; value = cond b (changed c e.value) e.value }) out
+kept_above s c e l = let out : in_span s e.from ≡ false = grind (arith, ints) in ap (λ b. record { from = e.from; value = cond b (value_after c e.value) e.value }) out
 
 pub halfway_start : (s : SpanValue) (c : Change) (es : List Edge) → edges_halfway s c (place_below s.lo es) (place_below s.lo es) es ≡ map (edge_changed s c) es
 halfway_start s c [] = refl
@@ -361,10 +361,10 @@ values-edges_changed s c es l r t =
     let rise : IsRising two = rising-with_edge None s.hi one (rising-with_edge None s.lo es r) in
     let same : value_from None two t ≡ value_from None es t = value_from-with_edge None s.hi one t ∙ value_from-with_edge None s.lo es t in
     values-changed s c two t l rise (kept-with_edge s.lo None s.hi one (has-with_edge None s.lo es)) (has-with_edge None s.hi one)
-    ∙ ap (λ v. cond (in_span s t) (changed c v) v) same
+    ∙ ap (λ v. cond (in_span s t) (value_after c v) v) same
 
 -- a change within an empty span changes nothing
 pub values-unchanged : (s : SpanValue) (c : Change) (es : List Edge) → s.hi ≤ℤ s.lo → ChangesValues s c es es
 values-unchanged s c es l t =
     let out : in_span s t ≡ false = grind (arith, ints) in
-    sym (ap (λ b. cond b (changed c (value_from None es t)) (value_from None es t)) out)
+    sym (ap (λ b. cond b (value_after c (value_from None es t)) (value_from None es t)) out)

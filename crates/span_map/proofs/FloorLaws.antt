@@ -7,7 +7,7 @@ use Rattle.ts_bucket.specs.Positions.{is_before}
 use Rattle.ts_bucket.specs.Spans.{SpanValue, in_span}
 use Rattle.span_map.specs.declared.edges.Edge.{Edge}
 use Rattle.span_map.specs.Edges.{value_from, IsBelowFirst, IsRising, place_upto, place_below, value_on, between, piece_count, has_value}
-use Rattle.span_map.specs.Floors.{run_filled, run_on, opened, floor_filled}
+use Rattle.span_map.specs.Floors.{run_filled, run_on, open_run, floor_filled}
 use Rattle.span_map.proofs.EdgeLaws.{value_from-below, IsBelowFirst-from}
 use Rattle.span_map.proofs.PieceLaws.{rising-between, value_from-between}
 use Rattle.ts_schema.proofs.Cases.{le-int_le}
@@ -108,7 +108,7 @@ ends s pos from w e es v t r fits h =
         let two : int_le from t ≡ true = grind (arith, ints) in
         one ∙ sym two
 
-filled_step : (s : SpanValue) (pos : ℕ) (run : Option ℤ) (w : Option ℕ) (e : Edge) (es : List Edge) (v : Option ℕ) (t : ℤ) (clear : Bool) → is_before pos e.value ≡ clear → IsRising (e ∷ es) → RunFits s pos run w (e ∷ es) → ((run' : Option ℤ) (v' : Option ℕ) → RunFits s pos run' e.value es → floor_filled s pos run' es v' t ≡ wanted s pos run' e.value es v' t) → floor_filled s pos (cond clear (opened run (int_max e.from s.lo)) None) es (cond clear v (run_filled run (int_min e.from s.hi) pos v t)) t ≡ wanted s pos run w (e ∷ es) v t
+filled_step : (s : SpanValue) (pos : ℕ) (run : Option ℤ) (w : Option ℕ) (e : Edge) (es : List Edge) (v : Option ℕ) (t : ℤ) (clear : Bool) → is_before pos e.value ≡ clear → IsRising (e ∷ es) → RunFits s pos run w (e ∷ es) → ((run' : Option ℤ) (v' : Option ℕ) → RunFits s pos run' e.value es → floor_filled s pos run' es v' t ≡ wanted s pos run' e.value es v' t) → floor_filled s pos (cond clear (open_run run (int_max e.from s.lo)) None) es (cond clear v (run_filled run (int_min e.from s.hi) pos v t)) t ≡ wanted s pos run w (e ∷ es) v t
 filled_step s pos (Some from) w e es v t true h r fits rest =
     rest (Some from) v (h, fits.1, still fits.2)
     ∙ ap (λ b. cond (int_le from t && int_lt t s.hi && b) (Some pos) v) (test_same pos w e es t true r fits.0 h)

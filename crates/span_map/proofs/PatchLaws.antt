@@ -4,7 +4,7 @@ use Rattle.std.specs.Option.{option_eq}
 use Rattle.std.proofs.lemmas.Int.{ints, by_lt_z}
 use Rattle.std.proofs.lemmas.List.{append_assoc}
 use Rattle.ts_bucket.specs.Spans.{SpanValue, in_span}
-use Rattle.block_list.specs.Lists.{spliced}
+use Rattle.block_list.specs.Lists.{splice}
 use Rattle.span_map.specs.declared.edges.Edge.{Edge}
 use Rattle.span_map.specs.Edges.{value_from, last_value, IsBelowFirst, IsRising, place_below, place_upto, value_on, between}
 use Rattle.span_map.specs.Patches.{edge_if, patch_of}
@@ -108,7 +108,7 @@ module _ (s : SpanValue) (es ps : List Edge) (some : s.lo <ℤ s.hi) (rising : I
   abbrev pub body : List Edge
   body = middle ++ tail
 
-  shape : spliced (place_below s.lo es) (place_upto s.hi es) (patch_of s before ps after) es ≡ old ++ (edge_if before start ++ body)
+  shape : splice (place_below s.lo es) (place_upto s.hi es) (patch_of s before ps after) es ≡ old ++ (edge_if before start ++ body)
   shape =
       append_assoc old (edge_if before start ++ middle ++ edge_if (last_value value middle) end) rest
       ∙ ap (λ xs. old ++ xs)
@@ -130,7 +130,7 @@ module _ (s : SpanValue) (es ps : List Edge) (some : s.lo <ℤ s.hi) (rising : I
   body_rises : IsRising body
   body_rises = rising_both s.hi middle tail (all_below-between s.lo s.hi ps) tail_above (rising-between s.lo s.hi ps part) tail_rises
 
-  pub patched_rises : IsRising (spliced (place_below s.lo es) (place_upto s.hi es) (patch_of s before ps after) es)
+  pub patched_rises : IsRising (splice (place_below s.lo es) (place_upto s.hi es) (patch_of s before ps after) es)
   patched_rises =
       subst IsRising (sym shape)
       (rising_both s.lo old (edge_if before start ++ body) (all_below-take s.lo es)
@@ -170,17 +170,17 @@ module _ (s : SpanValue) (es ps : List Edge) (some : s.lo <ℤ s.hi) (rising : I
       ∙ value_from-drop None s.hi es t over
       ∙ sym (ap (λ b. cond b (value_from None ps t) (value_from None es t)) out)))
 
-  pub patched_values : (t : ℤ) → value_from None (spliced (place_below s.lo es) (place_upto s.hi es) (patch_of s before ps after) es) t ≡ cond (in_span s t) (value_from None ps t) (value_from None es t)
+  pub patched_values : (t : ℤ) → value_from None (splice (place_below s.lo es) (place_upto s.hi es) (patch_of s before ps after) es) t ≡ cond (in_span s t) (value_from None ps t) (value_from None es t)
   patched_values t = ap (λ xs. value_from None xs t) shape ∙ same_as_framed t ∙ framed_values t
 
 -- the same edges, by how they were made
 pub patched_is : (s : SpanValue) (es ps patch : List Edge) (first last : ℕ) (v w : Option ℕ) → first ≡ place_below s.lo es → last ≡ place_upto s.hi es
     → v ≡ last_value None (take first es) → w ≡ last_value None (take last es) → patch ≡ patch_of s v ps w
-    → spliced first last patch es ≡ spliced (place_below s.lo es) (place_upto s.hi es) (patch_of s (last_value None (take (place_below s.lo es) es)) ps (last_value None (take (place_upto s.hi es) es))) es
+    → splice first last patch es ≡ splice (place_below s.lo es) (place_upto s.hi es) (patch_of s (last_value None (take (place_below s.lo es) es)) ps (last_value None (take (place_upto s.hi es) es))) es
 patched_is s es ps patch first last v w first_is last_is v_is w_is patch_is =
-    ap (λ p. spliced first last p es) (patch_is ∙ ap (λ u. patch_of s u ps w) v_is ∙ ap (λ u. patch_of s (last_value None (take first es)) ps u) w_is)
-    ∙ ap (λ n. spliced n last (patch_of s (last_value None (take n es)) ps (last_value None (take last es))) es) first_is
-    ∙ ap (λ n. spliced (place_below s.lo es) n (patch_of s (last_value None (take (place_below s.lo es) es)) ps (last_value None (take n es))) es) last_is
+    ap (λ p. splice first last p es) (patch_is ∙ ap (λ u. patch_of s u ps w) v_is ∙ ap (λ u. patch_of s (last_value None (take first es)) ps u) w_is)
+    ∙ ap (λ n. splice n last (patch_of s (last_value None (take n es)) ps (last_value None (take last es))) es) first_is
+    ∙ ap (λ n. splice (place_below s.lo es) n (patch_of s (last_value None (take (place_below s.lo es) es)) ps (last_value None (take n es))) es) last_is
 
 pub part_is : (s : SpanValue) (es part : List Edge) (first last : ℕ) → s.lo <ℤ s.hi → first ≡ place_upto s.lo es → last ≡ place_below s.hi es → part ≡ take (last - first) (drop first es)
     → part ≡ between s.lo s.hi es

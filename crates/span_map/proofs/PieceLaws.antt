@@ -4,7 +4,7 @@ use Rattle.std.proofs.lemmas.Int.{ints, by_lt_z}
 use Rattle.ts_bucket.specs.Spans.{SpanValue, in_span}
 use Rattle.span_map.specs.declared.edges.Edge.{Edge}
 use Rattle.span_map.specs.declared.pieces.Piece.{Piece}
-use Rattle.span_map.specs.Edges.{value_from, last_value, IsBelowFirst, IsRising, place_upto, place_below, value_on, between, framed}
+use Rattle.span_map.specs.Edges.{value_from, last_value, IsBelowFirst, IsRising, place_upto, place_below, value_on, between, edges_between}
 use Rattle.span_map.proofs.EdgeLaws.{AllBelow, value_from-before_end, value_from-end, rising-end, below-end}
 use Rattle.span_map.specs.Pieces.{piece_at, ArePieces, piece_of, pieces_from}
 use Rattle.ts_schema.proofs.Cases.{le-int_le}
@@ -201,13 +201,13 @@ rising_as s es (Err x) found r e h = tt
 
 -- ---- the part of a map within a span
 
-pub rising-framed : (lo hi : ℤ) (es : List Edge) → lo <ℤ hi → IsRising es → IsRising (framed lo hi (value_on lo es) (between lo hi es))
+pub rising-framed : (lo hi : ℤ) (es : List Edge) → lo <ℤ hi → IsRising es → IsRising (edges_between lo hi (value_on lo es) (between lo hi es))
 rising-framed lo hi es l r =
     let part = between lo hi es in
     let end : Edge = record { from = hi; value = None } in
     (below-end lo part end l (below-between lo hi es), rising-end part end (all_below-between lo hi es) (rising-between lo hi es r))
 
-pub value_from-framed : (s : SpanValue) (es : List Edge) (t : ℤ) → s.lo <ℤ s.hi → value_from None (framed s.lo s.hi (value_on s.lo es) (between s.lo s.hi es)) t ≡ cond (in_span s t) (value_from None es t) None
+pub value_from-framed : (s : SpanValue) (es : List Edge) (t : ℤ) → s.lo <ℤ s.hi → value_from None (edges_between s.lo s.hi (value_on s.lo es) (between s.lo s.hi es)) t ≡ cond (in_span s t) (value_from None es t) None
 value_from-framed s es t l = by_lt_z t s.lo
     (λ below.
     let out : in_span s t ≡ false = grind (arith, ints) in

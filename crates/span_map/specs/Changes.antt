@@ -8,14 +8,14 @@ use Rattle.span_map.specs.declared.changes.Change.{Change}
 use Rattle.span_map.specs.declared.changes.Change.TheVariants.{Set, ClearUpto, Raise}
 
 -- what a change makes of a value
-abbrev pub changed : Change → Option ℕ → Option ℕ
-changed (Set p) v = Some p
-changed (ClearUpto p) v = above p v
-changed (Raise p) v = later v (Some p)
+abbrev pub value_after : Change → Option ℕ → Option ℕ
+value_after (Set p) v = Some p
+value_after (ClearUpto p) v = above p v
+value_after (Raise p) v = later v (Some p)
 
 -- what a change within a span makes of an edge
 abbrev pub edge_changed : SpanValue → Change → Edge → Edge
-edge_changed s c e = record { from = e.from; value = cond (in_span s e.from) (changed c e.value) e.value }
+edge_changed s c e = record { from = e.from; value = cond (in_span s e.from) (value_after c e.value) e.value }
 
 -- edges that are changed from one place on, where those from the other place on aren't changed yet and those between
 -- the two go
@@ -37,4 +37,4 @@ IsMissingAt t es missing = (missing.0 ≤ length es) × (insert es missing.0 mis
 -- value
 abbrev pub ChangesValues : SpanValue → Change → List Edge → List Edge → Type 0
 ChangesValues s c old new =
-    (t : ℤ) → value_from None new t ≡ cond (in_span s t) (changed c (value_from None old t)) (value_from None old t)
+    (t : ℤ) → value_from None new t ≡ cond (in_span s t) (value_after c (value_from None old t)) (value_from None old t)

@@ -62,5 +62,5 @@ abbrev pub between : ℤ → ℤ → List Edge → List Edge
 between lo hi es = take (place_below hi (drop (place_upto lo es) es)) (drop (place_upto lo es) es)
 
 -- edges of which the first, at lo, begins the value v, and the last, at hi, begins none
-abbrev pub framed : ℤ → ℤ → Option ℕ → List Edge → List Edge
-framed lo hi v es = record { from = lo; value = v } ∷ es ++ record { from = hi; value = None } ∷ []
+abbrev pub edges_between : ℤ → ℤ → Option ℕ → List Edge → List Edge
+edges_between lo hi v es = record { from = lo; value = v } ∷ es ++ record { from = hi; value = None } ∷ []

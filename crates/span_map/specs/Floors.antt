@@ -11,9 +11,9 @@ run_filled None end pos v t = v
 run_filled (Some from) end pos v t = cond (int_le from t && int_lt t end) (Some pos) v
 
 -- an open run stays, and one opens at x where none is
-abbrev pub opened : Option ℤ → ℤ → Option ℤ
-opened None x = Some x
-opened (Some from) x = Some from
+abbrev pub open_run : Option ℤ → ℤ → Option ℤ
+open_run None x = Some x
+open_run (Some from) x = Some from
 
 -- the open run at the start of a span at which the floor has the value v
 abbrev pub run_on : SpanValue → ℕ → Option ℕ → Option ℤ
@@ -21,7 +21,7 @@ run_on s pos v = cond (is_before pos v) (Some s.lo) None
 
 -- the open run after an edge of the floor
 abbrev pub run_past : SpanValue → ℕ → Option ℤ → Edge → Option ℤ
-run_past s pos run e = cond (is_before pos e.value) (opened run (int_max e.from s.lo)) None
+run_past s pos run e = cond (is_before pos e.value) (open_run run (int_max e.from s.lo)) None
 
 -- the value at t after an edge of the floor: an edge with the position or a later one ends the run
 abbrev pub value_past : SpanValue → ℕ → Option ℤ → Edge → Option ℕ → ℤ → Option ℕ

@@ -1,7 +1,7 @@
 //! Changes of the values within a span.
 
 ghost use Rattle.std.specs.Prelude.{◌≡◌};
-ghost use Rattle.span_map.specs.Changes.{changed};
+ghost use Rattle.span_map.specs.Changes.{value_after};
 
 /// What becomes of a value.
 #[derive(Clone, Copy, Debug)]
@@ -15,8 +15,8 @@ pub(crate) enum Change {
 }
 
 /// What the change makes of a value.
-pub(crate) fn applied(change: Change, value: Option<u64>) -> Option<u64>
-    ensures { result ≡ changed change value }
+pub(crate) fn apply(change: Change, value: Option<u64>) -> Option<u64>
+    ensures { result ≡ value_after change value }
 {
     match change {
         Change::Set(pos) => Some(pos),

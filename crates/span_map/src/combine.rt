@@ -5,7 +5,7 @@ ghost use Rattle.span_map.specs.Combined.{earliest, value_from_on, edges_past, w
 ghost use Rattle.span_map.specs.Edges.{IsRising};
 
 use crate::edges::{Edge, value_after};
-use crate::rules::{Rule, combined};
+use crate::rules::{Rule, combine_values};
 use std::alloc::Global;
 use ts_schema::NoMemory;
 
@@ -24,7 +24,7 @@ fn next_from(first: &[Edge], second: &[Edge]) -> Option<i64>
 
 /// The value from a number on, where it was `before` and no edge is below that number, and the
 /// edges above it.
-fn passed(before: Option<u64>, edges: &[Edge], from: i64) -> (Option<u64>, &[Edge])
+fn skip_edges(before: Option<u64>, edges: &[Edge], from: i64) -> (Option<u64>, &[Edge])
     ensures value { result.0 ≡ value_from_on from before edges.now }
     ensures edges { result.1.now ≡ edges_past from edges.now }
 {
@@ -62,13 +62,13 @@ pub(crate) fn combine(
     let mut mine = None;
     let mut other = None;
     while let Some(from) = next_from(left, right) {
-        let (value, rest) = passed(mine, left, from);
+        let (value, rest) = skip_edges(mine, left, from);
         mine = value;
         left = rest;
-        let (value, rest) = passed(other, right, from);
+        let (value, rest) = skip_edges(other, right, from);
         other = value;
         right = rest;
-        let value = combined(rule, mine, other);
+        let value = combine_values(rule, mine, other);
         push_edge(&mut edges, Edge { from, value })?;
     }
     Ok(edges)

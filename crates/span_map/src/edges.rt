@@ -4,7 +4,7 @@ ghost use Rattle.std.specs.Prelude.{◌≡◌, ◌+◌, ◌<◌, ◌≤◌, ◌+
 ghost use Rattle.span_map.specs.Changes.{edge_changed, edges_halfway, with_edge, ChangesValues, IsMissingAt};
 ghost use Rattle.span_map.specs.Edges.{IsRising, value_from, last_value, place_upto, place_below, begins_at, piece_count, HaveSameValues};
 
-use crate::changes::{Change, applied};
+use crate::changes::{Change, apply};
 use ts_bucket::Span;
 
 /// From this number on, up to the next edge, the map has this value.
@@ -110,7 +110,7 @@ fn changed_edge(edge: Edge, span: Span, change: Change) -> Edge
     if span.lo <= edge.from && edge.from < span.hi {
         Edge {
             from: edge.from,
-            value: applied(change, edge.value),
+            value: apply(change, edge.value),
         }
     } else {
         edge

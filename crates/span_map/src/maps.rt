@@ -166,7 +166,7 @@ impl SpanMap {
 
     /// The map that has at each number what the rule makes of the values of both maps there. It
     /// costs the pieces of both.
-    pub fn combined(&self, other: &SpanMap, rule: Rule) -> Result<SpanMap, NoMemory>
+    pub fn combine(&self, other: &SpanMap, rule: Rule) -> Result<SpanMap, NoMemory>
         ensures values { IfOk result (λ both. (t : ℤ) → at both t ≡ combined_by rule (at self.now t) (at other.now t)) }
     {
         let alloc = *self.edges.allocator();

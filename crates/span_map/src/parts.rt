@@ -1,7 +1,7 @@
 //! The part of a map within a span.
 
 ghost use Rattle.std.specs.Prelude.{◌≡◌, None, IfOk};
-ghost use Rattle.span_map.specs.Edges.{IsRising, value_from, value_on, between, framed};
+ghost use Rattle.span_map.specs.Edges.{IsRising, value_from, value_on, between, edges_between};
 ghost use Rattle.span_map.specs.Functions.{IsPart};
 
 use crate::edges::{Edge, places_below, places_upto, value_after};
@@ -22,13 +22,13 @@ pub(crate) fn part_within(edges: &[Edge], span: Span) -> (Option<u64>, &[Edge])
 }
 
 /// The edges of a part that begins at the start of a span with this value and ends with the span.
-pub(crate) fn framed(
+pub(crate) fn edges_of_part(
     alloc: Global,
     span: Span,
     value: Option<u64>,
     between: &[Edge],
 ) -> Result<Vec<Edge>, NoMemory>
-    ensures { IfOk result (λ part. part.items ≡ framed span.lo span.hi value between.now) }
+    ensures { IfOk result (λ part. part.items ≡ edges_between span.lo span.hi value between.now) }
 {
     let mut part = Vec::new(alloc);
     part.push(Edge {
@@ -51,7 +51,7 @@ pub(crate) fn edges_within(alloc: Global, edges: &[Edge], span: Span) -> Result<
 {
     if span.lo < span.hi {
         let (value, between) = part_within(edges, span);
-        framed(alloc, span, value, between)
+        edges_of_part(alloc, span, value, between)
     } else {
         Ok(Vec::new(alloc))
     }

@@ -20,7 +20,7 @@ pub enum Rule {
 }
 
 /// What a rule makes of two values.
-pub(crate) fn combined(rule: Rule, first: Option<u64>, second: Option<u64>) -> Option<u64>
+pub(crate) fn combine_values(rule: Rule, first: Option<u64>, second: Option<u64>) -> Option<u64>
     ensures { result ≡ combined_by rule first second }
 {
     match rule {

@@ -10,7 +10,7 @@ ghost use Rattle.span_map.specs.Pieces.{piece_at, ArePieces};
 
 use crate::edges::Edge;
 use crate::maps::SpanMap;
-use crate::parts::framed;
+use crate::parts::edges_of_part;
 use crate::patches::patch;
 use crate::pieces::Piece;
 use crate::search::{Before, place, places_around, places_within, value_before};
@@ -109,18 +109,18 @@ impl SharedMap {
         let mut part = self.within(span)?;
         part.reserve(2)?;
         part.clear_upto(span, pos);
-        self.patched(span, &part)
+        self.patch(span, &part)
     }
 
     /// The map in which each number of the span has the later of its position and `pos`.
-    pub fn raised(&self, span: Span, pos: u64) -> Result<SharedMap, NoMemory>
+    pub fn with_raised(&self, span: Span, pos: u64) -> Result<SharedMap, NoMemory>
         ensures values { IfOk result (λ new. ChangesWithin span (λ v. later v (Some pos)) (at self.now) (at new)) }
     {
         let mut part = self.within(span)?;
         let room = part.len() + 3;
         part.reserve(room)?;
         part.raise(span, pos);
-        self.patched(span, &part)
+        self.patch(span, &part)
     }
 
     /// The map in which each number of the span at which `floor` has nothing, or less than `pos`, has
@@ -137,11 +137,11 @@ impl SharedMap {
         let mut part = self.within(span)?;
         part.reserve(floor.len().saturating_add(1).saturating_mul(3))?;
         part.assign_above(span, pos, &floor);
-        self.patched(span, &part)
+        self.patch(span, &part)
     }
 
     /// The map with the values of another one within the span.
-    fn patched(&self, span: Span, part: &SpanMap) -> Result<SharedMap, NoMemory>
+    fn patch(&self, span: Span, part: &SpanMap) -> Result<SharedMap, NoMemory>
         ensures values { IfOk result (λ new. IsPatched span (at part.now) (at self.now) (at new)) }
     {
         if span.lo >= span.hi {
@@ -174,7 +174,7 @@ fn part_within(alloc: Global, edges: &BlockList<Edge>, span: Span) -> Result<Spa
     let (first, end) = places_within(edges, span);
     let between = edges_between(alloc, edges, first, end)?;
     let value = value_before(edges, first);
-    Ok(SpanMap::of_edges(framed(alloc, span, value, &between)?))
+    Ok(SpanMap::of_edges(edges_of_part(alloc, span, value, &between)?))
 }
 
 /// The map of edges with the values of others within a span that isn't empty.
@@ -190,6 +190,6 @@ fn patched_edges(edges: &BlockList<Edge>, span: Span, part: &[Edge]) -> Result<S
     let after = value_before(edges, end);
     let patch = patch(edges.allocator(), span, before, part, after)?;
     Ok(SharedMap {
-        edges: edges.replaced(first, end, &patch)?,
+        edges: edges.replace(first, end, &patch)?,
     })
 }

@@ -51,7 +51,7 @@ use Rattle.stmt_syntax.specs.declared.statements.NamedFold.{NamedFold}
 use Rattle.stmt_syntax.specs.declared.statements.NamedTest.{NamedTest}
 use Rattle.stmt_syntax.specs.declared.statements.Stmt.{Stmt}
 use Rattle.stmt_syntax.specs.declared.statements.Stmt.TheVariants as stmts
-use Rattle.stmt_check.specs.Refusals.{◌⊳◌, finds_nothing, hypertable_refusal, missing, name_refusal, number_of, plain_refusal, query_refusal, refused, view_refusal}
+use Rattle.stmt_check.specs.Refusals.{◌⊳◌, finds_nothing, hypertable_refusal, refusal_if_none, name_refusal, number_of, plain_refusal, query_refusal, refusal_if, view_refusal}
 use Rattle.stmt_check.specs.Check.{action_of, interval_of, no_table, refusal_of, rows_into, rows_query, rows_query_refusal, table_at, time_of}
 use Rattle.stmt_check.specs.Folds.{aggregate_name, aggregate_of, bucket_column, calendar_of, calendar_refusal, fold_of, fold_refusal, function_name, head_name, is_unit, number_or_zero, unit_count, units_refusal, output_names, test_of, tests_of, tests_refusal}
 use Rattle.stmt_check.specs.Queries.{bound_refusal, drop_test}
@@ -123,7 +123,7 @@ may_come h e n fits short small time = record { is_sound = and_from _ _ fits (lt
 -- a name that isn't taken, where there is room for one more
 free_and_few : (p : ℕ) (r : Roster) (name : List ℕ) (there : ℕ) → name_refusal p r name there ≡ None → (not (is_taken r name) && nat_lt there 64) ≡ true
 free_and_few p r name there e =
-    let both = neither (refused p 7 (not (finds_nothing (found_in r name)))) _ e in
+    let both = neither (refusal_if p 7 (not (finds_nothing (found_in r name)))) _ e in
     let free = name_is_free r name (has_to_be p 7 0 (finds_nothing (found_in r name)) both.0) in
     let few : there < 64 = leb-false 64 there (not_wrong p 21 65 (nat_le 64 there) both.1) in
     and_from _ _ (ap not free) (lt-ltb _ _ few)
@@ -180,7 +180,7 @@ hyper_action h p (found.View n) col interval s t e = absurd cc
 hyper_action h p (found.Plain n) col interval s t e =
     let r = roster h in
     let cols = (table_numbered r n).def.cols in
-    let both = neither (missing p 8 (column_from col 0 cols)) _ e in
+    let both = neither (refusal_if_none p 8 (column_from col 0 cols)) _ e in
     let there = place_is_there col cols (not_missing p 8 (column_from col 0 cols) both.0) in
     let interval-fits = has_to_be p 14 0 (is_interval interval) both.1 in
     let table = table_is r n false s t in
@@ -423,8 +423,8 @@ buckets_action h p fold (found.Hyper n) s t w proper e =
 -- units that aren't refused
 units_are : (p : ℕ) (info : TableInfo) (number : ℤ) (unit : List ℕ) (f : NamedFold) → units_refusal p info number unit f ≡ None → ((1 ≤ unwrap_or (unit_count number) 0) × (unwrap_or (unit_count number) 0 ≤ 1200)) × (is_unit unit ≡ true)
 units_are p info number unit f e =
-    let one = neither (missing p 29 (unit_count number)) _ e in
-    let two = neither (refused p 29 (not (is_unit unit))) _ one.1 in
+    let one = neither (refusal_if_none p 29 (unit_count number)) _ e in
+    let two = neither (refusal_if p 29 (not (is_unit unit))) _ one.1 in
     (counted_units number (not_missing p 29 (unit_count number) one.0), has_to_be p 29 0 (is_unit unit) two.0)
   where
     counted_units : (n : ℤ) → is_some (unit_count n) ≡ true → (1 ≤ unwrap_or (unit_count n) 0) × (unwrap_or (unit_count n) 0 ≤ 1200)

@@ -11,8 +11,8 @@ use Rattle.ts_schema.specs.declared.rows.Row.{Row}
 use Rattle.ts_model.specs.Roster.{same_name}
 use Rattle.ts_model.specs.Sound.{all_apart}
 use Rattle.ts_catalog.specs.Columns.{hyper_number, place_from}
-use Rattle.stmt_check.specs.Refusals.{marked, refused}
-use Rattle.stmt_check.specs.Rows.{leaves_out, list_refusal_of, other_places, picked, place_in, row_of, row_refusal, rows_of, rows_refusal, rule_at, shape_of, time_place, value_rules, values_refusal}
+use Rattle.stmt_check.specs.Refusals.{marked_refusal, refusal_if}
+use Rattle.stmt_check.specs.Rows.{leaves_out, list_refusal_of, other_places, value_at, place_in, row_of, row_refusal, rows_of, rows_refusal, rule_at, shape_of, time_place, value_rules, values_refusal}
 use Rattle.stmt_check.specs.Subject.{value_named, value_written, ValuesArrive}
 use Rattle.stmt_check.proofs.PassedLaws.{neither, not_wrong, has_to_be}
 use Rattle.stmt_check.proofs.RowLaws.{by_rule, rule_there}
@@ -28,26 +28,26 @@ place_next name k (n ∷ names) =
     elim (same_name n name) as (λ b. cond b (Some (k + 1)) (place_from name (k + 1 + 1) names) ≡ option_map (λ i. i + 1) (cond b (Some k) (place_from name (k + 1) names)))
     [ true ↦ refl | false ↦ place_next name (k + 1) names ]
 
-picked_next : (v : Option ℤ) (values : List (Option ℤ)) (o : Option ℕ) → picked (v ∷ values) (option_map (λ i. i + 1) o) ≡ picked values o
+picked_next : (v : Option ℤ) (values : List (Option ℤ)) (o : Option ℕ) → value_at (v ∷ values) (option_map (λ i. i + 1) o) ≡ value_at values o
 picked_next v values None = refl
 picked_next v values (Some i) = let next : i + 1 ≡ suc i = omega arith in ap (λ j. get_or (v ∷ values) j None) next
 
-picked_none : (o : Option ℕ) → picked [] o ≡ None
+picked_none : (o : Option ℕ) → value_at [] o ≡ None
 picked_none None = refl
 picked_none (Some zero) = refl
 picked_none (Some (suc i)) = refl
 
-picked_named : (names : List (List ℕ)) (values : List (Option ℤ)) (name : List ℕ) → picked values (place_from name 0 names) ≡ value_named names values name
+picked_named : (names : List (List ℕ)) (values : List (Option ℤ)) (name : List ℕ) → value_at values (place_from name 0 names) ≡ value_named names values name
 picked_named [] values name = refl
 picked_named (n ∷ names) [] name = picked_none (place_from name 0 (n ∷ names))
 picked_named (n ∷ names) (v ∷ values) name =
-    elim (same_name n name) as (λ b. picked (v ∷ values) (cond b (Some 0) (place_from name 1 names)) ≡ cond b v (value_named names values name)) [
+    elim (same_name n name) as (λ b. value_at (v ∷ values) (cond b (Some 0) (place_from name 1 names)) ≡ cond b v (value_named names values name)) [
       | true ↦ refl
-      | false ↦ ap (picked (v ∷ values)) (place_next name 0 names) ∙ picked_next v values (place_from name 0 names) ∙ picked_named names values name
+      | false ↦ ap (value_at (v ∷ values)) (place_next name 0 names) ∙ picked_next v values (place_from name 0 names) ∙ picked_named names values name
     ]
 
 -- what the code looks up is the value that is written
-written : (names : Option (List (List ℕ))) (values : List (Option ℤ)) (k : ℕ) (c : Column) → picked values (place_in names k c) ≡ value_written names values k c
+written : (names : Option (List (List ℕ))) (values : List (Option ℤ)) (k : ℕ) (c : Column) → value_at values (place_in names k c) ≡ value_written names values k c
 written None values k c = refl
 written (Some names) values k c = picked_named names values c.name
 
@@ -126,9 +126,9 @@ time_there at names k (d ∷ cols) (suc j) c s e =
     rw apart (time_there at names (k + 1) cols j c (omega arith) e ∙ ap (λ i. place_in names i c) next)
 
 -- a value at a place of the row
-field_there : (values : List (Option ℤ)) (places : List (Option ℕ)) (i : ℕ) (o : Option ℕ) → slice_get places i ≡ Some o → get_or (map (picked values) places) i None ≡ picked values o
+field_there : (values : List (Option ℤ)) (places : List (Option ℕ)) (i : ℕ) (o : Option ℕ) → slice_get places i ≡ Some o → get_or (map (value_at values) places) i None ≡ value_at values o
 field_there values [] i o e = absurd cc
-field_there values (p ∷ places) zero o e = let same : p ≡ o = cc in ap (picked values) same
+field_there values (p ∷ places) zero o e = let same : p ≡ o = cc in ap (value_at values) same
 field_there values (p ∷ places) (suc i) o e = field_there values places i o e
 
 -- ---- the time is not NULL
@@ -147,7 +147,7 @@ is_left_out at names k (d ∷ cols) (suc j) c e left =
 
 -- the value of the time column of a row that isn't refused
 time_is_given : (p at : ℕ) (cols : List Column) (names : Option (List (List ℕ))) (values : List (Option ℤ)) (c : Column) → all_apart (map (λ d. d.name) cols) ≡ true → slice_get cols at ≡ Some c → leaves_out at names 0 cols ≡ false
-    → length values ≡ length (value_rules at cols names) → values_refusal p (value_rules at cols names) values ≡ None → is_some (picked values (place_in names at c)) ≡ true
+    → length values ≡ length (value_rules at cols names) → values_refusal p (value_rules at cols names) values ≡ None → is_some (value_at values (place_in names at c)) ≡ true
 time_is_given p at cols names values c apart e left count passed = go (place_in names at c) refl
   where
     must : (c.must || at == at) ≡ true
@@ -156,14 +156,14 @@ time_is_given p at cols names values c apart e left count passed = go (place_in 
     here : ((c.must || at == at) && is_none (place_in names at c)) ≡ false
     here = let zero_and : 0 + at ≡ at = omega arith in subst (λ (i : ℕ). ((c.must || at == i) && is_none (place_in names i c)) ≡ false) zero_and (is_left_out at names 0 cols at c e left)
 
-    some_value : (v : Option ℤ) (b : Bool) → b ≡ true → refused p 12 b ≡ None → is_some v ≡ true
+    some_value : (v : Option ℤ) (b : Bool) → b ≡ true → refusal_if p 12 b ≡ None → is_some v ≡ true
     some_value v b t r = let f : true ≡ false = sym t ∙ not_wrong p 12 0 b r in absurd cc
 
     not_null : (v : Option ℤ) → Rattle.stmt_check.specs.Rows.value_refusal p (rule_at at c at) v ≡ None → is_some v ≡ true
     not_null None r = some_value None (c.must || at == at) must r
     not_null (Some v) r = refl
 
-    go : (o : Option ℕ) → place_in names at c ≡ o → is_some (picked values o) ≡ true
+    go : (o : Option ℕ) → place_in names at c ≡ o → is_some (value_at values o) ≡ true
     go None is =
         let none : ((c.must || at == at) && true) ≡ false = subst (λ (o : Option ℕ). ((c.must || at == at) && is_none o) ≡ false) is here in
         let both : true ≡ false = sym (ap (λ b. b && true) must) ∙ none in
@@ -180,7 +180,7 @@ some_time (Some v) e = refl
 
 arrives : (p at : ℕ) (cols : List Column) (names : Option (List (List ℕ))) (values : List (Option ℤ)) (k : ℕ) (c : Column) → all_apart (map (λ d. d.name) cols) ≡ true → leaves_out at names 0 cols ≡ false
     → length values ≡ length (value_rules at cols names) → values_refusal p (value_rules at cols names) values ≡ None → slice_get cols k ≡ Some c
-    → field_of (row_of (time_place at names 0 cols) (other_places at names 0 cols) values) (hyper_number at k) ≡ picked values (place_in names k c)
+    → field_of (row_of (time_place at names 0 cols) (other_places at names 0 cols) values) (hyper_number at k) ≡ value_at values (place_in names k c)
 arrives p at cols names values k c apart left count passed e = by_cases (k == at) refl
   where
     from_zero : 0 + k ≡ k
@@ -192,7 +192,7 @@ arrives p at cols names values k c apart left count passed e = by_cases (k == at
     others : List (Option ℕ)
     others = other_places at names 0 cols
 
-    number : (b : Bool) → nat_lt k at ≡ b → (k == at) ≡ false → field_of (row_of (time_place at names 0 cols) (other_places at names 0 cols) values) (cond b (k + 1) k) ≡ picked values (place_in names k c)
+    number : (b : Bool) → nat_lt k at ≡ b → (k == at) ≡ false → field_of (row_of (time_place at names 0 cols) (other_places at names 0 cols) values) (cond b (k + 1) k) ≡ value_at values (place_in names k c)
     number true less apart_from =
         let below : k < at = Rattle.std.proofs.lemmas.Bool.ltb-true k at less in
         let next : k + 1 ≡ suc k = omega arith in
@@ -211,39 +211,39 @@ arrives p at cols names values k c apart left count passed e = by_cases (k == at
                 differ : y ≤ x → ⊥
                 differ m = let same : x ≡ y = omega arith in let f : true ≡ false = sym (eq-eqb x y same) ∙ a in cc
 
-        past : (j : ℕ) → slice_get cols j ≡ Some c → at < j → field_of (row_of (time_place at names 0 cols) (other_places at names 0 cols) values) j ≡ picked values (place_in names j c)
+        past : (j : ℕ) → slice_get cols j ≡ Some c → at < j → field_of (row_of (time_place at names 0 cols) (other_places at names 0 cols) values) j ≡ value_at values (place_in names j c)
         past zero f below = absurd (omega arith)
         past (suc i) f below =
             let count_from : 0 + suc i ≡ suc i = omega arith in
             field_there values (other_places at names 0 cols) i (place_in names (suc i) c)
             (other_past at names 0 cols i c (omega arith) (omega arith) f ∙ ap (λ n. Some (place_in names n c)) count_from)
 
-    by_cases : (b : Bool) → (k == at) ≡ b → field_of (row_of (time_place at names 0 cols) (other_places at names 0 cols) values) (cond b 0 (cond (nat_lt k at) (k + 1) k)) ≡ picked values (place_in names k c)
+    by_cases : (b : Bool) → (k == at) ≡ b → field_of (row_of (time_place at names 0 cols) (other_places at names 0 cols) values) (cond b 0 (cond (nat_lt k at) (k + 1) k)) ≡ value_at values (place_in names k c)
     by_cases true s =
         let same : k ≡ at = eqb-true k at s in
         let here : slice_get cols at ≡ Some c = subst (λ (i : ℕ). slice_get cols i ≡ Some c) same e in
         let place : time_place at names 0 cols ≡ place_in names at c = (let zero_and : 0 + at ≡ at = omega arith in time_there at names 0 cols at c (omega arith) here ∙ ap (λ i. place_in names i c) zero_and) in
-        ap (λ o. Some (unwrap_or (picked values o) (pos 0))) place
-        ∙ some_time (picked values (place_in names at c)) (time_is_given p at cols names values c apart here left count passed)
-        ∙ ap (λ i. picked values (place_in names i c)) (sym same)
+        ap (λ o. Some (unwrap_or (value_at values o) (pos 0))) place
+        ∙ some_time (value_at values (place_in names at c)) (time_is_given p at cols names values c apart here left count passed)
+        ∙ ap (λ i. value_at values (place_in names i c)) (sym same)
     by_cases false s = number (nat_lt k at) refl s
 
 -- ---- the rows of an INSERT
 
 in_rows : (p at : ℕ) (cols : List Column) (names : Option (List (List ℕ))) (count j : ℕ) (rows : List (List (Option ℤ))) (i k : ℕ) (values : List (Option ℤ)) (row : Row) (c : Column) → all_apart (map (λ d. d.name) cols) ≡ true
     → rows_refusal p (shape_of at cols names count) j rows ≡ None → slice_get rows i ≡ Some values → slice_get (rows_of (shape_of at cols names count) rows) i ≡ Some row → slice_get cols k ≡ Some c
-    → field_of row (hyper_number at k) ≡ picked values (place_in names k c)
+    → field_of row (hyper_number at k) ≡ value_at values (place_in names k c)
 in_rows p at cols names count j [] i k values row c apart e v r s = absurd cc
 in_rows p at cols names count j (x ∷ rows) zero k values row c apart e v r s =
     let same : x ≡ values = cc in
     let made : row_of (time_place at names 0 cols) (other_places at names 0 cols) x ≡ row = cc in
     let here = (neither (row_refusal p (shape_of at cols names count) j x) _ e).0 in
-    let one = neither (marked p 21 count (nat_le most_rows j)) _ here in
-    let two = neither (refused p 11 (not (length x == length (value_rules at cols names)))) _ one.1 in
-    let three = neither (refused p 12 (leaves_out at names 0 cols)) _ two.1 in
+    let one = neither (marked_refusal p 21 count (nat_le most_rows j)) _ here in
+    let two = neither (refusal_if p 11 (not (length x == length (value_rules at cols names)))) _ one.1 in
+    let three = neither (refusal_if p 12 (leaves_out at names 0 cols)) _ two.1 in
     let counted : length x ≡ length (value_rules at cols names) = eqb-true _ _ (has_to_be p 11 0 (length x == length (value_rules at cols names)) two.0) in
     let left : leaves_out at names 0 cols ≡ false = not_wrong p 12 0 (leaves_out at names 0 cols) three.0 in
-    ap (λ (y : Row). field_of y (hyper_number at k)) (sym made) ∙ arrives p at cols names x k c apart left counted three.1 s ∙ ap (λ z. picked z (place_in names k c)) same
+    ap (λ (y : Row). field_of y (hyper_number at k)) (sym made) ∙ arrives p at cols names x k c apart left counted three.1 s ∙ ap (λ z. value_at z (place_in names k c)) same
 in_rows p at cols names count j (x ∷ rows) (suc i) k values row c apart e v r s =
     in_rows p at cols names count (j + 1) rows i k values row c apart (neither (row_refusal p (shape_of at cols names count) j x) _ e).1 v r s
 

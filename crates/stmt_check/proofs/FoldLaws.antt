@@ -27,7 +27,7 @@ use Rattle.stmt_syntax.specs.Written.{IsWholeTest, IsWholeAgg, IsWholeFold, is_n
 use Rattle.stmt_syntax.specs.declared.statements.NamedAgg.{NamedAgg}
 use Rattle.stmt_syntax.specs.declared.statements.NamedFold.{NamedFold}
 use Rattle.stmt_syntax.specs.declared.statements.NamedTest.{NamedTest}
-use Rattle.stmt_check.specs.Refusals.{marked, refused, missing}
+use Rattle.stmt_check.specs.Refusals.{marked_refusal, refusal_if, refusal_if_none}
 use Rattle.stmt_check.specs.Folds.{aggregate_name, aggregate_of, aggregate_refusal, aggregates_refusal, argument_of, argument_refusal, bucket_column, columns_before, fold_of, fold_refusal, function_name, is_aggregate, is_key, is_shift, is_step, is_taken, is_time_column, key_refusal, keys_refusal, number_or_zero, output_count, output_names, rest_refusal, test_of, tests_of, tests_refusal, width_refusal}
 use Rattle.stmt_check.proofs.PassedLaws.{neither, not_wrong, not_missing, has_to_be}
 use Rattle.stmt_check.proofs.RosterLaws.{HyperIsSound, TableIsSound}
@@ -59,7 +59,7 @@ pub column_number : (info : TableInfo) (name : List ℕ) → TableIsSound info �
 column_number info name s e = numbered info.def.cols info.hyper (column_from name 0 info.def.cols) s.hyper (place_is_there name info.def.cols) e
 
 -- a column that isn't refused has a number below the count of columns
-numbered_below : (p code : ℕ) (info : TableInfo) (name : List ℕ) → TableIsSound info → missing p code (column_of info name) ≡ None → nat_lt (number_or_zero info name) (length info.def.cols) ≡ true
+numbered_below : (p code : ℕ) (info : TableInfo) (name : List ℕ) → TableIsSound info → refusal_if_none p code (column_of info name) ≡ None → nat_lt (number_or_zero info name) (length info.def.cols) ≡ true
 numbered_below p code info name s e = lt-ltb _ _ (column_number info name s (not_missing p code (column_of info name) e))
 
 -- ---- tests
@@ -78,7 +78,7 @@ number_fits : (null : Bool) (z : ℤ) → (null ≡ true → z ≡ pos 0) → (n
 number_fits true z h = (Decides-int_eq z (pos 0)).1 (h refl)
 number_fits false z h = refl
 
-one_test : (p code : ℕ) (info : TableInfo) (t : NamedTest) → TableIsSound info → IsWholeTest t → IsProperTest t → missing p code (column_of info t.col) ≡ None → test_fits (length info.def.cols) (test_of info t) ≡ true
+one_test : (p code : ℕ) (info : TableInfo) (t : NamedTest) → TableIsSound info → IsWholeTest t → IsProperTest t → refusal_if_none p code (column_of info t.col) ≡ None → test_fits (length info.def.cols) (test_of info t) ≡ true
 one_test p code info t s w proper e =
     and_from _ _ (and_from _ _ (numbered_below p code info t.col s e) proper.num)
     (number_fits (allowed.is_null_test t.cmp) t.num (λ null. w.number (sym (same_null_test t.cmp) ∙ null)))
@@ -86,22 +86,22 @@ one_test p code info t s w proper e =
 pub tests_fit : (p : ℕ) (info : TableInfo) (tests : List NamedTest) → TableIsSound info → AllByRecursion IsWholeTest tests → AreProperTests tests → tests_refusal p info tests ≡ None → list_all (test_fits (length info.def.cols)) (tests_of info tests) ≡ true
 tests_fit p info [] s w proper e = refl
 tests_fit p info (t ∷ tests) s w proper e =
-    let both = neither (missing p 8 (column_of info t.col)) (tests_refusal p info tests) e in
+    let both = neither (refusal_if_none p 8 (column_of info t.col)) (tests_refusal p info tests) e in
     and_from _ _ (one_test p 8 info t s w.0 proper.0 both.0) (tests_fit p info tests s w.1 proper.1 both.1)
 
 -- the columns of tests that aren't refused are there
 pub tests_there : (p : ℕ) (info : TableInfo) (tests : List NamedTest) → TableIsSound info → tests_refusal p info tests ≡ None → list_all (λ t. nat_lt t.col (length info.def.cols)) (tests_of info tests) ≡ true
 tests_there p info [] s e = refl
 tests_there p info (t ∷ tests) s e =
-    let both = neither (missing p 8 (column_of info t.col)) (tests_refusal p info tests) e in
+    let both = neither (refusal_if_none p 8 (column_of info t.col)) (tests_refusal p info tests) e in
     and_from _ _ (numbered_below p 8 info t.col s both.0) (tests_there p info tests s both.1)
 
 -- ---- the width
 
 pub width_fits : (p : ℕ) (info : TableInfo) (f : NamedFold) → width_refusal p info f ≡ None → IsWidth (record { step = f.step; shift = f.shift })
 width_fits p info f e =
-    let first = neither (refused p 14 (not (is_step f.step))) _ e in
-    let second = neither (refused p 8 (not (is_time_column (column_of info f.at)))) _ first.1 in
+    let first = neither (refusal_if p 14 (not (is_step f.step))) _ e in
+    let second = neither (refusal_if p 8 (not (is_time_column (column_of info f.at)))) _ first.1 in
     let step = has_to_be p 14 0 (is_step f.step) first.0 in
     let shift = has_to_be p 14 0 (is_shift f.step f.shift) second.1 in
     in_range f.step f.shift step shift
@@ -116,8 +116,8 @@ keys_fit : (p : ℕ) (distinct : Bool) (count : ℕ) (info : TableInfo) (bucket 
 keys_fit p distinct count info bucket before [] s e = refl
 keys_fit p distinct count info bucket before (k ∷ keys) s e =
     let parts = neither (key_refusal p count info (columns_before (length before) 0) (distinct && is_key bucket before k) k) _ e in
-    let later = neither (refused p 7 (distinct && is_key bucket before k)) _ parts.0 in
-    let there = neither (missing p 8 (column_of info k)) _ later.1 in
+    let later = neither (refusal_if p 7 (distinct && is_key bucket before k)) _ parts.0 in
+    let there = neither (refusal_if_none p 8 (column_of info k)) _ later.1 in
     and_from _ _ (numbered_below p 8 info k s there.0) (keys_fit p distinct count info bucket (before ++ k ∷ []) keys s parts.1)
 
 -- ---- aggregates
@@ -160,8 +160,8 @@ none_is (Some t) = refl
 
 aggregate_says : (p count : ℕ) (info : TableInfo) (others : ℕ) (repeats : Bool) (a : NamedAgg) → aggregate_refusal p count info others repeats a ≡ None → Aggregate p info others repeats a
 aggregate_says p count info others repeats a e =
-    let one = neither (refused p 7 (is_none a.name && repeats)) _ e in
-    let two = neither (marked p 21 count (nat_le 16 others)) _ one.1 in
+    let one = neither (refusal_if p 7 (is_none a.name && repeats)) _ e in
+    let two = neither (marked_refusal p 21 count (nat_le 16 others)) _ one.1 in
     let three = neither (argument_refusal p info a.col) _ two.1 in
     let unnamed : (is_none a.name && repeats) ≡ false = not_wrong p 7 0 _ one.0 in
     record {
@@ -214,7 +214,7 @@ keys_apart : (p count : ℕ) (info : TableInfo) (bucket : List ℕ) (before keys
 keys_apart p count info bucket before [] a e = subst (λ (ks : List (List ℕ)). all_apart (bucket ∷ ks) ≡ true) (sym (append-nil before)) a
 keys_apart p count info bucket before (k ∷ keys) a e =
     let parts = neither (key_refusal p count info (columns_before (length before) 0) (is_key bucket before k) k) _ e in
-    let new = not_wrong p 7 0 (is_key bucket before k) (neither (refused p 7 (is_key bucket before k)) _ parts.0).0 in
+    let new = not_wrong p 7 0 (is_key bucket before k) (neither (refusal_if p 7 (is_key bucket before k)) _ parts.0).0 in
     let more = keys_apart p count info bucket (before ++ k ∷ []) keys (apart_push (bucket ∷ before) k a new) parts.1 in
     subst (λ (ks : List (List ℕ)). all_apart (bucket ∷ ks) ≡ true) (append_assoc before (k ∷ []) keys) more
 

@@ -28,7 +28,7 @@ use Rattle.stmt_check.specs.declared.inserts.Shape.{Shape}
 use Rattle.stmt_check.specs.Check.{action_of, interval_of, refusal_of, rows_into, rows_query_refusal, table_at, time_of, view_at}
 use Rattle.stmt_check.specs.Folds.{aggregate_name, aggregate_refusal, aggregates_refusal, argument_refusal, bucket_column, calendar_refusal, columns_before, fold_of, fold_refusal, head_name, is_key, is_shift, is_step, is_taken, is_time_column, is_unit, key_refusal, keys_refusal, output_count, output_names, rest_refusal, tests_of, tests_refusal, unit_count, units_refusal, width_refusal}
 use Rattle.stmt_check.specs.Queries.{bound_refusal, drop_test, starts_refusal}
-use Rattle.stmt_check.specs.Refusals.{◌⊳◌, hypertable_refusal, marked, missing, name_refusal, number_of, plain_refusal, query_refusal, view_refusal}
+use Rattle.stmt_check.specs.Refusals.{◌⊳◌, hypertable_refusal, marked_refusal, refusal_if_none, name_refusal, number_of, plain_refusal, query_refusal, view_refusal}
 use Rattle.stmt_check.specs.Rows.{insert_refusal, list_refusal, list_refusal_of, row_refusal, rows_refusal, shape_of, value_refusal, values_refusal}
 use Rattle.stmt_check.specs.Tables.{columns_refusal, hyper_refusal}
 use Rattle.stmt_check.proofs.PassedLaws.{neither}
@@ -36,11 +36,11 @@ use Rattle.stmt_check.proofs.StayLaws.{hyper_info, hyper_stays, plain_def, plain
 
 -- ---- what isn't refused isn't refused at another position
 
-again : (p q code mark : ℕ) (wrong : Bool) → marked p code mark wrong ≡ None → marked q code mark wrong ≡ None
+again : (p q code mark : ℕ) (wrong : Bool) → marked_refusal p code mark wrong ≡ None → marked_refusal q code mark wrong ≡ None
 again p q code mark true e = absurd cc
 again p q code mark false e = refl
 
-there_again : {T : Type 0} (p q code : ℕ) (o : Option T) → missing p code o ≡ None → missing q code o ≡ None
+there_again : {T : Type 0} (p q code : ℕ) (o : Option T) → refusal_if_none p code o ≡ None → refusal_if_none q code o ≡ None
 there_again p q code None e = absurd cc
 there_again p q code (Some t) e = refl
 

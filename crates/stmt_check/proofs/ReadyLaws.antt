@@ -36,7 +36,7 @@ use Rattle.stmt_syntax.specs.declared.statements.NamedTest.{NamedTest}
 use Rattle.stmt_syntax.specs.declared.statements.Stmt.TheVariants as stmts
 use Rattle.stmt_check.specs.Check.{no_table, refusal_of, table_at}
 use Rattle.stmt_check.specs.Folds.{aggregate_name, aggregate_of, aggregate_refusal, aggregates_refusal, argument_refusal, bucket_column, columns_before, fold_of, fold_refusal, is_key, is_shift, is_step, is_taken, is_time_column, key_refusal, keys_refusal, number_or_zero, output_count, output_names, tests_refusal, width_refusal}
-use Rattle.stmt_check.specs.Refusals.{◌⊳◌, finds_nothing, hypertable_refusal, marked, missing, name_refusal, plain_refusal, refused}
+use Rattle.stmt_check.specs.Refusals.{◌⊳◌, finds_nothing, hypertable_refusal, marked_refusal, refusal_if_none, name_refusal, plain_refusal, refusal_if}
 use Rattle.stmt_check.specs.Subject.{AllowedIsReady, NamesColumns}
 use Rattle.stmt_check.specs.Tables.{columns_refusal, hyper_refusal, is_column, is_interval}
 use Rattle.stmt_check.proofs.FoldLaws.{any_name}
@@ -51,15 +51,15 @@ use Rattle.stmt_check.proofs.RosterLaws.{interval_in_range}
 both_none : (a b : Option Refusal) → a ≡ None → b ≡ None → (a ⊳ b) ≡ None
 both_none a b p q = ap (λ x. x ⊳ b) p ∙ q
 
-fine : (p code mark : ℕ) (wrong : Bool) → wrong ≡ false → marked p code mark wrong ≡ None
-fine p code mark wrong e = ap (λ b. marked p code mark b) e
+fine : (p code mark : ℕ) (wrong : Bool) → wrong ≡ false → marked_refusal p code mark wrong ≡ None
+fine p code mark wrong e = ap (λ b. marked_refusal p code mark b) e
 
-there : {T : Type 0} (p code : ℕ) (o : Option T) → is_some o ≡ true → missing p code o ≡ None
+there : {T : Type 0} (p code : ℕ) (o : Option T) → is_some o ≡ true → refusal_if_none p code o ≡ None
 there p code None e = absurd cc
 there p code (Some t) e = refl
 
-good : (p code mark : ℕ) (test : Bool) → test ≡ true → marked p code mark (not test) ≡ None
-good p code mark test e = ap (λ b. marked p code mark (not b)) e
+good : (p code mark : ℕ) (test : Bool) → test ≡ true → marked_refusal p code mark (not test) ≡ None
+good p code mark test e = ap (λ b. marked_refusal p code mark (not b)) e
 
 not_le : (n m : ℕ) → m < n → nat_le n m ≡ false
 not_le n m l = Rattle.std.proofs.lemmas.Bool.lt-leb n m l
@@ -108,7 +108,7 @@ name_is_free : (p : ℕ) (r : Roster) (name : List ℕ) (many : ℕ) → (not (n
 name_is_free p r name many e =
     let parts = and_parts (not (name_is_taken r name)) (nat_lt many most_relations) e in
     let free : finds_nothing (found_in r name) ≡ true = ap finds_nothing (nothing_found r name (not-true _ parts.0)) in
-    both_none (refused p 7 (not (finds_nothing (found_in r name)))) (marked p 21 65 (nat_le 64 many)) (good p 7 0 (finds_nothing (found_in r name)) free) (fine p 21 65 (nat_le 64 many) (not_le 64 many (ltb-true many 64 parts.1)))
+    both_none (refusal_if p 7 (not (finds_nothing (found_in r name)))) (marked_refusal p 21 65 (nat_le 64 many)) (good p 7 0 (finds_nothing (found_in r name)) free) (fine p 21 65 (nat_le 64 many) (not_le 64 many (ltb-true many 64 parts.1)))
 
 -- the table with a name is what is found
 named_table : (name : List ℕ) (k : ℕ) (ts : List TableInfo) (j : ℕ) (t : TableInfo) → position_from (λ x. same_name x.def.name name) k ts ≡ Some (k + j) → slice_get ts j ≡ Some t → table_from name k ts ≡ table_kind t (k + j)
@@ -156,8 +156,8 @@ columns_ready p count before (c ∷ cols) e few =
     let new : is_column c.name before ≡ false = any_column before c.name ∙ apart_before (names_of before) c.name (names_of cols) (subst (λ (ns : List (List ℕ)). all_apart ns ≡ true) split e) in
     let shifted : all_apart (names_of ((before ++ c ∷ []) ++ cols)) ≡ true = subst (λ (cs : List Column). all_apart (names_of cs) ≡ true) (sym (append_assoc before (c ∷ []) cols)) e in
     let longer : length (before ++ c ∷ []) ≡ length before + 1 = length-append before (c ∷ []) in
-    both_none (refused p 7 (is_column c.name before)) _ (fine p 7 0 (is_column c.name before) new)
-    (both_none (marked p 21 count (nat_le 16 (length before))) _ (fine p 21 count (nat_le 16 (length before)) (not_le 16 (length before) (omega arith)))
+    both_none (refusal_if p 7 (is_column c.name before)) _ (fine p 7 0 (is_column c.name before) new)
+    (both_none (marked_refusal p 21 count (nat_le 16 (length before))) _ (fine p 21 count (nat_le 16 (length before)) (not_le 16 (length before) (omega arith)))
     (columns_ready p count (before ++ c ∷ []) cols shifted (omega arith)))
   where
     names_append : (xs ys : List Column) → names_of (xs ++ ys) ≡ names_of xs ++ names_of ys
@@ -204,7 +204,7 @@ hyper_ready h p table n info at c interval named is col e =
     let where_is : get_or r.tables n no_table ≡ info = get_or_from_slice_get r.tables n info no_table is in
     subst (λ (f : Found). (plain_refusal p f ⊳ hyper_refusal p (table_at r f).def.cols c.name interval) ≡ None) (sym what)
     (subst (λ (t : TableInfo). hyper_refusal p t.def.cols c.name interval ≡ None) (sym where_is)
-    (both_none (missing p 8 (column_from c.name 0 info.def.cols)) (refused p 14 (not (is_interval interval))) (there p 8 (column_from c.name 0 info.def.cols) (column_there 0 info.def.cols at c col)) (good p 14 0 (is_interval interval) (interval_ready hyper info fits))))
+    (both_none (refusal_if_none p 8 (column_from c.name 0 info.def.cols)) (refusal_if p 14 (not (is_interval interval))) (there p 8 (column_from c.name 0 info.def.cols) (column_there 0 info.def.cols at c col)) (good p 14 0 (is_interval interval) (interval_ready hyper info fits))))
   where
     not_yet : (o : Option HyperInfo) → is_none o ≡ true → is_some o ≡ false
     not_yet None e = refl
@@ -214,8 +214,8 @@ hyper_ready h p table n info at c interval named is col e =
 
 width_ready : (p : ℕ) (info : TableInfo) (f : NamedFold) → is_width (record { step = f.step; shift = f.shift }) ≡ true → column_of info f.at ≡ Some zero → width_refusal p info f ≡ None
 width_ready p info f w at =
-    both_none (refused p 14 (not (is_step f.step))) _ (good p 14 0 (is_step f.step) (step f.step f.shift w))
-    (both_none (refused p 8 (not (is_time_column (column_of info f.at)))) (refused p 14 (not (is_shift f.step f.shift))) (good p 8 0 (is_time_column (column_of info f.at)) (ap is_time_column at)) (good p 14 0 (is_shift f.step f.shift) (shift f.step f.shift w)))
+    both_none (refusal_if p 14 (not (is_step f.step))) _ (good p 14 0 (is_step f.step) (step f.step f.shift w))
+    (both_none (refusal_if p 8 (not (is_time_column (column_of info f.at)))) (refusal_if p 14 (not (is_shift f.step f.shift))) (good p 8 0 (is_time_column (column_of info f.at)) (ap is_time_column at)) (good p 14 0 (is_shift f.step f.shift) (shift f.step f.shift w)))
   where
     step : (s o : ℤ) → is_width (record { step = s; shift = o }) ≡ true → is_step s ≡ true
     step s o e = grind (arith, ints)
@@ -235,8 +235,8 @@ keys_ready p count info head before (k ∷ keys) behind e few h =
     let shifted : all_apart ((head ∷ before ++ k ∷ []) ++ (keys ++ behind)) ≡ true = subst (λ (ns : List (List ℕ)). all_apart (head ∷ ns) ≡ true) (sym (append_assoc before (k ∷ []) (keys ++ behind))) e in
     let longer : length (before ++ k ∷ []) ≡ length before + 1 = length-append before (k ∷ []) in
     both_none (key_refusal p count info (columns_before (length before) 0) (is_key head before k) k) _
-    (both_none (refused p 7 (is_key head before k)) _ (fine p 7 0 (is_key head before k) new)
-    (both_none (missing p 8 (column_of info k)) _ (there p 8 (column_of info k) h.0) (fine p 21 count (nat_le 16 (columns_before (length before) 0)) (not_le 16 _ (few_before (length before) 0 (omega arith))))))
+    (both_none (refusal_if p 7 (is_key head before k)) _ (fine p 7 0 (is_key head before k) new)
+    (both_none (refusal_if_none p 8 (column_of info k)) _ (there p 8 (column_of info k) h.0) (fine p 21 count (nat_le 16 (columns_before (length before) 0)) (not_le 16 _ (few_before (length before) 0 (omega arith))))))
     (keys_ready p count info head (before ++ k ∷ []) keys behind shifted (omega arith) h.1)
 
 argument_ready : (p : ℕ) (info : TableInfo) (o : Option (List ℕ)) → IfSome o (λ c. is_some (column_of info c) ≡ true) → argument_refusal p info o ≡ None
@@ -256,8 +256,8 @@ aggregates_ready p count info head keys before (a ∷ aggs) e few h =
     let shifted : all_apart ((head ∷ keys) ++ map aggregate_name ((before ++ a ∷ []) ++ aggs)) ≡ true = subst (λ (xs : List NamedAgg). all_apart ((head ∷ keys) ++ map aggregate_name xs) ≡ true) (sym (append_assoc before (a ∷ []) aggs)) e in
     let longer : length (before ++ a ∷ []) ≡ length before + 1 = length-append before (a ∷ []) in
     both_none (aggregate_refusal p count info (columns_before (length keys) (length before)) (is_taken head keys before name) a) _
-    (both_none (refused p 7 (is_none a.name && is_taken head keys before name)) _ (fine p 7 0 _ (and_right (is_none a.name) _ new))
-    (both_none (marked p 21 count (nat_le 16 (columns_before (length keys) (length before)))) _ (fine p 21 count _ (not_le 16 _ (few_before (length keys) (length before) (omega arith))))
+    (both_none (refusal_if p 7 (is_none a.name && is_taken head keys before name)) _ (fine p 7 0 _ (and_right (is_none a.name) _ new))
+    (both_none (marked_refusal p 21 count (nat_le 16 (columns_before (length keys) (length before)))) _ (fine p 21 count _ (not_le 16 _ (few_before (length keys) (length before) (omega arith))))
     (both_none (argument_refusal p info a.col) _ (argument_ready p info a.col h.0) (fine p 7 0 _ (and_right (is_some a.name) _ new)))))
     (aggregates_ready p count info head keys (before ++ a ∷ []) aggs shifted (omega arith) h.1)
   where
@@ -267,7 +267,7 @@ aggregates_ready p count info head keys before (a ∷ aggs) e few h =
 
 tests_ready : (p : ℕ) (info : TableInfo) (tests : List NamedTest) → AllByRecursion (λ t. is_some (column_of info t.col) ≡ true) tests → tests_refusal p info tests ≡ None
 tests_ready p info [] h = refl
-tests_ready p info (t ∷ tests) h = both_none (missing p 8 (column_of info t.col)) _ (there p 8 (column_of info t.col) h.0) (tests_ready p info tests h.1)
+tests_ready p info (t ∷ tests) h = both_none (refusal_if_none p 8 (column_of info t.col)) _ (there p 8 (column_of info t.col) h.0) (tests_ready p info tests h.1)
 
 -- what an aggregate that fits says
 record ViewFits (info : TableInfo) (f : NamedFold) : Type 0 where

@@ -20,8 +20,8 @@ use Rattle.ts_catalog.specs.Columns.{column_from, place_from}
 use Rattle.stmt_syntax.specs.Proper.{IsValue, AreProperRows}
 use Rattle.stmt_syntax.specs.Written.{row_size}
 use Rattle.stmt_check.specs.declared.inserts.Rule.{Rule}
-use Rattle.stmt_check.specs.Refusals.{marked, refused}
-use Rattle.stmt_check.specs.Rows.{insert_refusal, inserted_rows, leaves_out, list_refusal_of, blank_column, other_places, picked, place_in, row_of, row_refusal, rows_of, rows_refusal, rule_at, rule_of, rules_from, shape_of, time_place, value_refusal, value_rules, values_refusal}
+use Rattle.stmt_check.specs.Refusals.{marked_refusal, refusal_if}
+use Rattle.stmt_check.specs.Rows.{insert_refusal, inserted_rows, leaves_out, list_refusal_of, blank_column, other_places, value_at, place_in, row_of, row_refusal, rows_of, rows_refusal, rule_at, rule_of, rules_from, shape_of, time_place, value_refusal, value_rules, values_refusal}
 use Rattle.stmt_check.proofs.RosterLaws.{all_at}
 use Rattle.stmt_check.proofs.PassedLaws.{neither, not_wrong, has_to_be}
 use Rattle.stmt_check.specs.Limits.{most_rows}
@@ -136,14 +136,14 @@ record RowPasses (p at : ℕ) (cols : List Column) (names : Option (List (List �
   pub proper : AllByRecursion IsValue values
 
 -- a column that isn't left out where it must not be has a fine value
-column_value : (p at : ℕ) (cols : List Column) (names : Option (List (List ℕ))) (values : List (Option ℤ)) (k : ℕ) (c : Column) → RowPasses p at cols names values → slice_get cols k ≡ Some c → ((c.must || at == k) && is_none (place_in names k c)) ≡ false → ValueIsFine (c.must || at == k) (at == k) (picked values (place_in names k c))
+column_value : (p at : ℕ) (cols : List Column) (names : Option (List (List ℕ))) (values : List (Option ℤ)) (k : ℕ) (c : Column) → RowPasses p at cols names values → slice_get cols k ≡ Some c → ((c.must || at == k) && is_none (place_in names k c)) ≡ false → ValueIsFine (c.must || at == k) (at == k) (value_at values (place_in names k c))
 column_value p at cols names values k c r e left = go (place_in names k c) refl left
   where
     not_left : (must : Bool) → (must && true) ≡ false → must ≡ true → ⊥
     not_left true e m = absurd cc
     not_left false e m = absurd cc
 
-    go : (o : Option ℕ) → place_in names k c ≡ o → ((c.must || at == k) && is_none o) ≡ false → ValueIsFine (c.must || at == k) (at == k) (picked values o)
+    go : (o : Option ℕ) → place_in names k c ≡ o → ((c.must || at == k) && is_none o) ≡ false → ValueIsFine (c.must || at == k) (at == k) (value_at values o)
     go None is left = record { word = tt; some = λ m. absurd (not_left (c.must || at == k) left m); in_range = λ t. refl }
     go (Some i) is left =
         let v = by_rule p (value_rules at cols names) values i (rule_at at c k) r.count r.passed (rule_there at cols names k c i r.apart e is) in
@@ -152,7 +152,7 @@ column_value p at cols names values k c r e left = go (place_in names k c) refl 
 -- the values of these columns, of which the first has the declared place k
 abbrev AllFine : ℕ → Option (List (List ℕ)) → List (Option ℤ) → ℕ → List Column → Type 0
 AllFine at names values k [] = Unit {0}
-AllFine at names values k (c ∷ cs) = ValueIsFine (c.must || at == k) (at == k) (picked values (place_in names k c)) × AllFine at names values (k + 1) cs
+AllFine at names values k (c ∷ cs) = ValueIsFine (c.must || at == k) (at == k) (value_at values (place_in names k c)) × AllFine at names values (k + 1) cs
 
 first_of : {X : Type 0} (xs : List X) (k : ℕ) (c : X) (cs : List X) → drop k xs ≡ c ∷ cs → (slice_get xs k ≡ Some c) × (drop (k + 1) xs ≡ cs)
 first_of [] zero c cs e = absurd cc
@@ -180,14 +180,14 @@ must_fit c None h k = unless_must c.must h
 must_fit c (Some v) h k = k
 
 -- the values of the columns behind the time fit them
-fit_behind : (at : ℕ) (names : Option (List (List ℕ))) (values : List (Option ℤ)) (k : ℕ) (cs : List Column) → at < k → AllFine at names values k cs → values_fit cs (map (picked values) (other_places at names k cs)) ≡ true
+fit_behind : (at : ℕ) (names : Option (List (List ℕ))) (values : List (Option ℤ)) (k : ℕ) (cs : List Column) → at < k → AllFine at names values k cs → values_fit cs (map (value_at values) (other_places at names k cs)) ≡ true
 fit_behind at names values k [] lt f = refl
 fit_behind at names values k (c ∷ cs) lt f =
     let apart : (at == k) ≡ false = ne_eqb at k (λ e. omega arith) in
-    rw apart (and_from _ _ (must_fit c (picked values (place_in names k c)) (λ m. f.0.some (or_left c.must (at == k) m)) f.0.word) (fit_behind at names values (k + 1) cs (omega arith) f.1))
+    rw apart (and_from _ _ (must_fit c (value_at values (place_in names k c)) (λ m. f.0.some (or_left c.must (at == k) m)) f.0.word) (fit_behind at names values (k + 1) cs (omega arith) f.1))
 
 -- the values of all columns but the time fit them
-fit_from : (at : ℕ) (names : Option (List (List ℕ))) (values : List (Option ℤ)) (k : ℕ) (cs : List Column) (j : ℕ) → at ≡ k + j → AllFine at names values k cs → values_fit (remove cs j) (map (picked values) (other_places at names k cs)) ≡ true
+fit_from : (at : ℕ) (names : Option (List (List ℕ))) (values : List (Option ℤ)) (k : ℕ) (cs : List Column) (j : ℕ) → at ≡ k + j → AllFine at names values k cs → values_fit (remove cs j) (map (value_at values) (other_places at names k cs)) ≡ true
 fit_from at names values k [] zero e f = refl
 fit_from at names values k [] (suc j) e f = refl
 fit_from at names values k (c ∷ cs) zero e f =
@@ -195,15 +195,15 @@ fit_from at names values k (c ∷ cs) zero e f =
     rw here (fit_behind at names values (k + 1) cs (omega arith) f.1)
 fit_from at names values k (c ∷ cs) (suc j) e f =
     let apart : (at == k) ≡ false = ne_eqb at k (λ s. omega arith) in
-    rw apart (and_from _ _ (must_fit c (picked values (place_in names k c)) (λ m. f.0.some (or_left c.must (at == k) m)) f.0.word) (fit_from at names values (k + 1) cs j (omega arith) f.1))
+    rw apart (and_from _ _ (must_fit c (value_at values (place_in names k c)) (λ m. f.0.some (or_left c.must (at == k) m)) f.0.word) (fit_from at names values (k + 1) cs j (omega arith) f.1))
 
 -- the time of a row is one
-time_fits : (at : ℕ) (names : Option (List (List ℕ))) (values : List (Option ℤ)) (k : ℕ) (cs : List Column) → AllFine at names values k cs → is_time (unwrap_or (picked values (time_place at names k cs)) (pos 0)) ≡ true
+time_fits : (at : ℕ) (names : Option (List (List ℕ))) (values : List (Option ℤ)) (k : ℕ) (cs : List Column) → AllFine at names values k cs → is_time (unwrap_or (value_at values (time_place at names k cs)) (pos 0)) ≡ true
 time_fits at names values k [] f = refl
 time_fits at names values k (c ∷ cs) f =
     chosen (at == k) (place_in names k c) (time_place at names (k + 1) cs) f.0.in_range (time_fits at names values (k + 1) cs f.1)
   where
-    chosen : (here : Bool) (a b : Option ℕ) → (here ≡ true → is_time (unwrap_or (picked values a) (pos 0)) ≡ true) → is_time (unwrap_or (picked values b) (pos 0)) ≡ true → is_time (unwrap_or (picked values (cond here a b)) (pos 0)) ≡ true
+    chosen : (here : Bool) (a b : Option ℕ) → (here ≡ true → is_time (unwrap_or (value_at values a) (pos 0)) ≡ true) → is_time (unwrap_or (value_at values b) (pos 0)) ≡ true → is_time (unwrap_or (value_at values (cond here a b)) (pos 0)) ≡ true
     chosen true a b g h = g refl
     chosen false a b g h = h
 
@@ -313,7 +313,7 @@ values_enough at cols (Some names) a = omega (arith, taken_among names 0 cols, n
 
 -- ---- bytes
 
-some_bytes : (values : List (Option ℤ)) (o : Option ℕ) → value_bytes (picked values o) ≤ 1 + 8 * one_if (is_some o)
+some_bytes : (values : List (Option ℤ)) (o : Option ℕ) → value_bytes (value_at values o) ≤ 1 + 8 * one_if (is_some o)
 some_bytes values None = omega arith
 some_bytes values (Some i) = at_most (get_or values i None)
   where
@@ -321,10 +321,10 @@ some_bytes values (Some i) = at_most (get_or values i None)
     at_most None = omega arith
     at_most (Some v) = omega arith
 
-vals_bytes : (values : List (Option ℤ)) (places : List (Option ℕ)) → sum_by value_bytes (map (picked values) places) ≤ length places + 8 * given places
+vals_bytes : (values : List (Option ℤ)) (places : List (Option ℕ)) → sum_by value_bytes (map (value_at values) places) ≤ length places + 8 * given places
 vals_bytes values [] = omega arith
 vals_bytes values (o ∷ places) =
-    let total : sum_by value_bytes (map (picked values) (o ∷ places)) ≡ value_bytes (picked values o) + sum_by value_bytes (map (picked values) places) = sum_by-cons value_bytes (picked values o) (map (picked values) places) in
+    let total : sum_by value_bytes (map (value_at values) (o ∷ places)) ≡ value_bytes (value_at values o) + sum_by value_bytes (map (value_at values) places) = sum_by-cons value_bytes (value_at values o) (map (value_at values) places) in
     omega (arith, some_bytes values o, vals_bytes values places)
 
 -- ---- rows
@@ -346,9 +346,9 @@ small_row vals m s v all a b c d = omega arith
 one_row : (p : ℕ) (def : TableDef) (hyper : HyperInfo) (names : Option (List (List ℕ))) (count k : ℕ) (values : List (Option ℤ)) → IsHyperOf hyper.at def.cols → AllByRecursion IsValue values → row_refusal p (shape_of hyper.at def.cols names count) k values ≡ None → RowIsSound def hyper (row_of (time_place hyper.at names 0 def.cols) (other_places hyper.at names 0 def.cols) values) (row_size values)
 one_row p def hyper names count k values h proper e =
     let rules = value_rules hyper.at def.cols names in
-    let one = neither (marked p 21 count (nat_le most_rows k)) _ e in
-    let two = neither (refused p 11 (not (length values == length rules))) _ one.1 in
-    let three = neither (refused p 12 (leaves_out hyper.at names 0 def.cols)) _ two.1 in
+    let one = neither (marked_refusal p 21 count (nat_le most_rows k)) _ e in
+    let two = neither (refusal_if p 11 (not (length values == length rules))) _ one.1 in
+    let three = neither (refusal_if p 12 (leaves_out hyper.at names 0 def.cols)) _ two.1 in
     let same : length values ≡ length rules = eqb-true _ _ (has_to_be p 11 0 (length values == length rules) two.0) in
     let left : leaves_out hyper.at names 0 def.cols ≡ false = not_wrong p 12 0 (leaves_out hyper.at names 0 def.cols) three.0 in
     let passes : RowPasses p hyper.at def.cols names values = record { apart = h.apart; count = same; passed = three.1; proper = proper } in
@@ -357,7 +357,7 @@ one_row p def hyper names count k values h proper e =
     let places = other_places hyper.at names 0 def.cols in
     record {
       fits = and_from _ _ (time_fits hyper.at names values 0 def.cols fine) (fit_from hyper.at names values 0 def.cols hyper.at (omega arith) fine);
-      size = small_row (sum_by value_bytes (map (picked values) places)) (length places) (given places) (length values) (taken names 0 def.cols)
+      size = small_row (sum_by value_bytes (map (value_at values) places)) (length places) (given places) (length values) (taken names 0 def.cols)
           (vals_bytes values places) (omega (arith, counts.length, h.few)) counts.given (omega (arith, values_enough hyper.at def.cols names h.apart));
     }
 

@@ -17,7 +17,7 @@ use Rattle.ts_catalog.specs.Columns.{view_column_of}
 use Rattle.stmt_syntax.specs.declared.statements.NamedTest.{NamedTest}
 use Rattle.stmt_check.specs.Queries.{bounds_start, below_all, below_of, from_all, from_of, is_bucket_column, next, starts_refusal}
 use Rattle.ts_bucket.specs.WholeSpans.{least, greatest}
-use Rattle.stmt_check.specs.Refusals.{refused}
+use Rattle.stmt_check.specs.Refusals.{refusal_if}
 use Rattle.stmt_check.specs.Subject.{start_passes, StartsPassEach, DropsWholeChunks}
 use Rattle.stmt_check.proofs.PassedLaws.{neither, has_to_be}
 
@@ -55,7 +55,7 @@ between : (pos : ℕ) (def : ViewDef) (lo hi : ℤ) (tests : List NamedTest) (b 
     → (int_le (from_all lo tests) b && int_lt b (below_all hi tests)) ≡ ((int_le lo b && int_lt b hi) && list_all (start_passes b) tests)
 between p def lo hi [] b e low high = sym (and-true (int_le lo b && int_lt b hi))
 between p def lo hi (t ∷ tests) b e low high =
-    let both = neither (refused p 8 (not (is_bucket_column (view_column_of def t.col) && bounds_start t.cmp))) _ e in
+    let both = neither (refusal_if p 8 (not (is_bucket_column (view_column_of def t.col) && bounds_start t.cmp))) _ e in
     let bounds = (and_parts _ (bounds_start t.cmp) (has_to_be p 8 0 (is_bucket_column (view_column_of def t.col) && bounds_start t.cmp) both.0)).1 in
     let from = from_of t.cmp t.num in
     let below = below_of t.cmp t.num in

@@ -3,9 +3,9 @@ use Rattle.std.proofs.Common.{◌≡◌, ◌∙◌, refl, ap, sym, subst, arith,
 use Rattle.std.proofs.lemmas.List.{append_assoc, drop_more, take_more, length-drop, length-append, length-map, drop-drop}
 use Rattle.std.proofs.Math.Seq.{take-append_seam, drop-append_seam}
 use Rattle.ts_schema.specs.declared.columns.Column.{Column}
-use Rattle.stmt_check.specs.Refusals.{◌⊳◌, marked, missing, refused}
+use Rattle.stmt_check.specs.Refusals.{◌⊳◌, marked_refusal, refusal_if_none, refusal_if}
 use Rattle.stmt_check.specs.Tables.{columns_refusal, is_among, is_column}
-use Rattle.stmt_check.specs.Rows.{list_refusal, others_of, picked, row_of, rows_of, values_refusal}
+use Rattle.stmt_check.specs.Rows.{list_refusal, others_of, value_at, row_of, rows_of, values_refusal}
 use Rattle.stmt_check.specs.declared.inserts.Rule.{Rule}
 use Rattle.stmt_check.specs.declared.inserts.Shape.{Shape}
 use Rattle.std.specs.List.{flat_map}
@@ -19,17 +19,17 @@ use Rattle.stmt_check.specs.Folds.{aggregate_name, aggregate_refusal, aggregates
 before_and_after : {X Y : Type 0} (F : List X → List X → Y) (xs : List X) (i : ℕ) (d : X) → i < length xs → F (take i xs) (drop i xs) ≡ F (take i xs) (get_or xs i d ∷ drop (i + 1) xs)
 before_and_after F xs i d h = ap (F (take i xs)) (drop_more xs i d h)
 
-pub columns_step : (pos n : ℕ) (xs : List Column) (i : ℕ) (d : Column) → i < length xs → columns_refusal pos n (take i xs) (drop i xs) ≡ (refused pos 7 (is_column (get_or xs i d).name (take i xs)) ⊳ marked pos 21 n (nat_le 16 (length (take i xs))) ⊳ columns_refusal pos n (take (i + 1) xs) (drop (i + 1) xs))
+pub columns_step : (pos n : ℕ) (xs : List Column) (i : ℕ) (d : Column) → i < length xs → columns_refusal pos n (take i xs) (drop i xs) ≡ (refusal_if pos 7 (is_column (get_or xs i d).name (take i xs)) ⊳ marked_refusal pos 21 n (nat_le 16 (length (take i xs))) ⊳ columns_refusal pos n (take (i + 1) xs) (drop (i + 1) xs))
 columns_step pos n xs i d h =
     let c : Column = get_or xs i d in
     before_and_after (columns_refusal pos n) xs i d h
-    ∙ ap (λ b. refused pos 7 (is_column c.name (take i xs)) ⊳ marked pos 21 n (nat_le 16 (length (take i xs))) ⊳ columns_refusal pos n b (drop (i + 1) xs)) (sym (take_more xs i d h))
+    ∙ ap (λ b. refusal_if pos 7 (is_column c.name (take i xs)) ⊳ marked_refusal pos 21 n (nat_le 16 (length (take i xs))) ⊳ columns_refusal pos n b (drop (i + 1) xs)) (sym (take_more xs i d h))
 
-pub list_step : (pos : ℕ) (cols : List Column) (xs : List (List ℕ)) (i : ℕ) (d : List ℕ) → i < length xs → list_refusal pos cols (take i xs) (drop i xs) ≡ (refused pos 7 (is_among (get_or xs i d) (take i xs)) ⊳ missing pos 8 (column_from (get_or xs i d) 0 cols) ⊳ list_refusal pos cols (take (i + 1) xs) (drop (i + 1) xs))
+pub list_step : (pos : ℕ) (cols : List Column) (xs : List (List ℕ)) (i : ℕ) (d : List ℕ) → i < length xs → list_refusal pos cols (take i xs) (drop i xs) ≡ (refusal_if pos 7 (is_among (get_or xs i d) (take i xs)) ⊳ refusal_if_none pos 8 (column_from (get_or xs i d) 0 cols) ⊳ list_refusal pos cols (take (i + 1) xs) (drop (i + 1) xs))
 list_step pos cols xs i d h =
     let n : List ℕ = get_or xs i d in
     before_and_after (list_refusal pos cols) xs i d h
-    ∙ ap (λ b. refused pos 7 (is_among n (take i xs)) ⊳ missing pos 8 (column_from n 0 cols) ⊳ list_refusal pos cols b (drop (i + 1) xs)) (sym (take_more xs i d h))
+    ∙ ap (λ b. refusal_if pos 7 (is_among n (take i xs)) ⊳ refusal_if_none pos 8 (column_from n 0 cols) ⊳ list_refusal pos cols b (drop (i + 1) xs)) (sym (take_more xs i d h))
 
 pub keys_step : (pos : ℕ) (distinct : Bool) (n : ℕ) (info : TableInfo) (b : List ℕ) (xs : List (List ℕ)) (i : ℕ) (d : List ℕ) → i < length xs → keys_refusal pos distinct n info b (take i xs) (drop i xs) ≡ (key_refusal pos n info (columns_before (length (take i xs)) 0) (distinct && is_key b (take i xs) (get_or xs i d)) (get_or xs i d) ⊳ keys_refusal pos distinct n info b (take (i + 1) xs) (drop (i + 1) xs))
 keys_step pos distinct n info b xs i d h =
@@ -77,7 +77,7 @@ next_part block part rest from le h =
 -- the values of the next row stand in front of what is left of the block
 pub next_values : (shape : Shape) (block : List (Option ℤ)) (rows : List (List (Option ℤ))) (values : List (Option ℤ)) (rest : List (List (Option ℤ))) (from n : ℕ) → from ≤ length block → drop from block ≡ flat_map (others_of shape) rows → rows ≡ values ∷ rest → n ≡ length shape.others → IsPart block (others_of shape values) (flat_map (others_of shape) rest) from (from + n)
 next_values shape block rows values rest from n le left first count =
-    let size : n ≡ length (others_of shape values) = count ∙ sym (length-map shape.others (picked values)) in
+    let size : n ≡ length (others_of shape values) = count ∙ sym (length-map shape.others (value_at values)) in
     subst (λ k. IsPart block (others_of shape values) (flat_map (others_of shape) rest) from (from + k)) (sym size)
     (next_part block (others_of shape values) (flat_map (others_of shape) rest) from le (left ∙ ap (flat_map (others_of shape)) first))
 

@@ -9,7 +9,7 @@ use Rattle.stmt_syntax.specs.Proper.{IsProperColumn}
 use Rattle.ts_schema.specs.declared.columns.Column.{Column}
 use Rattle.ts_model.specs.Roster.{same_name}
 use Rattle.ts_model.specs.Sound.{all_apart, columns_fit}
-use Rattle.stmt_check.specs.Refusals.{marked, refused}
+use Rattle.stmt_check.specs.Refusals.{marked_refusal, refusal_if}
 use Rattle.stmt_check.specs.Tables.{columns_refusal, is_column}
 use Rattle.stmt_check.proofs.PassedLaws.{neither, not_wrong}
 use Rattle.stmt_check.proofs.FoldLaws.{apart_push}
@@ -33,8 +33,8 @@ record Columns (before cols : List Column) : Type 0 where
 columns_pass : (p count : ℕ) (before cols : List Column) → all_apart (names_of before) ≡ true → columns_refusal p count before cols ≡ None → Columns before cols
 columns_pass p count before [] a e = record { apart = subst (λ (ns : List (List ℕ)). all_apart ns ≡ true) (sym (append-nil (names_of before))) a; few = λ h. omega arith }
 columns_pass p count before (c ∷ cols) a e =
-    let one = neither (refused p 7 (is_column c.name before)) _ e in
-    let two = neither (marked p 21 count (nat_le 16 (length before))) _ one.1 in
+    let one = neither (refusal_if p 7 (is_column c.name before)) _ e in
+    let two = neither (marked_refusal p 21 count (nat_le 16 (length before))) _ one.1 in
     let new : list_any (λ other. same_name other c.name) (names_of before) ≡ false = sym (any_column before c.name) ∙ not_wrong p 7 0 (is_column c.name before) one.0 in
     let few : length before < 16 = leb-false 16 (length before) (not_wrong p 21 count (nat_le 16 (length before)) two.0) in
     let pushed : all_apart (names_of (before ++ c ∷ [])) ≡ true = subst (λ (ns : List (List ℕ)). all_apart ns ≡ true) (sym (names_push before c)) (apart_push (names_of before) c.name a new) in

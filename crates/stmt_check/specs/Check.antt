@@ -26,7 +26,7 @@ use Rattle.stmt_check.specs.Queries.{bound_refusal, drop_test, starts_of, starts
 use Rattle.stmt_check.specs.Refusals.{◌⊳◌, hypertable_refusal, name_refusal, number_of, plain_refusal, query_refusal, view_refusal}
 use Rattle.stmt_check.specs.Rows.{insert_refusal, inserted_rows}
 use Rattle.stmt_check.specs.Tables.{hyper_refusal, is_interval, table_refusal}
-use Rattle.stmt_check.specs.declared.actions.NotResolved.{NotResolved}
+use Rattle.stmt_check.specs.declared.actions.ResolveStop.{ResolveStop}
 use Rattle.stmt_check.specs.Results.{Checks}
 
 -- a table without columns
@@ -159,7 +159,7 @@ action_of roster (stmts.Calendar number unit fold) =
 action_of roster (stmts.Rows table tests) = actions.Ask (rows_query roster (found_in roster table) tests)
 
 -- a statement is resolved: what it asks for where nothing is refused, and else the first refusal
-abbrev pub Resolves : ℕ → Roster → Stmt → Result Action NotResolved → Type 0
+abbrev pub Resolves : ℕ → Roster → Stmt → Result Action ResolveStop → Type 0
 Resolves pos roster stmt result = Checks (refusal_of pos roster stmt) (action_of roster stmt) result
 
 -- the check of a statement: the action where nothing is refused, and else the first refusal

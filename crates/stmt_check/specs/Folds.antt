@@ -16,12 +16,12 @@ use Rattle.stmt_syntax.specs.declared.statements.NamedAgg.{NamedAgg}
 use Rattle.stmt_syntax.specs.declared.statements.NamedFold.{NamedFold}
 use Rattle.stmt_syntax.specs.declared.statements.NamedTest.{NamedTest}
 use Rattle.stmt_syntax.specs.Heads.{bucket_word, calendar_word}
-use Rattle.stmt_check.specs.declared.folds.Rest.{Rest}
-use Rattle.stmt_check.specs.Refusals.{◌⊳◌, marked, missing, refused}
+use Rattle.stmt_check.specs.declared.folds.FoldTail.{FoldTail}
+use Rattle.stmt_check.specs.Refusals.{◌⊳◌, marked_refusal, refusal_if_none, refusal_if}
 use Rattle.std.specs.List.{list_any}
 use Rattle.ts_model.specs.Roster.{same_name}
 use Rattle.stmt_check.specs.Tables.{is_among}
-use Rattle.stmt_check.specs.declared.actions.NotResolved.{NotResolved}
+use Rattle.stmt_check.specs.declared.actions.ResolveStop.{ResolveStop}
 use Rattle.stmt_check.specs.Results.{Checks}
 use Rattle.ts_bucket.specs.declared.widths.Width.{Width}
 
@@ -32,7 +32,7 @@ number_or_zero info name = unwrap_or (column_of info name) 0
 -- tests from left to right: each column is there
 abbrev pub tests_refusal : ℕ → TableInfo → List NamedTest → Option Refusal
 tests_refusal pos info [] = None
-tests_refusal pos info (t ∷ ts) = missing pos no_column (column_of info t.col) ⊳ tests_refusal pos info ts
+tests_refusal pos info (t ∷ ts) = refusal_if_none pos no_column (column_of info t.col) ⊳ tests_refusal pos info ts
 
 -- a test with the number of its column
 abbrev pub test_of : TableInfo → NamedTest → Test
@@ -70,7 +70,7 @@ is_taken bucket keys before name = is_key bucket keys name || is_aggregate befor
 -- an aggregate's argument is there
 abbrev pub argument_refusal : ℕ → TableInfo → Option (List ℕ) → Option Refusal
 argument_refusal pos info None = None
-argument_refusal pos info (Some col) = missing pos no_column (column_of info col)
+argument_refusal pos info (Some col) = refusal_if_none pos no_column (column_of info col)
 
 -- how many output columns the bucket, so many keys and so many aggregates are, as a count of 64 bits
 abbrev pub columns_before : ℕ → ℕ → ℕ
@@ -80,9 +80,9 @@ columns_before keys aggs = raised_by aggs (raised_by keys 1)
 -- it without AS, its argument, the word after AS
 abbrev pub aggregate_refusal : ℕ → ℕ → TableInfo → ℕ → Bool → NamedAgg → Option Refusal
 aggregate_refusal pos count info others repeats a =
-    refused pos name_taken (is_none a.name && repeats) ⊳ marked pos too_many count (nat_le most_columns others)
+    refusal_if pos name_taken (is_none a.name && repeats) ⊳ marked_refusal pos too_many count (nat_le most_columns others)
     ⊳ argument_refusal pos info a.col
-    ⊳ refused pos name_taken (is_some a.name && repeats)
+    ⊳ refusal_if pos name_taken (is_some a.name && repeats)
 
 -- the aggregates from left to right, after a bucket, keys and the aggregates before; `distinct` where names have to
 -- differ
@@ -97,8 +97,8 @@ aggregates_refusal pos distinct count info bucket keys before (a ∷ left) =
 -- one key after so many columns, whose name is taken where it has to differ
 abbrev pub key_refusal : ℕ → ℕ → TableInfo → ℕ → Bool → List ℕ → Option Refusal
 key_refusal pos count info others repeats key =
-    refused pos name_taken repeats ⊳ missing pos no_column (column_of info key)
-    ⊳ marked pos too_many count (nat_le most_columns others)
+    refusal_if pos name_taken repeats ⊳ refusal_if_none pos no_column (column_of info key)
+    ⊳ marked_refusal pos too_many count (nat_le most_columns others)
 
 -- the keys from left to right, after a bucket and the keys before
 abbrev pub keys_refusal : ℕ → Bool → ℕ → TableInfo → List ℕ → List (List ℕ) → List (List ℕ) → Option Refusal
@@ -143,9 +143,9 @@ is_time_column (Some n) = n == 0
 -- the width, the time column and the offset
 abbrev pub width_refusal : ℕ → TableInfo → NamedFold → Option Refusal
 width_refusal pos info f =
-    refused pos bad_width (not (is_step f.step))
-    ⊳ refused pos no_column (not (is_time_column (column_of info f.at)))
-    ⊳ refused pos bad_width (not (is_shift f.step f.shift))
+    refusal_if pos bad_width (not (is_step f.step))
+    ⊳ refusal_if pos no_column (not (is_time_column (column_of info f.at)))
+    ⊳ refusal_if pos bad_width (not (is_shift f.step f.shift))
 
 -- the width of a fold
 abbrev pub width_of : NamedFold → Width
@@ -176,8 +176,8 @@ is_unit unit =
 -- the number of units, the unit and the time column
 abbrev pub units_refusal : ℕ → TableInfo → ℤ → List ℕ → NamedFold → Option Refusal
 units_refusal pos info number unit f =
-    missing pos bad_unit (unit_count number) ⊳ refused pos bad_unit (not (is_unit unit))
-    ⊳ refused pos no_column (not (is_time_column (column_of info f.at)))
+    refusal_if_none pos bad_unit (unit_count number) ⊳ refusal_if pos bad_unit (not (is_unit unit))
+    ⊳ refusal_if pos no_column (not (is_time_column (column_of info f.at)))
 
 -- a fold by buckets of the calendar over a hypertable: its bucket, and the rest
 abbrev pub calendar_refusal : ℕ → TableInfo → ℤ → List ℕ → NamedFold → Option Refusal
@@ -194,7 +194,7 @@ abbrev pub aggregate_of : TableInfo → NamedAgg → Agg
 aggregate_of info a = record { fun = a.fun; col = argument_of info a.col }
 
 -- the rest of a fold with the numbers of its columns
-abbrev pub rest_of : TableInfo → NamedFold → Rest
+abbrev pub rest_of : TableInfo → NamedFold → FoldTail
 rest_of info f = record {
   keys = map (number_or_zero info) f.keys;
   aggs = map (aggregate_of info) f.aggs;
@@ -222,21 +222,21 @@ calendar_of info f = record {
 -- ---- checks of parts
 
 -- the width of a fold, or its refusal
-abbrev pub ChecksWidth : ℕ → TableInfo → NamedFold → Result Width NotResolved → Type 0
+abbrev pub ChecksWidth : ℕ → TableInfo → NamedFold → Result Width ResolveStop → Type 0
 ChecksWidth pos info f result = Checks (width_refusal pos info f) (width_of f) result
 
 -- the numbers of the keys' columns of a fold whose head has this name, or the first refusal of a key
-abbrev pub ChecksKeys : ℕ → Bool → List ℕ → TableInfo → NamedFold → Result (List ℕ) NotResolved → Type 0
+abbrev pub ChecksKeys : ℕ → Bool → List ℕ → TableInfo → NamedFold → Result (List ℕ) ResolveStop → Type 0
 ChecksKeys pos distinct head info f result =
     Checks (keys_refusal pos distinct (output_count f) info head [] f.keys) (map (number_or_zero info) f.keys) result
 
 -- one aggregate after so many columns with the number of its column, or its refusal
-abbrev pub ChecksAggregate : ℕ → ℕ → TableInfo → ℕ → Bool → NamedAgg → Result Agg NotResolved → Type 0
+abbrev pub ChecksAggregate : ℕ → ℕ → TableInfo → ℕ → Bool → NamedAgg → Result Agg ResolveStop → Type 0
 ChecksAggregate pos count info others repeats a result =
     Checks (aggregate_refusal pos count info others repeats a) (aggregate_of info a) result
 
 -- the aggregates of a fold whose head has this name, or the first refusal of one
-abbrev pub ChecksAggregates : ℕ → Bool → List ℕ → TableInfo → NamedFold → Result (List Agg) NotResolved → Type 0
+abbrev pub ChecksAggregates : ℕ → Bool → List ℕ → TableInfo → NamedFold → Result (List Agg) ResolveStop → Type 0
 ChecksAggregates pos distinct head info f result =
     Checks (aggregates_refusal pos distinct (output_count f) info head f.keys [] f.aggs)
     (map (aggregate_of info) f.aggs) result

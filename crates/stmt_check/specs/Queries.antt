@@ -13,7 +13,7 @@ use Rattle.ts_schema.specs.declared.conditions.Cmp.TheVariants.{Eq, Ne, Lt, Le, 
 use Rattle.ts_schema.specs.declared.conditions.Test.{Test}
 use Rattle.ts_catalog.specs.Columns.{view_column_of}
 use Rattle.stmt_syntax.specs.declared.statements.NamedTest.{NamedTest}
-use Rattle.stmt_check.specs.Refusals.{◌⊳◌, refused}
+use Rattle.stmt_check.specs.Refusals.{◌⊳◌, refusal_if}
 
 -- the next number, where there is one of 64 bits
 abbrev pub next : ℤ → ℤ
@@ -39,7 +39,7 @@ is_bucket_column (Some n) = n == 0
 abbrev pub starts_refusal : ℕ → ViewDef → List NamedTest → Option Refusal
 starts_refusal pos def [] = None
 starts_refusal pos def (t ∷ ts) =
-    refused pos no_column (not (is_bucket_column (view_column_of def t.col) && bounds_start t.cmp))
+    refusal_if pos no_column (not (is_bucket_column (view_column_of def t.col) && bounds_start t.cmp))
     ⊳ starts_refusal pos def ts
 
 -- the least start that a test lets pass
@@ -81,7 +81,7 @@ starts_of tests = let lo = from_all least tests in record { lo = lo; hi = int_ma
 -- a bound of a window lies in the range of times
 abbrev pub bound_refusal : ℕ → Option ℤ → Option Refusal
 bound_refusal pos None = None
-bound_refusal pos (Some t) = refused pos bad_time (not (is_time t))
+bound_refusal pos (Some t) = refusal_if pos bad_time (not (is_time t))
 
 -- the test that drop_chunks puts: the time lies before the chunk that holds n
 abbrev pub drop_test : ℤ → ℤ → Test

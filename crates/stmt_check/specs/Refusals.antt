@@ -15,16 +15,16 @@ None ⊳ b = b
 (Some r) ⊳ b = Some r
 
 -- the refusal with this number and mark, where something is wrong
-abbrev pub marked : ℕ → ℕ → ℕ → Bool → Option Refusal
-marked pos code mark wrong = if wrong then Some (record { code = code; pos = pos; mark = mark }) else None
+abbrev pub marked_refusal : ℕ → ℕ → ℕ → Bool → Option Refusal
+marked_refusal pos code mark wrong = if wrong then Some (record { code = code; pos = pos; mark = mark }) else None
 
 -- the refusal with this number, where something is wrong
-abbrev pub refused : ℕ → ℕ → Bool → Option Refusal
-refused pos code wrong = marked pos code 0 wrong
+abbrev pub refusal_if : ℕ → ℕ → Bool → Option Refusal
+refusal_if pos code wrong = marked_refusal pos code 0 wrong
 
 -- something that has to be there and isn't
-abbrev pub missing : {T : Type 0} → ℕ → ℕ → Option T → Option Refusal
-missing pos code o = refused pos code (is_none o)
+abbrev pub refusal_if_none : {T : Type 0} → ℕ → ℕ → Option T → Option Refusal
+refusal_if_none pos code o = refusal_if pos code (is_none o)
 
 -- no relation was found
 abbrev pub finds_nothing : Found → Bool
@@ -36,34 +36,34 @@ finds_nothing (found.View n) = false
 -- a relation to be made has a new name, and of its kind there are fewer than there may be
 abbrev pub name_refusal : ℕ → Roster → List ℕ → ℕ → Option Refusal
 name_refusal pos roster name there =
-    refused pos name_taken (not (finds_nothing (found_in roster name)))
-    ⊳ marked pos too_many (suc most_relations) (nat_le most_relations there)
+    refusal_if pos name_taken (not (finds_nothing (found_in roster name)))
+    ⊳ marked_refusal pos too_many (suc most_relations) (nat_le most_relations there)
 
 -- where a hypertable is needed: the name stands for nothing, or for something else
 abbrev pub hypertable_refusal : ℕ → Found → Option Refusal
-hypertable_refusal pos found.None = refused pos no_relation true
-hypertable_refusal pos (found.Plain n) = refused pos not_hypertable true
+hypertable_refusal pos found.None = refusal_if pos no_relation true
+hypertable_refusal pos (found.Plain n) = refusal_if pos not_hypertable true
 hypertable_refusal pos (found.Hyper n) = None
-hypertable_refusal pos (found.View n) = refused pos not_hypertable true
+hypertable_refusal pos (found.View n) = refusal_if pos not_hypertable true
 
 -- where a table is to become a hypertable: the name stands for nothing, for an aggregate, or for a hypertable
 abbrev pub plain_refusal : ℕ → Found → Option Refusal
-plain_refusal pos found.None = refused pos no_relation true
+plain_refusal pos found.None = refusal_if pos no_relation true
 plain_refusal pos (found.Plain n) = None
-plain_refusal pos (found.Hyper n) = refused pos name_taken true
-plain_refusal pos (found.View n) = refused pos not_hypertable true
+plain_refusal pos (found.Hyper n) = refusal_if pos name_taken true
+plain_refusal pos (found.View n) = refusal_if pos not_hypertable true
 
 -- where an aggregate is needed
 abbrev pub view_refusal : ℕ → Found → Option Refusal
-view_refusal pos found.None = refused pos no_relation true
-view_refusal pos (found.Plain n) = refused pos not_aggregate true
-view_refusal pos (found.Hyper n) = refused pos not_aggregate true
+view_refusal pos found.None = refusal_if pos no_relation true
+view_refusal pos (found.Plain n) = refusal_if pos not_aggregate true
+view_refusal pos (found.Hyper n) = refusal_if pos not_aggregate true
 view_refusal pos (found.View n) = None
 
 -- where something that can be queried is needed
 abbrev pub query_refusal : ℕ → Found → Option Refusal
-query_refusal pos found.None = refused pos no_relation true
-query_refusal pos (found.Plain n) = refused pos not_hypertable true
+query_refusal pos found.None = refusal_if pos no_relation true
+query_refusal pos (found.Plain n) = refusal_if pos not_hypertable true
 query_refusal pos (found.Hyper n) = None
 query_refusal pos (found.View n) = None
 

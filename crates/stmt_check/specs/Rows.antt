@@ -9,9 +9,9 @@ use Rattle.ts_schema.specs.declared.rows.Row.{Row}
 use Rattle.ts_catalog.specs.Columns.{column_from, place_from}
 use Rattle.stmt_check.specs.declared.inserts.Rule.{Rule}
 use Rattle.stmt_check.specs.declared.inserts.Shape.{Shape}
-use Rattle.stmt_check.specs.Refusals.{◌⊳◌, marked, missing, refused}
+use Rattle.stmt_check.specs.Refusals.{◌⊳◌, marked_refusal, refusal_if_none, refusal_if}
 use Rattle.stmt_check.specs.Tables.{is_among}
-use Rattle.stmt_check.specs.declared.actions.NotResolved.{NotResolved}
+use Rattle.stmt_check.specs.declared.actions.ResolveStop.{ResolveStop}
 use Rattle.stmt_check.specs.Results.{Checks}
 
 -- a column without a name that may be NULL
@@ -47,7 +47,7 @@ place_in (Some names) k c = place_from c.name 0 names
 abbrev pub list_refusal : ℕ → List Column → List (List ℕ) → List (List ℕ) → Option Refusal
 list_refusal pos cols before [] = None
 list_refusal pos cols before (n ∷ ns) =
-    refused pos name_taken (is_among n before) ⊳ missing pos no_column (column_from n 0 cols)
+    refusal_if pos name_taken (is_among n before) ⊳ refusal_if_none pos no_column (column_from n 0 cols)
     ⊳ list_refusal pos cols (before ++ n ∷ []) ns
 
 -- the column list, where there is one
@@ -62,8 +62,8 @@ leaves_out at names k (c ∷ cs) = ((c.must || at == k) && is_none (place_in nam
 
 -- one value: a time lies in the range of times, and NULL stands only where it may
 abbrev pub value_refusal : ℕ → Rule → Option ℤ → Option Refusal
-value_refusal pos rule None = refused pos null_value rule.must
-value_refusal pos rule (Some v) = refused pos bad_time (rule.time && not (is_time v))
+value_refusal pos rule None = refusal_if pos null_value rule.must
+value_refusal pos rule (Some v) = refusal_if pos bad_time (rule.time && not (is_time v))
 
 -- the values of a row from left to right
 abbrev pub values_refusal : ℕ → List Rule → List (Option ℤ) → Option Refusal
@@ -74,9 +74,9 @@ values_refusal pos (r ∷ rs) (v ∷ vs) = value_refusal pos r v ⊳ values_refu
 -- one row: at its parenthesis the 1,001st row, the count of values and the columns left out, then its values
 abbrev pub row_refusal : ℕ → Shape → ℕ → List (Option ℤ) → Option Refusal
 row_refusal pos shape k values =
-    marked pos too_many shape.count (nat_le most_rows k)
-    ⊳ refused pos value_count (not (length values == length shape.rules))
-    ⊳ refused pos null_value shape.left_out
+    marked_refusal pos too_many shape.count (nat_le most_rows k)
+    ⊳ refusal_if pos value_count (not (length values == length shape.rules))
+    ⊳ refusal_if pos null_value shape.left_out
     ⊳ values_refusal pos shape.rules values
 
 -- the rows in order
@@ -85,9 +85,9 @@ rows_refusal pos shape k [] = None
 rows_refusal pos shape k (r ∷ rs) = row_refusal pos shape k r ⊳ rows_refusal pos shape (k + 1) rs
 
 -- the value at a place, or NULL where a column is left out
-abbrev pub picked : List (Option ℤ) → Option ℕ → Option ℤ
-picked values None = None
-picked values (Some i) = slice_index_or values i None
+abbrev pub value_at : List (Option ℤ) → Option ℕ → Option ℤ
+value_at values None = None
+value_at values (Some i) = slice_index_or values i None
 
 -- the places of the values of all columns but the time, in declared order
 abbrev pub other_places : ℕ → Option (List (List ℕ)) → ℕ → List Column → List (Option ℕ)
@@ -102,11 +102,11 @@ time_place at names k (c ∷ cs) = if at == k then place_in names k c else time_
 
 -- the values of all columns but the time that values written in this order give
 abbrev pub others_of : Shape → List (Option ℤ) → List (Option ℤ)
-others_of shape values = map (picked values) shape.others
+others_of shape values = map (value_at values) shape.others
 
 -- the row that values written in the order of these names give
 abbrev pub row_of : Option ℕ → List (Option ℕ) → List (Option ℤ) → Row
-row_of time others values = record { at = unwrap_or (picked values time) (nonneg 0); vals = map (picked values) others }
+row_of time others values = record { at = unwrap_or (value_at values time) (nonneg 0); vals = map (value_at values) others }
 
 -- what the values of an INSERT's rows stand for
 abbrev pub shape_of : ℕ → List Column → Option (List (List ℕ)) → ℕ → Shape
@@ -133,6 +133,6 @@ inserted_rows at cols names rows = rows_of (shape_of at cols names (length rows)
 
 -- the rows that an INSERT gives, or its first refusal
 abbrev pub ChecksRows :
-    ℕ → ℕ → List Column → Option (List (List ℕ)) → List (List (Option ℤ)) → Result (List Row) NotResolved → Type 0
+    ℕ → ℕ → List Column → Option (List (List ℕ)) → List (List (Option ℤ)) → Result (List Row) ResolveStop → Type 0
 ChecksRows pos at cols names rows result =
     Checks (insert_refusal pos at cols names rows) (inserted_rows at cols names rows) result

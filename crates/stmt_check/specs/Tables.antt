@@ -9,8 +9,8 @@ use Rattle.ts_model.specs.declared.rosters.Roster.{Roster}
 use Rattle.ts_schema.specs.declared.columns.Column.{Column}
 use Rattle.ts_catalog.specs.Columns.{column_from}
 use Rattle.ts_model.specs.Roster.{same_name}
-use Rattle.stmt_check.specs.Refusals.{◌⊳◌, marked, missing, name_refusal, refused}
-use Rattle.stmt_check.specs.declared.actions.NotResolved.{NotResolved}
+use Rattle.stmt_check.specs.Refusals.{◌⊳◌, marked_refusal, refusal_if_none, name_refusal, refusal_if}
+use Rattle.stmt_check.specs.declared.actions.ResolveStop.{ResolveStop}
 use Rattle.stmt_check.specs.Results.{Checks}
 
 -- a name is among these
@@ -25,7 +25,7 @@ is_column name cols = list_any (λ c. same_name c.name name) cols
 abbrev pub columns_refusal : ℕ → ℕ → List Column → List Column → Option Refusal
 columns_refusal pos count before [] = None
 columns_refusal pos count before (c ∷ cs) =
-    refused pos name_taken (is_column c.name before) ⊳ marked pos too_many count (nat_le most_columns (length before))
+    refusal_if pos name_taken (is_column c.name before) ⊳ marked_refusal pos too_many count (nat_le most_columns (length before))
     ⊳ columns_refusal pos count (before ++ c ∷ []) cs
 
 -- CREATE TABLE
@@ -40,9 +40,9 @@ is_interval n = int_le (nonneg 1) n && int_le n max_interval
 -- the column and the interval of create_hypertable
 abbrev pub hyper_refusal : ℕ → List Column → List ℕ → ℤ → Option Refusal
 hyper_refusal pos cols col interval =
-    missing pos no_column (column_from col 0 cols) ⊳ refused pos bad_width (not (is_interval interval))
+    refusal_if_none pos no_column (column_from col 0 cols) ⊳ refusal_if pos bad_width (not (is_interval interval))
 
 -- the declared place of the time column, or the refusal of create_hypertable
-abbrev pub ChecksHyper : ℕ → List Column → List ℕ → ℤ → Result ℕ NotResolved → Type 0
+abbrev pub ChecksHyper : ℕ → List Column → List ℕ → ℤ → Result ℕ ResolveStop → Type 0
 ChecksHyper pos cols col interval result =
     Checks (hyper_refusal pos cols col interval) (unwrap_or (column_from col 0 cols) 0) result

@@ -81,20 +81,20 @@ pub enum Checked {
 
 /// Why a check ended early.
 #[derive(Clone, Copy, Debug, PartialEq, Eq)]
-pub(crate) enum NotResolved {
+pub(crate) enum ResolveStop {
     /// This is refused.
     Refused(Refusal),
     /// There was no memory.
     NoMemory,
 }
 
-impl From<NoMemory> for NotResolved {
+impl From<NoMemory> for ResolveStop {
     ghost use Rattle.std.specs.Prelude.{◌≡◌};
-    ghost use Rattle.stmt_check.specs.declared.actions.NotResolved.TheVariants.{NoMemory};
+    ghost use Rattle.stmt_check.specs.declared.actions.ResolveStop.TheVariants.{NoMemory};
 
     ghost from_gives = { λ _ e. e ≡ NoMemory };
 
-    fn from(_refused: NoMemory) -> NotResolved {
-        NotResolved::NoMemory
+    fn from(_refused: NoMemory) -> ResolveStop {
+        ResolveStop::NoMemory
     }
 }

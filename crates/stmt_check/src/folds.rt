@@ -6,7 +6,7 @@ ghost use Rattle.stmt_check.specs.Folds.{aggregate_name, argument_of, argument_r
 ghost use Rattle.stmt_check.specs.Results.{Checks};
 ghost use Rattle.stmt_check.specs.Tables.{is_among};
 
-use crate::actions::NotResolved;
+use crate::actions::ResolveStop;
 use crate::refusals::{present, refuse_if, refuse_marked};
 use std::alloc::Global;
 use stmt_syntax::{NamedAgg, NamedFold, NamedTest};
@@ -30,7 +30,7 @@ pub(crate) fn check_tests(
     pos: u64,
     info: &TableInfo,
     tests: &[NamedTest],
-) -> Result<Seq<Test>, NotResolved>
+) -> Result<Seq<Test>, ResolveStop>
     requires { length info.now.def.cols < 2 ^ 32 }
     ensures { Checks (tests_refusal pos info.now tests.now) (tests_of info.now tests.now) result }
 {
@@ -48,7 +48,7 @@ pub(crate) fn check_tests(
 
 /// What stands behind the head of a fold, with the numbers of its columns.
 #[derive(Drop)]
-pub(crate) struct Rest {
+pub(crate) struct FoldTail {
     keys: Seq<u32>,
     aggs: Seq<Agg>,
     tests: Seq<Test>,
@@ -61,12 +61,12 @@ pub(crate) fn check_fold(
     distinct: bool,
     info: &TableInfo,
     fold: &NamedFold,
-) -> Result<Fold, NotResolved>
+) -> Result<Fold, ResolveStop>
     requires { length info.now.def.cols < 2 ^ 32 }
     ensures { Checks (fold_refusal pos distinct info.now fold.now) (fold_of info.now fold.now) result }
 {
     let width = check_width(pos, info, fold)?;
-    let Rest { keys, aggs, tests } = check_rest(
+    let FoldTail { keys, aggs, tests } = check_rest(
         alloc,
         pos,
         distinct,
@@ -90,13 +90,13 @@ pub(crate) fn check_calendar(
     number: i64,
     unit: &Name,
     fold: &NamedFold,
-) -> Result<(u32, Fold), NotResolved>
+) -> Result<(u32, Fold), ResolveStop>
     requires { length info.now.def.cols < 2 ^ 32 }
     ensures { Checks (calendar_refusal pos info.now number unit.now fold.now)
         (unwrap_or (unit_count number) 0, calendar_of info.now fold.now) result }
 {
     let number = check_units(pos, info, number, unit, fold)?;
-    let Rest { keys, aggs, tests } = check_rest(
+    let FoldTail { keys, aggs, tests } = check_rest(
         alloc,
         pos,
         false,
@@ -120,7 +120,7 @@ fn check_units(
     number: i64,
     unit: &Name,
     fold: &NamedFold,
-) -> Result<u32, NotResolved>
+) -> Result<u32, ResolveStop>
     requires { length info.now.def.cols < 2 ^ 32 }
     ensures { Checks (units_refusal pos info.now number unit.now fold.now) (unwrap_or (unit_count number) 0) result }
 {
@@ -159,18 +159,18 @@ pub(crate) fn check_rest(
     head: &[u8],
     info: &TableInfo,
     fold: &NamedFold,
-) -> Result<Rest, NotResolved>
+) -> Result<FoldTail, ResolveStop>
     requires { length info.now.def.cols < 2 ^ 32 }
     ensures { Checks (rest_refusal pos distinct head.now info.now fold.now) (rest_of info.now fold.now) result }
 {
     let keys = check_keys(alloc, pos, distinct, head, info, fold)?;
     let aggs = check_aggregates(alloc, pos, distinct, head, info, fold)?;
     let tests = check_tests(alloc, pos, info, fold.tests.items())?;
-    Ok(Rest { keys, aggs, tests })
+    Ok(FoldTail { keys, aggs, tests })
 }
 
 /// The width, where it is in range and the column is the time column.
-fn check_width(pos: u64, info: &TableInfo, fold: &NamedFold) -> Result<Width, NotResolved>
+fn check_width(pos: u64, info: &TableInfo, fold: &NamedFold) -> Result<Width, ResolveStop>
     requires { length info.now.def.cols < 2 ^ 32 }
     ensures { ChecksWidth pos info.now fold.now result }
 {
@@ -178,7 +178,7 @@ fn check_width(pos: u64, info: &TableInfo, fold: &NamedFold) -> Result<Width, No
     refuse_if(pos, NO_COLUMN, !is_time(column(info, &fold.at)))?;
     match width(fold.step, fold.shift) {
         Some(width) => Ok(width),
-        None => Err(NotResolved::Refused(Refusal {
+        None => Err(ResolveStop::Refused(Refusal {
             code: BAD_WIDTH,
             pos,
             mark: 0,
@@ -212,7 +212,7 @@ fn check_keys(
     head: &[u8],
     info: &TableInfo,
     fold: &NamedFold,
-) -> Result<Seq<u32>, NotResolved>
+) -> Result<Seq<u32>, ResolveStop>
     requires { length info.now.def.cols < 2 ^ 32 }
     ensures { ChecksKeys pos distinct head.now info.now fold.now result }
 {
@@ -242,7 +242,7 @@ fn check_key(
     info: &TableInfo,
     others: u64,
     key: &Name,
-) -> Result<u32, NotResolved>
+) -> Result<u32, ResolveStop>
     requires { length info.now.def.cols < 2 ^ 32 }
     ensures { Checks (key_refusal pos count info.now others repeats key.now) (number_or_zero info.now key.now) result }
 {
@@ -261,7 +261,7 @@ fn check_aggregates(
     head: &[u8],
     info: &TableInfo,
     fold: &NamedFold,
-) -> Result<Seq<Agg>, NotResolved>
+) -> Result<Seq<Agg>, ResolveStop>
     requires { length info.now.def.cols < 2 ^ 32 }
     ensures { ChecksAggregates pos distinct head.now info.now fold.now result }
 {
@@ -286,7 +286,7 @@ fn check_aggregate(
     info: &TableInfo,
     others: u64,
     agg: &NamedAgg,
-) -> Result<Agg, NotResolved>
+) -> Result<Agg, ResolveStop>
     requires { length info.now.def.cols < 2 ^ 32 }
     ensures { ChecksAggregate pos count info.now others repeats agg.now result }
 {
@@ -298,7 +298,7 @@ fn check_aggregate(
 }
 
 /// The number of an aggregate's column.
-fn check_argument(pos: u64, info: &TableInfo, col: &Option<Name>) -> Result<u32, NotResolved>
+fn check_argument(pos: u64, info: &TableInfo, col: &Option<Name>) -> Result<u32, ResolveStop>
     requires { length info.now.def.cols < 2 ^ 32 }
     ensures { Checks (argument_refusal pos info.now col.now) (argument_of info.now col.now) result }
 {

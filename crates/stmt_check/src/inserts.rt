@@ -3,10 +3,10 @@ ghost use Rattle.std.specs.Prelude.{◌≡◌, ◌<◌, ◌^◌, ◌==◌, ◌||
 ghost use Rattle.std.specs.List.{flat_map};
 ghost use Rattle.ts_catalog.specs.Columns.{place_from};
 ghost use Rattle.stmt_check.specs.Results.{Checks, Passes};
-ghost use Rattle.stmt_check.specs.Rows.{blank_column, leaves_out, list_refusal, list_refusal_of, other_places, others_of, picked, place_in, row_of, row_refusal, rows_of, rows_refusal, rule_of, rules_from, shape_of, time_place, value_refusal, value_rules, values_refusal, ChecksRows};
+ghost use Rattle.stmt_check.specs.Rows.{blank_column, leaves_out, list_refusal, list_refusal_of, other_places, others_of, value_at, place_in, row_of, row_refusal, rows_of, rows_refusal, rule_of, rules_from, shape_of, time_place, value_refusal, value_rules, values_refusal, ChecksRows};
 ghost use Rattle.stmt_check.specs.Tables.{is_among};
 
-use crate::actions::NotResolved;
+use crate::actions::ResolveStop;
 use crate::limits::MAX_ROWS;
 use crate::refusals::{present, refuse_if, refuse_marked};
 use cell_rows::CellRows;
@@ -49,7 +49,7 @@ pub(crate) fn check_rows(
     columns: &[Column],
     names: &Option<Seq<Name>>,
     rows: &CellRows<Option<i64>>,
-) -> Result<SharedSlice<Row>, NotResolved>
+) -> Result<SharedSlice<Row>, ResolveStop>
     requires { length columns.now < 2 ^ 32 }
     ensures { ChecksRows pos at columns.now names.now rows.now result }
 {
@@ -59,7 +59,7 @@ pub(crate) fn check_rows(
 }
 
 /// That the column list names no column twice, and each is there.
-fn check_list(pos: u64, columns: &[Column], names: &Option<Seq<Name>>) -> Result<(), NotResolved>
+fn check_list(pos: u64, columns: &[Column], names: &Option<Seq<Name>>) -> Result<(), ResolveStop>
     requires { length columns.now < 2 ^ 32 }
     ensures { Passes (list_refusal_of pos columns.now names.now) result }
 {
@@ -71,7 +71,7 @@ fn check_list(pos: u64, columns: &[Column], names: &Option<Seq<Name>>) -> Result
 
 /// That no column is named twice, and each is there.
 #[tactic(auto, using(crate::proofs::Steps::list_step))]
-fn check_names(pos: u64, columns: &[Column], names: &[Name]) -> Result<(), NotResolved>
+fn check_names(pos: u64, columns: &[Column], names: &[Name]) -> Result<(), ResolveStop>
     requires { length columns.now < 2 ^ 32 }
     ensures { Passes (list_refusal pos columns.now [] names.now) result }
 {
@@ -253,7 +253,7 @@ fn check_each(
     pos: u64,
     shape: &Shape,
     rows: &CellRows<Option<i64>>,
-) -> Result<SharedSlice<Row>, NotResolved>
+) -> Result<SharedSlice<Row>, ResolveStop>
     ensures { Checks (rows_refusal pos shape.now 0 rows.now) (rows_of shape.now rows.now) result }
 {
     for (place, values) in rows.iter().enumerate() {
@@ -268,7 +268,7 @@ fn check_row(
     shape: &Shape,
     place: usize,
     values: &[Option<i64>],
-) -> Result<(), NotResolved>
+) -> Result<(), ResolveStop>
     ensures { Passes (row_refusal pos shape.now place values.now) result }
 {
     refuse_marked(pos, TOO_MANY, shape.count, place >= MAX_ROWS)?;
@@ -278,7 +278,7 @@ fn check_row(
 }
 
 /// That each value meets its rule.
-fn check_values(pos: u64, rules: &[Rule], values: &[Option<i64>]) -> Result<(), NotResolved>
+fn check_values(pos: u64, rules: &[Rule], values: &[Option<i64>]) -> Result<(), ResolveStop>
     ensures { Passes (values_refusal pos rules.now values.now) result }
 {
     for (rule, value) in rules.iter().zip(values) {
@@ -288,7 +288,7 @@ fn check_values(pos: u64, rules: &[Rule], values: &[Option<i64>]) -> Result<(), 
 }
 
 /// That a time lies in the range of times, and NULL stands only where it may.
-fn check_value(pos: u64, rule: Rule, value: Option<i64>) -> Result<(), NotResolved>
+fn check_value(pos: u64, rule: Rule, value: Option<i64>) -> Result<(), ResolveStop>
     ensures { Passes (value_refusal pos rule value) result }
 {
     match value {
@@ -347,7 +347,7 @@ fn append_others(
     values: &[Option<i64>],
     others: &mut ValueBlock,
 ) -> Result<(), NoMemory>
-    ensures { IfOk result (λ _. others.new ≡ others.old ++ map (picked values.now) places.now) }
+    ensures { IfOk result (λ _. others.new ≡ others.old ++ map (value_at values.now) places.now) }
 {
     for place in places {
         others.push(value_at(values, *place))?;
@@ -357,7 +357,7 @@ fn append_others(
 
 /// The value at a place, or NULL where a column is left out.
 fn value_at(values: &[Option<i64>], place: Option<usize>) -> Option<i64>
-    ensures { result ≡ picked values.now place }
+    ensures { result ≡ value_at values.now place }
 {
     match place {
         Some(place) if place < values.len() => values[place],

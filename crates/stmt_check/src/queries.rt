@@ -6,7 +6,7 @@ ghost use Rattle.ts_bucket.specs.WholeSpans.{least, greatest};
 ghost use Rattle.stmt_check.specs.Results.{Checks, Passes};
 ghost use Rattle.stmt_check.specs.Tables.{is_interval};
 
-use crate::actions::NotResolved;
+use crate::actions::ResolveStop;
 use crate::refusals::refuse_if;
 use stmt_syntax::NamedTest;
 use ts_bucket::{MAX_TIME, MIN_TIME, Span, chunk_start};
@@ -20,7 +20,7 @@ pub(crate) fn check_starts(
     pos: u64,
     def: &ViewDef,
     tests: &[NamedTest],
-) -> Result<Span, NotResolved>
+) -> Result<Span, ResolveStop>
     requires { length def.now.names < 2 ^ 32 }
     ensures { Checks (starts_refusal pos def.now tests.now) (starts_of tests.now) result }
 {
@@ -108,7 +108,7 @@ fn end_of_starts(cmp: Cmp, num: i64) -> i64
 }
 
 /// That a bound lies in the range of times.
-pub(crate) fn check_bound(pos: u64, bound: Option<i64>) -> Result<(), NotResolved>
+pub(crate) fn check_bound(pos: u64, bound: Option<i64>) -> Result<(), ResolveStop>
     ensures { Passes (bound_refusal pos bound) result }
 {
     match bound {

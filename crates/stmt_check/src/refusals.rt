@@ -1,34 +1,34 @@
 //! Refusals, where something is wrong.
 ghost use Rattle.std.specs.Prelude.{unwrap_or};
-ghost use Rattle.stmt_check.specs.Refusals.{marked, missing, refused};
+ghost use Rattle.stmt_check.specs.Refusals.{marked_refusal, refusal_if_none, refusal_if};
 ghost use Rattle.stmt_check.specs.Results.{Checks, Passes};
 
-use crate::actions::NotResolved;
+use crate::actions::ResolveStop;
 use ts_model::Refusal;
 
 /// Refuses with this number where something is wrong.
-pub(crate) fn refuse_if(pos: u64, code: u8, wrong: bool) -> Result<(), NotResolved>
-    ensures { Passes (refused pos code wrong) result }
+pub(crate) fn refuse_if(pos: u64, code: u8, wrong: bool) -> Result<(), ResolveStop>
+    ensures { Passes (refusal_if pos code wrong) result }
 {
     refuse_marked(pos, code, 0, wrong)
 }
 
 /// Refuses with this number and mark where something is wrong.
-pub(crate) fn refuse_marked(pos: u64, code: u8, mark: u64, wrong: bool) -> Result<(), NotResolved>
-    ensures { Passes (marked pos code mark wrong) result }
+pub(crate) fn refuse_marked(pos: u64, code: u8, mark: u64, wrong: bool) -> Result<(), ResolveStop>
+    ensures { Passes (marked_refusal pos code mark wrong) result }
 {
     if wrong {
-        return Err(NotResolved::Refused(Refusal { code, pos, mark }));
+        return Err(ResolveStop::Refused(Refusal { code, pos, mark }));
     }
     Ok(())
 }
 
 /// What has to be there, or the refusal with this number.
-pub(crate) fn present(pos: u64, code: u8, found: Option<u32>) -> Result<u32, NotResolved>
-    ensures { Checks (missing pos code found) (unwrap_or found 0) result }
+pub(crate) fn present(pos: u64, code: u8, found: Option<u32>) -> Result<u32, ResolveStop>
+    ensures { Checks (refusal_if_none pos code found) (unwrap_or found 0) result }
 {
     match found {
         Some(number) => Ok(number),
-        None => Err(NotResolved::Refused(Refusal { code, pos, mark: 0 })),
+        None => Err(ResolveStop::Refused(Refusal { code, pos, mark: 0 })),
     }
 }

@@ -7,7 +7,7 @@ ghost use Rattle.stmt_check.specs.Queried.{Finds, IsInRoster, FindsHypertable, F
 ghost use Rattle.stmt_check.specs.Tables.{is_interval};
 ghost use Rattle.stmt_check.specs.Results.{Passes};
 
-use crate::actions::NotResolved;
+use crate::actions::ResolveStop;
 use crate::refusals::{refuse_if, refuse_marked};
 use ts_catalog::{Found, find};
 use ts_model::codes::{NAME_TAKEN, NO_RELATION, NOT_AGGREGATE, NOT_HYPERTABLE, TOO_MANY};
@@ -16,10 +16,10 @@ use ts_model::{Refusal, Roster, TableInfo, ViewDef};
 use ts_schema::Name;
 
 /// The refusal with this number.
-fn stop(pos: u64, code: u8) -> NotResolved
-    ensures { result ≡ NotResolved.Refused (record { code = code; pos = pos; mark = 0 }) }
+fn stop(pos: u64, code: u8) -> ResolveStop
+    ensures { result ≡ ResolveStop.Refused (record { code = code; pos = pos; mark = 0 }) }
 {
-    NotResolved::Refused(Refusal { code, pos, mark: 0 })
+    ResolveStop::Refused(Refusal { code, pos, mark: 0 })
 }
 
 /// That a relation to be made has a new name, and that there are fewer than 64 of its kind.
@@ -28,7 +28,7 @@ pub(crate) fn new_name(
     roster: &Roster,
     name: &Name,
     there: usize,
-) -> Result<(), NotResolved>
+) -> Result<(), ResolveStop>
     requires { IsNumbered roster.now }
     ensures { Passes (name_refusal pos roster.now name.now there) result }
 {
@@ -52,7 +52,7 @@ fn is_nothing(found: Found) -> bool
 }
 
 /// The number of the hypertable with this name.
-pub(crate) fn hypertable(pos: u64, roster: &Roster, name: &Name) -> Result<u32, NotResolved>
+pub(crate) fn hypertable(pos: u64, roster: &Roster, name: &Name) -> Result<u32, ResolveStop>
     requires { IsNumbered roster.now }
     ensures number { FindsHypertable pos (found_in roster.now name.now) result }
     ensures there { IfOk result (λ n. n < length roster.now.tables) }
@@ -65,7 +65,7 @@ pub(crate) fn hypertable(pos: u64, roster: &Roster, name: &Name) -> Result<u32, 
 }
 
 /// The number of the plain table with this name.
-pub(crate) fn plain_table(pos: u64, roster: &Roster, name: &Name) -> Result<u32, NotResolved>
+pub(crate) fn plain_table(pos: u64, roster: &Roster, name: &Name) -> Result<u32, ResolveStop>
     requires { IsNumbered roster.now }
     ensures number { FindsPlain pos (found_in roster.now name.now) result }
     ensures there { IfOk result (λ n. n < length roster.now.tables) }
@@ -79,7 +79,7 @@ pub(crate) fn plain_table(pos: u64, roster: &Roster, name: &Name) -> Result<u32,
 }
 
 /// The number of the aggregate with this name.
-pub(crate) fn aggregate(pos: u64, roster: &Roster, name: &Name) -> Result<u32, NotResolved>
+pub(crate) fn aggregate(pos: u64, roster: &Roster, name: &Name) -> Result<u32, ResolveStop>
     requires { IsNumbered roster.now }
     ensures number { FindsView pos (found_in roster.now name.now) result }
     ensures there { IfOk result (λ n. n < length roster.now.views) }
@@ -93,7 +93,7 @@ pub(crate) fn aggregate(pos: u64, roster: &Roster, name: &Name) -> Result<u32, N
 
 /// What can be queried by name.
 #[derive(Clone, Copy, Debug, PartialEq, Eq)]
-pub(crate) enum Queried {
+pub(crate) enum QueryTarget {
     /// The hypertable with this number.
     Table(u32),
     /// The aggregate with this number.
@@ -101,7 +101,7 @@ pub(crate) enum Queried {
 }
 
 /// The hypertable or the aggregate with this name.
-pub(crate) fn queryable(pos: u64, roster: &Roster, name: &Name) -> Result<Queried, NotResolved>
+pub(crate) fn queryable(pos: u64, roster: &Roster, name: &Name) -> Result<QueryTarget, ResolveStop>
     requires { IsNumbered roster.now }
     ensures found { Finds pos (found_in roster.now name.now) result }
     ensures there { IfOk result (IsInRoster roster.now) }
@@ -109,8 +109,8 @@ pub(crate) fn queryable(pos: u64, roster: &Roster, name: &Name) -> Result<Querie
     match find(roster, name) {
         Found::None => Err(stop(pos, NO_RELATION)),
         Found::Plain(_) => Err(stop(pos, NOT_HYPERTABLE)),
-        Found::Hyper(number) => Ok(Queried::Table(number)),
-        Found::View(number) => Ok(Queried::View(number)),
+        Found::Hyper(number) => Ok(QueryTarget::Table(number)),
+        Found::View(number) => Ok(QueryTarget::View(number)),
     }
 }
 

@@ -3,12 +3,12 @@ ghost use Rattle.std.specs.Prelude.{◌≡◌};
 ghost use Rattle.stmt_syntax.specs.declared.statements.Stmt.TheVariants as stmts;
 ghost use Rattle.stmt_check.specs.Check.{IsChecked, IsNumbered, interval_of, time_of, Resolves};
 
-use crate::actions::{Action, Checked, NotResolved};
+use crate::actions::{Action, Checked, ResolveStop};
 use crate::folds::{check_calendar, check_fold, check_tests, names_of_outputs};
 use crate::inserts::check_rows;
 use crate::queries::{before_chunk, check_bound, check_starts};
 use crate::relations::{
-    Queried, aggregate, hypertable, new_name, plain_table, queryable, table_info, view_def,
+    QueryTarget, aggregate, hypertable, new_name, plain_table, queryable, table_info, view_def,
 };
 use crate::tables::{check_columns, check_hyper};
 use cell_rows::CellRows;
@@ -27,13 +27,13 @@ pub fn check(alloc: Global, stmt: &Stmt, roster: &Roster, pos: u64) -> Checked
 {
     match resolve(alloc, pos, roster, stmt) {
         Ok(action) => Checked::Ready(action),
-        Err(NotResolved::Refused(refusal)) => Checked::Refused(refusal),
-        Err(NotResolved::NoMemory) => Checked::NoMemory,
+        Err(ResolveStop::Refused(refusal)) => Checked::Refused(refusal),
+        Err(ResolveStop::NoMemory) => Checked::NoMemory,
     }
 }
 
 /// What a statement asks for, or why it stops.
-fn resolve(alloc: Global, pos: u64, roster: &Roster, stmt: &Stmt) -> Result<Action, NotResolved>
+fn resolve(alloc: Global, pos: u64, roster: &Roster, stmt: &Stmt) -> Result<Action, ResolveStop>
     requires { IsNumbered roster.now }
     ensures { Resolves pos roster.now stmt.now result }
 {
@@ -69,7 +69,7 @@ fn resolve(alloc: Global, pos: u64, roster: &Roster, stmt: &Stmt) -> Result<Acti
 }
 
 /// CREATE TABLE.
-fn table(pos: u64, roster: &Roster, name: &Name, cols: &Seq<Column>) -> Result<Action, NotResolved>
+fn table(pos: u64, roster: &Roster, name: &Name, cols: &Seq<Column>) -> Result<Action, ResolveStop>
     requires { IsNumbered roster.now }
     ensures { Resolves pos roster.now (stmts.Table name.now cols.now) result }
 {
@@ -88,7 +88,7 @@ fn hyper(
     name: &Name,
     col: &Name,
     interval: i64,
-) -> Result<Action, NotResolved>
+) -> Result<Action, ResolveStop>
     requires { IsNumbered roster.now }
     ensures { Resolves pos roster.now (stmts.Hyper name.now col.now interval) result }
 {
@@ -110,7 +110,7 @@ fn view(
     only: bool,
     filled: bool,
     fold: &NamedFold,
-) -> Result<Action, NotResolved>
+) -> Result<Action, ResolveStop>
     requires { IsNumbered roster.now }
     ensures { Resolves pos roster.now (stmts.View name.now only filled fold.now) result }
 {
@@ -128,7 +128,7 @@ fn view(
 }
 
 /// ALTER MATERIALIZED VIEW.
-fn mode(pos: u64, roster: &Roster, name: &Name, only: bool) -> Result<Action, NotResolved>
+fn mode(pos: u64, roster: &Roster, name: &Name, only: bool) -> Result<Action, ResolveStop>
     requires { IsNumbered roster.now }
     ensures { Resolves pos roster.now (stmts.Mode name.now only) result }
 {
@@ -144,7 +144,7 @@ fn insert(
     name: &Name,
     cols: &Option<Seq<Name>>,
     rows: &CellRows<Option<i64>>,
-) -> Result<Action, NotResolved>
+) -> Result<Action, ResolveStop>
     requires { IsNumbered roster.now }
     ensures { Resolves pos roster.now (stmts.Insert name.now cols.now rows.now) result }
 {
@@ -162,7 +162,7 @@ fn delete(
     roster: &Roster,
     name: &Name,
     tests: &[NamedTest],
-) -> Result<Action, NotResolved>
+) -> Result<Action, ResolveStop>
     requires { IsNumbered roster.now }
     ensures { Resolves pos roster.now (stmts.Delete name.now tests.now) result }
 {
@@ -178,7 +178,7 @@ fn drop_chunks(
     roster: &Roster,
     name: &Name,
     below: i64,
-) -> Result<Action, NotResolved>
+) -> Result<Action, ResolveStop>
     requires { IsNumbered roster.now }
     ensures { Resolves pos roster.now (stmts.Drop name.now below) result }
 {
@@ -196,7 +196,7 @@ fn refresh(
     name: &Name,
     lo: Option<i64>,
     hi: Option<i64>,
-) -> Result<Action, NotResolved>
+) -> Result<Action, ResolveStop>
     requires { IsNumbered roster.now }
     ensures { Resolves pos roster.now (stmts.Refresh name.now lo hi) result }
 {
@@ -213,7 +213,7 @@ fn cut(
     name: &Name,
     lo: Option<i64>,
     hi: Option<i64>,
-) -> Result<Action, NotResolved>
+) -> Result<Action, ResolveStop>
     requires { IsNumbered roster.now }
     ensures { Resolves pos roster.now (stmts.Cut name.now lo hi) result }
 {
@@ -229,7 +229,7 @@ fn buckets(
     pos: u64,
     roster: &Roster,
     fold: &NamedFold,
-) -> Result<Action, NotResolved>
+) -> Result<Action, ResolveStop>
     requires { IsNumbered roster.now }
     ensures { Resolves pos roster.now (stmts.Buckets fold.now) result }
 {
@@ -246,7 +246,7 @@ fn calendar(
     number: i64,
     unit: &Name,
     fold: &NamedFold,
-) -> Result<Action, NotResolved>
+) -> Result<Action, ResolveStop>
     requires { IsNumbered roster.now }
     ensures { Resolves pos roster.now (stmts.Calendar number unit.now fold.now) result }
 {
@@ -269,16 +269,16 @@ fn rows(
     roster: &Roster,
     name: &Name,
     tests: &[NamedTest],
-) -> Result<Action, NotResolved>
+) -> Result<Action, ResolveStop>
     requires { IsNumbered roster.now }
     ensures { Resolves pos roster.now (stmts.Rows name.now tests.now) result }
 {
     match queryable(pos, roster, name)? {
-        Queried::Table(table) => {
+        QueryTarget::Table(table) => {
             let tests = check_tests(alloc, pos, table_info(roster, table), tests)?;
             Ok(Action::Ask(Query::Rows { table, tests }))
         }
-        Queried::View(view) => {
+        QueryTarget::View(view) => {
             let starts = check_starts(pos, view_def(roster, view), tests)?;
             Ok(Action::Ask(Query::Aggregate { view, starts }))
         }

@@ -3,7 +3,7 @@ ghost use Rattle.std.specs.Prelude.{◌≡◌, ◌<◌, ◌^◌, [], length};
 ghost use Rattle.stmt_check.specs.Results.{Passes};
 ghost use Rattle.stmt_check.specs.Tables.{columns_refusal, is_column, is_interval, ChecksHyper};
 
-use crate::actions::NotResolved;
+use crate::actions::ResolveStop;
 use crate::refusals::{present, refuse_if, refuse_marked};
 use ts_catalog::column_place;
 use ts_model::codes::{BAD_WIDTH, NAME_TAKEN, NO_COLUMN, TOO_MANY};
@@ -19,7 +19,7 @@ fn has_column(columns: &[Column], name: &Name) -> bool
 
 /// The columns of a table: none is named twice, and there are at most 16.
 #[tactic(auto, using(crate::proofs::Steps::columns_step))]
-pub(crate) fn check_columns(pos: u64, columns: &[Column]) -> Result<(), NotResolved>
+pub(crate) fn check_columns(pos: u64, columns: &[Column]) -> Result<(), ResolveStop>
     ensures { Passes (columns_refusal pos (length columns.now) [] columns.now) result }
 {
     for (place, column) in columns.iter().enumerate() {
@@ -35,7 +35,7 @@ pub(crate) fn check_hyper(
     columns: &[Column],
     name: &Name,
     interval: i64,
-) -> Result<u32, NotResolved>
+) -> Result<u32, ResolveStop>
     requires { length columns.now < 2 ^ 32 }
     ensures { ChecksHyper pos columns.now name.now interval result }
 {

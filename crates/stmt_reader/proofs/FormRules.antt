@@ -3,7 +3,7 @@ use Rattle.std.proofs.Common.{◌≡◌, ℕ, Bool, true, false, List, [], ◌�
 use Rattle.std.specs.Prelude.{codes}
 use Rattle.stmt_tokens.specs.Tokens.{Token, number, mark}
 use Rattle.stmt_tokens.specs.Scan as scan
-use Rattle.stmt_tokens.specs.Scan.{Seen, seen}
+use Rattle.stmt_tokens.specs.Scan.{Seen, seen_token}
 use Rattle.stmt_tokens.specs.Words.{is_keyword, is_spelled, is_mark, is_number}
 use Rattle.stmt_syntax.specs.Heads.{head_name, bucket_word, calendar_word}
 use Rattle.stmt_tokens.specs.Streams.{Placed, Stream, onto, plain, heads}
@@ -55,7 +55,7 @@ reads_fold n =
 -- ---- CREATE
 
 abbrev table_rule : Rule Stmt
-table_rule = sequence rule.name (λ n. behind (is_mark marks.Open) (sequence (rule.listed (rule.mark marks.Comma) rule.column) (λ cols. behind (is_mark marks.Close) (means (stmt.Table n cols)))))
+table_rule = sequence rule.name (λ n. behind (is_mark marks.Open) (sequence (rule.list_rule (rule.mark marks.Comma) rule.column) (λ cols. behind (is_mark marks.Close) (means (stmt.Table n cols)))))
 
 reads_table : (n : ℕ) → Reads n read.table_rest table_rule none
 unfolding read.table_rest
@@ -65,16 +65,16 @@ reads_table n =
     (λ cols. reads_then n (reads_mark n marks.Close) (λ _. reads_gives n (stmt.Table t cols)))
     (λ cols. avoids_sequence _ _ _ _ (avoids_mark _ marks.Close _ refl))))
 
-reads_setting : (n : ℕ) → Reads n read.setting rule.setting none
-unfolding read.setting
+reads_setting : (n : ℕ) → Reads n read.mode_setting rule.mode_setting none
+unfolding read.mode_setting
 reads_setting n =
     reads_then n (reads_keyword n kw.Timescaledb) (λ _. reads_then n (reads_mark n marks.Point) (λ _. reads_then n (reads_keyword n kw.MaterializedOnly) (λ _. reads_then n (reads_mark n marks.Equal) (λ _. reads_flag n))))
 
 abbrev on_affirmed : Seen → Bool
 on_affirmed = any (is_mark marks.Equal) (any none none)
 
-reads_affirmed : (n : ℕ) → Reads n read.affirmed rule.affirmed on_affirmed
-unfolding read.affirmed
+reads_affirmed : (n : ℕ) → Reads n read.equals_true rule.equals_true on_affirmed
+unfolding read.equals_true
 reads_affirmed n = takes_mark n marks.Equal (λ m. reads_keyword m kw.True) (reads_gives n tt) (avoids_means _ _ _)
 
 abbrev on_mode : Seen → Bool
@@ -99,8 +99,8 @@ reads_options n =
 abbrev on_filling : Seen → Bool
 on_filling = any (is_keyword kw.With) (any (any (is_keyword kw.No) (any none none)) none)
 
-reads_filling : (n : ℕ) → Reads n read.filling rule.filling on_filling
-unfolding read.filling
+reads_filling : (n : ℕ) → Reads n read.with_data rule.with_data on_filling
+unfolding read.with_data
 reads_filling n =
     takes_keyword n kw.With
     (λ m. takes_keyword m kw.No (λ k. reads_then k (reads_keyword k kw.Data) (λ _. reads_gives k false)) (reads_then m (reads_keyword m kw.Data) (λ _. reads_gives m true))
@@ -109,7 +109,7 @@ reads_filling n =
 
 abbrev view_rule : Rule Stmt
 view_rule = behind (is_keyword kw.View) (sequence rule.name (λ n. behind (is_keyword kw.With) (sequence rule.options (λ only. behind (is_keyword kw.As) (behind (is_keyword kw.Select)
-    (sequence rule.fold (λ f. sequence rule.filling (λ filled. means (stmt.View n only filled f)))))))))
+    (sequence rule.fold (λ f. sequence rule.with_data (λ filled. means (stmt.View n only filled f)))))))))
 
 reads_view : (n : ℕ) → Reads n read.view_rest view_rule on_filling
 unfolding read.view_rest
@@ -131,7 +131,7 @@ reads_create n = takes_keyword n kw.Materialized reads_view (reads_then n (reads
 -- ---- ALTER, INSERT, DELETE
 
 abbrev alter_rule : Rule Stmt
-alter_rule = behind (is_keyword kw.Materialized) (behind (is_keyword kw.View) (sequence rule.name (λ n. behind (is_keyword kw.Set) (behind (is_mark marks.Open) (sequence rule.setting (λ only. behind (is_mark marks.Close) (means (stmt.Mode n only))))))))
+alter_rule = behind (is_keyword kw.Materialized) (behind (is_keyword kw.View) (sequence rule.name (λ n. behind (is_keyword kw.Set) (behind (is_mark marks.Open) (sequence rule.mode_setting (λ only. behind (is_mark marks.Close) (means (stmt.Mode n only))))))))
 
 reads_alter : (n : ℕ) → Reads n read.alter_rest alter_rule none
 unfolding read.alter_rest
@@ -155,7 +155,7 @@ abbrev on_rows : Seen → Bool
 on_rows = any (parts separators.Comma) none
 
 abbrev insert_rule : Rule Stmt
-insert_rule = behind (is_keyword kw.Into) (sequence rule.name (λ n. sequence rule.column_list (λ cols. behind (is_keyword kw.Values) (sequence (rule.listed (rule.mark marks.Comma) rule.row) (λ rows. means (stmt.Insert n cols rows))))))
+insert_rule = behind (is_keyword kw.Into) (sequence rule.name (λ n. sequence rule.column_list (λ cols. behind (is_keyword kw.Values) (sequence (rule.list_rule (rule.mark marks.Comma) rule.row) (λ rows. means (stmt.Insert n cols rows))))))
 
 reads_insert : (n : ℕ) → Reads n read.insert_rest insert_rule on_rows
 unfolding read.insert_rest
@@ -172,7 +172,7 @@ reads_delete n = reads_last n (λ s. stmt.Delete s.0 s.1) (reads_source n)
 -- ---- SELECT
 
 abbrev hyper_rule : Rule Stmt
-hyper_rule = behind (is_mark marks.Open) (sequence rule.quoted (λ n. behind (is_mark marks.Comma) (sequence rule.quoted (λ c. behind (is_mark marks.Comma) (behind (is_keyword kw.ChunkTimeInterval) (behind (is_mark marks.Arrow)
+hyper_rule = behind (is_mark marks.Open) (sequence rule.quoted_name (λ n. behind (is_mark marks.Comma) (sequence rule.quoted_name (λ c. behind (is_mark marks.Comma) (behind (is_keyword kw.ChunkTimeInterval) (behind (is_mark marks.Arrow)
     (sequence rule.number (λ z. behind (is_mark marks.Close) (means (stmt.Hyper n c z))))))))))
 
 reads_hyper : (n : ℕ) → Reads n read.hyper_rest hyper_rule none
@@ -189,7 +189,7 @@ unfolding read.older_than
 reads_older_than n = takes_keyword n kw.OlderThan (λ m. reads_mark m marks.Arrow) (reads_gives n tt) (avoids_means _ _ _)
 
 abbrev drop_rule : Rule Stmt
-drop_rule = behind (is_mark marks.Open) (sequence rule.quoted (λ n. behind (is_mark marks.Comma) (sequence rule.older_than (λ _. sequence rule.number (λ z. behind (is_mark marks.Close) (means (stmt.Drop n z)))))))
+drop_rule = behind (is_mark marks.Open) (sequence rule.quoted_name (λ n. behind (is_mark marks.Comma) (sequence rule.older_than (λ _. sequence rule.number (λ z. behind (is_mark marks.Close) (means (stmt.Drop n z)))))))
 
 reads_drop : (n : ℕ) → Reads n read.drop_rest drop_rule none
 unfolding read.drop_rest
@@ -287,20 +287,20 @@ leads_number ts a left (us, vs, z, e, k, m) = number_first ts z vs left (e ∙ a
   where
     number_first : (ts : List Placed) (z : ℤ) (vs : List Token) (left : Stream) → plain ts ≡ number z ∷ vs → heads is_number (onto ts left) ≡ true
     number_first [] z vs left e = absurd cc
-    number_first (x ∷ xs) z vs left e = let h : x.token ≡ number z = cc in ap (λ y. is_number (seen y)) h
+    number_first (x ∷ xs) z vs left e = let h : x.token ≡ number z = cc in ap (λ y. is_number (seen_token y)) h
 
-reads_chosen : (n : ℕ) → Reads n read.chosen rule.chosen on_chosen
-unfolding read.chosen
+reads_chosen : (n : ℕ) → Reads n read.optional_number rule.optional_number on_chosen
+unfolding read.optional_number
 reads_chosen n = reads_choose n is_number (reads_last n Some (reads_number n)) (reads_gives n None) leads_number (avoids_means _ _ _)
 
 abbrev cut_rule : Rule Stmt
 cut_rule = sequence rule.window (λ w. means (stmt.Cut w.view w.lo w.hi))
 
 abbrev snap_rule : Rule Stmt
-snap_rule = sequence rule.chosen (λ c. means (stmt.Snap c))
+snap_rule = sequence rule.optional_number (λ c. means (stmt.Snap c))
 
 abbrev finish_rule : Rule Stmt
-finish_rule = sequence rule.chosen (λ c. means (stmt.Finish c))
+finish_rule = sequence rule.optional_number (λ c. means (stmt.Finish c))
 
 abbrev refresh_rule : Rule Stmt
 refresh_rule = either (behind (is_keyword kw.Cut) cut_rule) (either (behind (is_keyword kw.Snap) snap_rule) (behind (is_keyword kw.Finish) finish_rule))

@@ -3,11 +3,11 @@ use Rattle.std.proofs.Common.{◌≡◌, ℕ, List, [], ◌∷◌, ◌++◌, Opt
 use Rattle.std.specs.Prelude.{◌⊎◌}
 use Rattle.std.specs.List.{AllByRecursion}
 use Rattle.stmt_tokens.specs.Tokens.{Token, word, number, quoted, mark}
-use Rattle.stmt_tokens.specs.Scan.{Seen, seen}
+use Rattle.stmt_tokens.specs.Scan.{Seen, seen_token}
 use Rattle.stmt_tokens.specs.Words.{word_of, quoted_of}
 use Rattle.stmt_syntax.specs.Proper.{IsName, IsWord}
 use Rattle.stmt_reader.specs.Grammar as rule
-use Rattle.stmt_reader.specs.Grammar.{Rule, means, sequence, either, many, listed, one, wanted}
+use Rattle.stmt_reader.specs.Grammar.{Rule, means, sequence, either, many, list_rule, one, token_rule}
 
 -- a token's name is a name, and its number of 64 bits
 abbrev pub IsProperToken : Token → Type 0
@@ -65,7 +65,7 @@ many_hold y ts (a ∷ items) h (us, vs, e, l, m) =
 pub holds_many : {A : Type 0} {L : Rule A} {P : A → Type 0} → Holds L P → Holds (many L) (AllByRecursion P)
 holds_many y = record { holds = λ ts items h l. many_hold y ts items h l }
 
-pub holds_listed : {A B : Type 0} (S : Rule B) {L : Rule A} {P : A → Type 0} → Holds L P → Holds (listed S L) (AllByRecursion P)
+pub holds_listed : {A B : Type 0} (S : Rule B) {L : Rule A} {P : A → Type 0} → Holds L P → Holds (list_rule S L) (AllByRecursion P)
 holds_listed S y = holds_then y (λ first h. holds_then (holds_many (past S y)) (λ others k. holds_means (first ∷ others) _ (h, k)))
 
 -- ---- one token
@@ -73,11 +73,11 @@ holds_listed S y = holds_then y (λ first h. holds_then (holds_many (past S y)) 
 proper_one : (P : Token → Type 0) (ts : List Token) (t : Token) → ts ≡ t ∷ [] → AllByRecursion P ts → P t
 proper_one P ts t e h = (subst (λ us. AllByRecursion P us) e h).0
 
-pub holds_one : {A : Type 0} (f : Seen → Option A) (P : A → Type 0) → ((t : Token) (a : A) → IsProperToken t → f (seen t) ≡ Some a → P a) → Holds (one f) P
+pub holds_one : {A : Type 0} (f : Seen → Option A) (P : A → Type 0) → ((t : Token) (a : A) → IsProperToken t → f (seen_token t) ≡ Some a → P a) → Holds (one f) P
 unfolding one
 holds_one f P h = record { holds = λ ts a p (t, e, k). h t a (proper_one IsProperToken ts t e p) k }
 
-named_word : (t : Token) (w : List ℕ) → IsProperToken t → word_of (seen t) ≡ Some w → IsName w
+named_word : (t : Token) (w : List ℕ) → IsProperToken t → word_of (seen_token t) ≡ Some w → IsName w
 named_word (word v) w p e = let k : v ≡ w = cc in subst IsName k p
 named_word (number z) w p e = absurd cc
 named_word (quoted v) w p e = absurd cc
@@ -86,13 +86,13 @@ named_word (mark m) w p e = absurd cc
 pub holds_name : Holds rule.name IsName
 holds_name = holds_one word_of IsName named_word
 
-named_quoted : (t : Token) (w : List ℕ) → IsProperToken t → quoted_of (seen t) ≡ Some w → IsName w
+named_quoted : (t : Token) (w : List ℕ) → IsProperToken t → quoted_of (seen_token t) ≡ Some w → IsName w
 named_quoted (word v) w p e = absurd cc
 named_quoted (number z) w p e = absurd cc
 named_quoted (quoted v) w p e = let k : v ≡ w = cc in subst IsName k p
 named_quoted (mark m) w p e = absurd cc
 
-pub holds_quoted : Holds rule.quoted IsName
+pub holds_quoted : Holds rule.quoted_name IsName
 holds_quoted = holds_one quoted_of IsName named_quoted
 
 pub holds_number : Holds rule.number IsWord

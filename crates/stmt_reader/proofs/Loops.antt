@@ -5,7 +5,7 @@ use Rattle.ts_num.specs.declared.values.Fun.{Fun}
 use Rattle.stmt_tokens.specs.Scan.{Seen}
 use Rattle.stmt_tokens.specs.Words.{is_mark, function_of_word, is_item}
 use Rattle.stmt_tokens.specs.Streams.{Stream, ends, stops, ◌then◌, size, heads, tail}
-use Rattle.stmt_reader.specs.Reading.{refused, Parser, Fails, gives, go_on, bind, ◌>>=◌, ◌>>◌, takes, choose, wanted, repeat, more, name, mark, known, keys_within, keys_and_function, items_from}
+use Rattle.stmt_reader.specs.Reading.{fault_here, Parser, Fails, gives, go_on, bind, ◌>>=◌, ◌>>◌, takes, choose, token_parser, repeat, more, name, mark, function_head, keys_within, keys_and_function, items_from}
 use Rattle.stmt_reader.specs.declared.faults.Fault.{Fault}
 use Rattle.stmt_reader.specs.declared.faults.ReadError.{ReadError}
 use Rattle.stmt_reader.specs.declared.faults.ReadError.TheVariants as errors
@@ -95,28 +95,28 @@ more_done test p front s r total e r-is so_far = sym so_far ∙ more_ends test p
 -- one key and what comes after it
 abbrev pub keys_body : (List (List ℕ) → Parser (List (List ℕ) × Fun)) → List (List ℕ) → Parser (List (List ℕ) × Fun)
 keys_body rest front =
-    mark marks.Comma >> (name >>= λ w. choose (is_mark marks.Open) (known (function_of_word w) >>= λ f. gives (front, f)) (rest (front ++ w ∷ [])))
+    mark marks.Comma >> (name >>= λ w. choose (is_mark marks.Open) (function_head (function_of_word w) >>= λ f. gives (front, f)) (rest (front ++ w ∷ [])))
 
 cond_ok : (b : Bool) (s : Stream) (f : Fault) (u : Unit {0}) (left : Stream) → cond b (ok_unit (tail s)) (Err f) ≡ Ok (u, left) → (b ≡ true) × (tail s ≡ left)
 cond_ok true s f u left e = (refl, ap (left_of s) e)
 cond_ok false s f u left e = absurd cc
 
-pub wanted_less : (test : Seen → Bool) (s : Stream) (u : Unit {0}) (left : Stream) → wanted test s ≡ Ok (u, left) → size left < size s
-unfolding wanted
+pub wanted_less : (test : Seen → Bool) (s : Stream) (u : Unit {0}) (left : Stream) → token_parser test s ≡ Ok (u, left) → size left < size s
+unfolding token_parser
 wanted_less test s u left e =
-    let k = cond_ok (heads test s) s (refused s) u left e in
+    let k = cond_ok (heads test s) s (fault_here s) u left e in
     omega (arith, size-tail-lt test s k.0, ap size k.1)
 
 body_alike : (f g : List (List ℕ) → Parser (List (List ℕ) × Fun)) (s : Stream) (front : List (List ℕ)) → ((fr : List (List ℕ)) (r : Stream) → size r < size s → f fr r ≡ g fr r) → keys_body f front s ≡ keys_body g front s
 unfolding bind choose
 body_alike f g s front same =
-    go_on_alike (wanted (is_mark marks.Comma) s) _ _ (λ u r e. go_on_alike (name r) _ _ (λ w left h.
+    go_on_alike (token_parser (is_mark marks.Comma) s) _ _ (λ u r e. go_on_alike (name r) _ _ (λ w left h.
     let lt = wanted_less (is_mark marks.Comma) s u r e in
     let le = forward-name.goes r w left h in
     ap (cond (heads (is_mark marks.Open) left) _) (same (front ++ w ∷ []) left (omega arith))))
 
 keys_enough : (n m : ℕ) (front : List (List ℕ)) (s : Stream) → size s ≤ n → size s ≤ m → keys_within n front s ≡ keys_within m front s
-unfolding bind wanted
+unfolding bind token_parser
 keys_enough zero zero front s a b = refl
 keys_enough zero (suc m) front (ends q) a b = refl
 keys_enough zero (suc m) front (stops q) a b = refl
@@ -127,7 +127,7 @@ keys_enough (suc n) zero front (t then s) a b = absurd (omega arith)
 keys_enough (suc n) (suc m) front s a b = body_alike (keys_within n) (keys_within m) s front (λ fr r lt. keys_enough n m fr r (omega arith) (omega arith))
 
 pub keys_go : (front : List (List ℕ)) (s : Stream) → keys_and_function front s ≡ keys_body keys_and_function front s
-unfolding keys_and_function bind wanted
+unfolding keys_and_function bind token_parser
 keys_go front (ends q) = refl
 keys_go front (stops q) = refl
 keys_go front (t then s) =
@@ -135,49 +135,49 @@ keys_go front (t then s) =
 
 -- behind the word after a comma
 abbrev pub after_word : List (List ℕ) → List ℕ → Parser (List (List ℕ) × Fun)
-after_word front w = choose (is_mark marks.Open) (known (function_of_word w) >>= λ f. gives (front, f)) (keys_and_function (front ++ w ∷ []))
+after_word front w = choose (is_mark marks.Open) (function_head (function_of_word w) >>= λ f. gives (front, f)) (keys_and_function (front ++ w ∷ []))
 
-keys_at_word : (front : List (List ℕ)) (w : List ℕ) (s r left : Stream) → wanted (is_mark marks.Comma) s ≡ Ok (tt, r) → name r ≡ Ok (w, left) → keys_and_function front s ≡ after_word front w left
+keys_at_word : (front : List (List ℕ)) (w : List ℕ) (s r left : Stream) → token_parser (is_mark marks.Comma) s ≡ Ok (tt, r) → name r ≡ Ok (w, left) → keys_and_function front s ≡ after_word front w left
 unfolding bind
 keys_at_word front w s r left a b = keys_go front s ∙ rw (a, b) refl
 
-pub keys_turn : (front : List (List ℕ)) (w : List ℕ) (s r left : Stream) (total : Result ((List (List ℕ) × Fun) × Stream) Fault) → wanted (is_mark marks.Comma) s ≡ Ok (tt, r) → name r ≡ Ok (w, left) → heads (is_mark marks.Open) left ≡ false
+pub keys_turn : (front : List (List ℕ)) (w : List ℕ) (s r left : Stream) (total : Result ((List (List ℕ) × Fun) × Stream) Fault) → token_parser (is_mark marks.Comma) s ≡ Ok (tt, r) → name r ≡ Ok (w, left) → heads (is_mark marks.Open) left ≡ false
     → keys_and_function front s ≡ total → keys_and_function (front ++ w ∷ []) left ≡ total
 unfolding choose
 keys_turn front w s r left total a b e so_far =
     let k : after_word front w left ≡ keys_and_function (front ++ w ∷ []) left = rw e refl in
     sym k ∙ sym (keys_at_word front w s r left a b) ∙ so_far
 
-keys_at_function : (front : List (List ℕ)) (w : List ℕ) (s r left : Stream) (total : Result ((List (List ℕ) × Fun) × Stream) Fault) → wanted (is_mark marks.Comma) s ≡ Ok (tt, r) → name r ≡ Ok (w, left) → heads (is_mark marks.Open) left ≡ true
-    → keys_and_function front s ≡ total → go_on (known (function_of_word w) left) (λ f. gives (front, f)) ≡ total
+keys_at_function : (front : List (List ℕ)) (w : List ℕ) (s r left : Stream) (total : Result ((List (List ℕ) × Fun) × Stream) Fault) → token_parser (is_mark marks.Comma) s ≡ Ok (tt, r) → name r ≡ Ok (w, left) → heads (is_mark marks.Open) left ≡ true
+    → keys_and_function front s ≡ total → go_on (function_head (function_of_word w) left) (λ f. gives (front, f)) ≡ total
 unfolding choose bind
 keys_at_function front w s r left total a b e so_far =
-    let k : after_word front w left ≡ go_on (known (function_of_word w) left) (λ f. gives (front, f)) = rw e refl in
+    let k : after_word front w left ≡ go_on (function_head (function_of_word w) left) (λ f. gives (front, f)) = rw e refl in
     sym k ∙ sym (keys_at_word front w s r left a b) ∙ so_far
 
-pub keys_done : (front : List (List ℕ)) (w : List ℕ) (f : Fun) (s r left last : Stream) (total : Result ((List (List ℕ) × Fun) × Stream) Fault) → wanted (is_mark marks.Comma) s ≡ Ok (tt, r) → name r ≡ Ok (w, left) → heads (is_mark marks.Open) left ≡ true
-    → known (function_of_word w) left ≡ Ok (f, last) → keys_and_function front s ≡ total → total ≡ Ok ((front, f), last)
+pub keys_done : (front : List (List ℕ)) (w : List ℕ) (f : Fun) (s r left last : Stream) (total : Result ((List (List ℕ) × Fun) × Stream) Fault) → token_parser (is_mark marks.Comma) s ≡ Ok (tt, r) → name r ≡ Ok (w, left) → heads (is_mark marks.Open) left ≡ true
+    → function_head (function_of_word w) left ≡ Ok (f, last) → keys_and_function front s ≡ total → total ≡ Ok ((front, f), last)
 keys_done front w f s r left last total a b e k so_far = sym (keys_at_function front w s r left total a b e so_far) ∙ rw k refl
 
-pub keys_fail_at_function : (d : ReadError) (front : List (List ℕ)) (w : List ℕ) (s r left : Stream) (total : Result ((List (List ℕ) × Fun) × Stream) Fault) → wanted (is_mark marks.Comma) s ≡ Ok (tt, r) → name r ≡ Ok (w, left) → heads (is_mark marks.Open) left ≡ true
-    → Fails d (known (function_of_word w) left) → keys_and_function front s ≡ total → Fails d total
+pub keys_fail_at_function : (d : ReadError) (front : List (List ℕ)) (w : List ℕ) (s r left : Stream) (total : Result ((List (List ℕ) × Fun) × Stream) Fault) → token_parser (is_mark marks.Comma) s ≡ Ok (tt, r) → name r ≡ Ok (w, left) → heads (is_mark marks.Open) left ≡ true
+    → Fails d (function_head (function_of_word w) left) → keys_and_function front s ≡ total → Fails d total
 keys_fail_at_function d front w s r left total a b e k so_far =
-    fails_along d _ total (keys_at_function front w s r left total a b e so_far) (go_on_fails d (known (function_of_word w) left) (λ f. gives (front, f)) k)
+    fails_along d _ total (keys_at_function front w s r left total a b e so_far) (go_on_fails d (function_head (function_of_word w) left) (λ f. gives (front, f)) k)
 
-pub keys_fail_at_name : (d : ReadError) (front : List (List ℕ)) (s r : Stream) (total : Result ((List (List ℕ) × Fun) × Stream) Fault) → wanted (is_mark marks.Comma) s ≡ Ok (tt, r) → Fails d (name r)
+pub keys_fail_at_name : (d : ReadError) (front : List (List ℕ)) (s r : Stream) (total : Result ((List (List ℕ) × Fun) × Stream) Fault) → token_parser (is_mark marks.Comma) s ≡ Ok (tt, r) → Fails d (name r)
     → keys_and_function front s ≡ total → Fails d total
 unfolding bind
 keys_fail_at_name d front s r total a k so_far =
     let one : keys_and_function front s ≡ go_on (name r) (λ w. after_word front w) = keys_go front s ∙ rw a refl in
     fails_along d _ total (sym one ∙ so_far) (go_on_fails d (name r) (λ w. after_word front w) k)
 
-pub keys_fail_at_comma : (d : ReadError) (front : List (List ℕ)) (s : Stream) (total : Result ((List (List ℕ) × Fun) × Stream) Fault) → Fails d (wanted (is_mark marks.Comma) s)
+pub keys_fail_at_comma : (d : ReadError) (front : List (List ℕ)) (s : Stream) (total : Result ((List (List ℕ) × Fun) × Stream) Fault) → Fails d (token_parser (is_mark marks.Comma) s)
     → keys_and_function front s ≡ total → Fails d total
 unfolding bind
 keys_fail_at_comma d front s total k so_far =
-    fails_along d _ total (sym (keys_go front s) ∙ so_far) (go_on_fails d (wanted (is_mark marks.Comma) s) (λ _. name >>= λ w. after_word front w) k)
+    fails_along d _ total (sym (keys_go front s) ∙ so_far) (go_on_fails d (token_parser (is_mark marks.Comma) s) (λ _. name >>= λ w. after_word front w) k)
 
-pub keys_shrink : (front : List (List ℕ)) (w : List ℕ) (s r left : Stream) → wanted (is_mark marks.Comma) s ≡ Ok (tt, r) → name r ≡ Ok (w, left) → size left < size s
+pub keys_shrink : (front : List (List ℕ)) (w : List ℕ) (s r left : Stream) → token_parser (is_mark marks.Comma) s ≡ Ok (tt, r) → name r ≡ Ok (w, left) → size left < size s
 keys_shrink front w s r left a b =
     let lt = wanted_less (is_mark marks.Comma) s tt r a in
     let le = forward-name.goes r w left b in
@@ -185,25 +185,25 @@ keys_shrink front w s r left a b =
 
 -- ---- items of GROUP BY
 
-pub items_turn : (i : ℕ) (n : List ℕ) (names : List (List ℕ)) (s r left : Stream) (total : Result (Unit {0} × Stream) Fault) → wanted (is_mark marks.Comma) s ≡ Ok (tt, r) → wanted (is_item i n) r ≡ Ok (tt, left)
+pub items_turn : (i : ℕ) (n : List ℕ) (names : List (List ℕ)) (s r left : Stream) (total : Result (Unit {0} × Stream) Fault) → token_parser (is_mark marks.Comma) s ≡ Ok (tt, r) → token_parser (is_item i n) r ≡ Ok (tt, left)
     → items_from i (n ∷ names) s ≡ total → items_from (suc i) names left ≡ total
 unfolding bind
 items_turn i n names s r left total a b so_far =
     let one : items_from i (n ∷ names) s ≡ items_from (suc i) names left = rw (a, b) refl in
     sym one ∙ so_far
 
-pub items_fail_at_item : (d : ReadError) (i : ℕ) (n : List ℕ) (names : List (List ℕ)) (s r : Stream) (total : Result (Unit {0} × Stream) Fault) → wanted (is_mark marks.Comma) s ≡ Ok (tt, r) → Fails d (wanted (is_item i n) r)
+pub items_fail_at_item : (d : ReadError) (i : ℕ) (n : List ℕ) (names : List (List ℕ)) (s r : Stream) (total : Result (Unit {0} × Stream) Fault) → token_parser (is_mark marks.Comma) s ≡ Ok (tt, r) → Fails d (token_parser (is_item i n) r)
     → items_from i (n ∷ names) s ≡ total → Fails d total
 unfolding bind
 items_fail_at_item d i n names s r total a k so_far =
-    let one : items_from i (n ∷ names) s ≡ go_on (wanted (is_item i n) r) (λ _. items_from (suc i) names) = rw a refl in
-    fails_along d _ total (sym one ∙ so_far) (go_on_fails d (wanted (is_item i n) r) (λ _. items_from (suc i) names) k)
+    let one : items_from i (n ∷ names) s ≡ go_on (token_parser (is_item i n) r) (λ _. items_from (suc i) names) = rw a refl in
+    fails_along d _ total (sym one ∙ so_far) (go_on_fails d (token_parser (is_item i n) r) (λ _. items_from (suc i) names) k)
 
-pub items_fail_at_comma : (d : ReadError) (i : ℕ) (n : List ℕ) (names : List (List ℕ)) (s : Stream) (total : Result (Unit {0} × Stream) Fault) → Fails d (wanted (is_mark marks.Comma) s)
+pub items_fail_at_comma : (d : ReadError) (i : ℕ) (n : List ℕ) (names : List (List ℕ)) (s : Stream) (total : Result (Unit {0} × Stream) Fault) → Fails d (token_parser (is_mark marks.Comma) s)
     → items_from i (n ∷ names) s ≡ total → Fails d total
 unfolding bind
 items_fail_at_comma d i n names s total k so_far =
-    fails_along d _ total so_far (go_on_fails d (wanted (is_mark marks.Comma) s) (λ _. wanted (is_item i n) >> items_from (suc i) names) k)
+    fails_along d _ total so_far (go_on_fails d (token_parser (is_mark marks.Comma) s) (λ _. token_parser (is_item i n) >> items_from (suc i) names) k)
 
 pub drop_at_item : {A : Type 0} (xs : List A) (i : ℕ) (x : A) → i < length xs → x ≡ get_or xs i x → drop i xs ≡ x ∷ drop (suc i) xs
 drop_at_item xs i x lt e = drop-cons xs i x lt ∙ ap (λ y. y ∷ drop (suc i) xs) (sym e)

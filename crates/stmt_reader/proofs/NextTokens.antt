@@ -5,7 +5,7 @@ use Rattle.stmt_tokens.specs.Scan as scan
 use Rattle.stmt_tokens.specs.Scan.{Seen, SeenNext, seen_next}
 use Rattle.stmt_reader.specs.Cursor.{Cursor, ahead}
 use Rattle.stmt_tokens.specs.Streams.{Stream, ends, stops, stream, seen_ahead, is_end, place, tail}
-use Rattle.stmt_reader.specs.Reading.{refused}
+use Rattle.stmt_reader.specs.Reading.{fault_here}
 use Rattle.stmt_reader.specs.declared.faults.Fault.TheVariants.{NoToken, Syntax}
 use Rattle.stmt_tokens.proofs.Flow.{flow, stream_is_flow}
 
@@ -21,9 +21,9 @@ place_of at (scan.nothing begin) = begin + 1
 
 -- the fault where nothing that may come next comes, by the place
 abbrev pub Refuses : SeenNext → Stream → Type 0
-Refuses (scan.token t begin end) s = Syntax (place s) ≡ refused s
-Refuses scan.ended s = Syntax (place s) ≡ refused s
-Refuses (scan.nothing begin) s = NoToken (place s) ≡ refused s
+Refuses (scan.token t begin end) s = Syntax (place s) ≡ fault_here s
+Refuses scan.ended s = Syntax (place s) ≡ fault_here s
+Refuses (scan.nothing begin) s = NoToken (place s) ≡ fault_here s
 
 -- there is nothing to go past
 abbrev pub Stays : SeenNext → Stream → Type 0

@@ -8,7 +8,7 @@ use Rattle.ts_schema.specs.declared.conditions.Cmp.TheVariants as cmp
 use Rattle.ts_schema.specs.declared.conditions.Cmp.{Cmp}
 use Rattle.stmt_tokens.specs.Tokens.{Token, word, quoted, mark}
 use Rattle.stmt_tokens.specs.Scan as scan
-use Rattle.stmt_tokens.specs.Scan.{Seen, seen}
+use Rattle.stmt_tokens.specs.Scan.{Seen, seen_token}
 use Rattle.stmt_tokens.specs.Words.{is_keyword, is_mark, word_of, quoted_of, flag_of, comparison_of, function_of, is_star_of, is_item}
 use Rattle.stmt_reader.specs.Reading as read
 use Rattle.stmt_reader.specs.Reading.{takes, parts}
@@ -26,7 +26,7 @@ use Rattle.stmt_reader.proofs.Rules.{Reads, none, heads-none, any, Avoids, alike
 use Rattle.stmt_reader.proofs.RuleTokens.{behind, reads_one, reads_wanted, reads_keyword, reads_mark, reads_number, reads_takes, takes_keyword, takes_mark, inner_of, same_text, keyword_only, mark_only, avoids_means, avoids_keyword, avoids_mark, avoids_one, avoids_number, avoids_sequence}
 use Rattle.stmt_reader.proofs.RuleLists.{reads_listed, reads_rest, avoids_rest, reads_items_from}
 
-begins_one : {A : Type 0} (f : Seen → Option A) (t : Token) (a : A) → f (seen t) ≡ Some a → Begins (rule.one f) []
+begins_one : {A : Type 0} (f : Seen → Option A) (t : Token) (a : A) → f (seen_token t) ≡ Some a → Begins (rule.one f) []
 unfolding rule.one
 begins_one f t a e = (t ∷ [], a, (t, refl, e))
 
@@ -45,15 +45,15 @@ reads_last n {c = c} f r = reads_bind n r (λ a. reads_gives_on n c (f a)) (λ a
 never_heads : (test : Seen → Bool) → ((t : Seen) → test t ≡ false) → (s : Stream) → heads test s ≡ false
 never_heads test h (ends q) = refl
 never_heads test h (stops q) = refl
-never_heads test h (t then s) = h (seen t.token)
+never_heads test h (t then s) = h (seen_token t.token)
 
 never_takes : {A : Type 0} (test : Seen → Bool) (p q : read.Parser A) → ((t : Seen) → test t ≡ false) → (s : Stream) → takes test p q s ≡ q s
 unfolding takes
 never_takes test p q h s = rw (never_heads test h s) refl
 
 never_to : {A : Type 0} (test : Seen → Bool) (L M : Rule A) → ((t : Seen) → test t ≡ false) → (ts : List Token) (a : A) → either (behind test L) M ts a → M ts a
-unfolding either sequence rule.wanted
-never_to test L M h ts a (inl (us, vs, u, e, (t, e2, k), l)) = absurd (both_ways (test (seen t)) (h (seen t)) k)
+unfolding either sequence rule.token_rule
+never_to test L M h ts a (inl (us, vs, u, e, (t, e2, k), l)) = absurd (both_ways (test (seen_token t)) (h (seen_token t)) k)
 never_to test L M h ts a (inr m) = m
 
 never_back : {A : Type 0} (test : Seen → Bool) (L M : Rule A) (ts : List Token) (a : A) → M ts a → either (behind test L) M ts a
@@ -69,7 +69,7 @@ reads_never n test p L {q = q} {M = M} {c = c} {d = d} h weaker r =
 pub reads_name : (n : ℕ) → Reads n read.name rule.name none
 reads_name n = reads_one n word_of refl (begins_one word_of (word (codes "x")) (codes "x") refl)
 
-pub reads_quoted : (n : ℕ) → Reads n read.quoted rule.quoted none
+pub reads_quoted : (n : ℕ) → Reads n read.quoted_name rule.quoted_name none
 reads_quoted n = reads_one n quoted_of refl (begins_one quoted_of (quoted (codes "x")) (codes "x") refl)
 
 pub reads_flag : (n : ℕ) → Reads n (read.one flag_of) rule.flag none
@@ -257,8 +257,8 @@ reads_calendar_bucket n =
     reads_then n (reads_mark n marks.Comma) (λ _. reads_then n (reads_name n) (λ c. reads_then n (reads_mark n marks.Close) (λ _.
     reads_last n (λ x. record { number = z; unit = u; head = record { step = pos 1; shift = pos 0; at = c; name = x } }) (reads_alias n))))))))
 
-pub reads_grouping : (n : ℕ) (first : List ℕ) (keys : List (List ℕ)) → Reads n (read.grouping first keys) (rule.grouping first keys) none
-unfolding read.grouping read.items
+pub reads_grouping : (n : ℕ) (first : List ℕ) (keys : List (List ℕ)) → Reads n (read.group_by first keys) (rule.group_by first keys) none
+unfolding read.group_by read.items
 reads_grouping n first keys =
     reads_then n (reads_keyword n kw.Group) (λ _. reads_then n (reads_keyword n kw.By) (λ _.
     reads_then n (reads_wanted n (is_item 0 first) (word first) refl (same_text first)) (λ _. reads_items_from n 1 keys)))

@@ -2,7 +2,7 @@
 use Rattle.std.proofs.Common.{◌≡◌, ℕ, ◌+◌, Bool, true, false, List, [], ◌∷◌, ◌++◌, length, refl, sym, ap, ◌∙◌, arith, inl, inr}
 use Rattle.std.specs.Prelude.{◌⊎◌}
 use Rattle.stmt_tokens.specs.Tokens.{Token}
-use Rattle.stmt_tokens.specs.Scan.{Seen, seen}
+use Rattle.stmt_tokens.specs.Scan.{Seen, seen_token}
 use Rattle.stmt_tokens.specs.Streams.{Placed, Stream, ends, stops, ◌then◌, onto, plain, size, seen_ahead, passes, heads, tail}
 use Rattle.stmt_reader.specs.Refusals.{is_fit}
 use Rattle.stmt_reader.specs.declared.faults.Fault.{Fault}
@@ -118,7 +118,7 @@ heads_onto test ts l r e = heads_alike test (onto ts l) (onto ts r) (ahead_onto 
 pub record Heads (test : Seen → Bool) (s : Stream) : Type 0 where
   pub first : Placed
   pub is : s ≡ first then (tail s)
-  pub passed : test (seen first.token) ≡ true
+  pub passed : test (seen_token first.token) ≡ true
 
 pub heads_is : (test : Seen → Bool) (s : Stream) → heads test s ≡ true → Heads test s
 heads_is test (ends p) e = absurd cc

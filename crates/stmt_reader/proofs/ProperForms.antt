@@ -86,7 +86,7 @@ IsProperArgument a = IsAlias a.1
 argument : (f : Fun) → Holds (rule.argument f) IsProperArgument
 argument f =
     holds_either
-    (past (rule.wanted (is_star_of f)) (holds_means (fun.CountAll, None) IsProperArgument tt))
+    (past (rule.token_rule (is_star_of f)) (holds_means (fun.CountAll, None) IsProperArgument tt))
     (holds_then holds_name (λ c h. holds_means (f, Some c) IsProperArgument h))
 
 aggregate : Holds rule.aggregate IsProperAgg
@@ -133,7 +133,7 @@ pub holds_fold_behind : (own : List ℕ) (b : Head) → IsProperHead b → Holds
 holds_fold_behind own b h =
     holds_then select_list (λ list k.
     holds_then source (λ from m.
-    past (rule.grouping (head_name own b.name) list.0)
+    past (rule.group_by (head_name own b.name) list.0)
     (holds_means (record { step = b.step; shift = b.shift; at = b.at; name = b.name; keys = list.0; aggs = list.1; table = from.0; tests = from.1 }) IsProperFold
     (record { step = h.step; shift = h.shift; at = h.at; name = h.name; keys = k.keys; aggs = k.aggs; table = m.table; tests = m.tests }))))
 
@@ -194,7 +194,7 @@ create_view =
     past (rule.keyword kw.As)
     (past (rule.keyword kw.Select)
     (holds_then fold (λ f k.
-    holds_then (holds_any rule.filling) (λ filled _. holds_means (stmt.View n only filled f) IsProper (h, k)))))))))))
+    holds_then (holds_any rule.with_data) (λ filled _. holds_means (stmt.View n only filled f) IsProper (h, k)))))))))))
 
 alter_view : Holds rule.alter_view IsProper
 alter_view =
@@ -204,7 +204,7 @@ alter_view =
     (holds_then holds_name (λ n h.
     past (rule.keyword kw.Set)
     (past (rule.mark marks.Open)
-    (holds_then (holds_any rule.setting) (λ only _.
+    (holds_then (holds_any rule.mode_setting) (λ only _.
     past (rule.mark marks.Close) (holds_means (stmt.Mode n only) IsProper h))))))))
 
 abbrev AreProperNames : Option (List (List ℕ)) → Type 0
@@ -270,7 +270,7 @@ refresh_cut =
     (past (rule.keyword kw.Cut)
     (holds_then window (λ w h. holds_means (stmt.Cut w.view w.lo w.hi) IsProper (h.view, h.lo, h.hi))))
 
-chosen : Holds rule.chosen IsValue
+chosen : Holds rule.optional_number IsValue
 chosen = holds_either (holds_then holds_number (λ z h. holds_means (Some z) IsValue h)) (holds_means None IsValue tt)
 
 refresh_snap : Holds rule.refresh_snap IsProper
@@ -301,7 +301,7 @@ buckets = past (rule.keyword kw.Select) (holds_then fold (λ f h. holds_means (s
 calendar : Holds rule.calendar IsProper
 calendar =
     past (rule.keyword kw.Select)
-    (past (rule.wanted (is_spelled calendar_word))
+    (past (rule.token_rule (is_spelled calendar_word))
     (holds_then calendar_bucket (λ h k.
     holds_then (holds_fold_behind calendar_word h.head k.head) (λ f m.
     holds_means (stmt.Calendar h.number h.unit f) IsProper (k.number, k.unit, m)))))

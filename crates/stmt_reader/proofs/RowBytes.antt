@@ -4,12 +4,12 @@ use Rattle.std.specs.Str.{bytes_eq}
 use Rattle.std.proofs.lemmas.Bool.Decides.{nat_tests}
 use Rattle.std.specs.Prelude.{option_and_then, IfSome}
 use Rattle.stmt_tokens.specs.Tokens.{next}
-use Rattle.stmt_tokens.specs.Scan.{Seen, seen, word, number, quoted, mark, SeenNext, seen_next}
+use Rattle.stmt_tokens.specs.Scan.{Seen, seen_token, word, number, quoted, mark, SeenNext, seen_next}
 use Rattle.stmt_tokens.specs.Words.{is_keyword, keyword_text, is_mark, mark_number, number_of, value_of}
 use Rattle.stmt_reader.specs.Cursor.{Cursor, ahead}
 use Rattle.stmt_tokens.specs.Streams.{Stream, ends, stops, ◌then◌, stream, size, seen_ahead, passes, heads, tail}
 use Rattle.stmt_reader.specs.Reading as read
-use Rattle.stmt_reader.specs.Reading.{Parser, gives, go_on, bind, takes, fitting, wanted, more, parts, listed, value, row}
+use Rattle.stmt_reader.specs.Reading.{Parser, gives, go_on, bind, takes, fitting_number, token_parser, more, parts, list_parser, value, row}
 use Rattle.stmt_reader.specs.Forward.{forward-value, forward-row}
 use Rattle.stmt_reader.specs.declared.faults.Fault.{Fault}
 use Rattle.stmt_tokens.specs.declared.keywords.Keyword.TheVariants as kw
@@ -25,14 +25,14 @@ comes text skip a le e = begins_with (record { text = text; at = skip }) text sk
 -- ---- one token
 
 pub heads_by : (test : Seen → Bool) (s : Stream) (t : Seen) → Some t ≡ seen_ahead s → test t ≡ true → heads test s ≡ true
-heads_by test s t seen e = ap (passes test) (sym seen) ∙ e
+heads_by test s t seen_token e = ap (passes test) (sym seen_token) ∙ e
 
 abbrev done : Option ℤ → Stream → Result (Option ℤ × Stream) Fault
 done v s = Ok (v, s)
 
 -- the value in front of these tokens, from the token that comes next
 abbrev answer : Stream → Option Seen → Result (Option ℤ × Stream) Fault
-answer s o = cond (passes (is_keyword kw.Null) o) (done None (tail s)) (go_on (fitting s (option_and_then number_of o)) (λ z. gives (Some z)))
+answer s o = cond (passes (is_keyword kw.Null) o) (done None (tail s)) (go_on (fitting_number s (option_and_then number_of o)) (λ z. gives (Some z)))
 
 value_is : (s : Stream) → value s ≡ answer s (seen_ahead s)
 unfolding value read.number takes bind
@@ -50,20 +50,20 @@ answer_says s (quoted w) v e = absurd cc
 answer_says s (mark m) v e = absurd cc
 
 pub value_by : (s r : Stream) (t : Seen) (v : Option ℤ) → Some t ≡ seen_ahead s → r ≡ tail s → value_of t ≡ Some v → value s ≡ Ok (v, r)
-value_by s r t v seen r-is e = value_is s ∙ ap (answer s) (sym seen) ∙ answer_says s t v e ∙ ap (done v) (sym r-is)
+value_by s r t v seen_token r-is e = value_is s ∙ ap (answer s) (sym seen_token) ∙ answer_says s t v e ∙ ap (done v) (sym r-is)
 
 -- ---- one row
 
 -- the end of a row
 abbrev pub closes : List (Option ℤ) → Parser (List (Option ℤ))
-closes vs = bind (wanted (is_mark marks.Close)) (λ _. gives vs)
+closes vs = bind (token_parser (is_mark marks.Close)) (λ _. gives vs)
 
 -- a row from its next value on, where these values were read
 abbrev pub from_value : List (Option ℤ) → Parser (List (Option ℤ))
 from_value front s = go_on (go_on (value s) (λ v. more (parts separators.Comma) value (front ++ v ∷ []))) closes
 
 pub row_opens : (s r : Stream) → heads (is_mark marks.Open) s ≡ true → r ≡ tail s → row s ≡ from_value [] r
-unfolding row listed bind wanted
+unfolding row list_parser bind token_parser
 row_opens s r e r-is = rw (e, r-is) refl
 
 pub row_goes_on : (front vs : List (Option ℤ)) (v : Option ℤ) (s m r : Stream) → vs ≡ front ++ v ∷ [] → value s ≡ Ok (v, m) → heads (parts separators.Comma) m ≡ true → r ≡ tail m → from_value front s ≡ from_value vs r
@@ -84,10 +84,10 @@ closed_token (mark m) e = close_is_no_comma (mark_number m) e
 closed : (s : Stream) → heads (is_mark marks.Close) s ≡ true → heads (parts separators.Comma) s ≡ false
 closed (ends p) e = refl
 closed (stops p) e = refl
-closed (t then s) e = closed_token (seen t.token) e
+closed (t then s) e = closed_token (seen_token t.token) e
 
 pub row_closes : (front : List (Option ℤ)) (v : Option ℤ) (s m r : Stream) → value s ≡ Ok (v, m) → heads (is_mark marks.Close) m ≡ true → r ≡ tail m → from_value front s ≡ Ok (front ++ v ∷ [], r)
-unfolding bind wanted
+unfolding bind token_parser
 row_closes front v s m r read e r-is =
     let last : closes (front ++ v ∷ []) m ≡ Ok (front ++ v ∷ [], r) = rw (e, r-is) refl in
     ap (λ (x : Result (Option ℤ × Stream) Fault). go_on (go_on x (λ w. more (parts separators.Comma) value (front ++ w ∷ []))) closes) read

@@ -5,9 +5,9 @@ use Rattle.std.proofs.lemmas.Bool.{cases_Bool, or_parts}
 use Rattle.std.proofs.lemmas.List.{append-nil}
 use Rattle.stmt_tokens.specs.Tokens.{Token, word}
 use Rattle.stmt_tokens.specs.Scan as scan
-use Rattle.stmt_tokens.specs.Scan.{Seen, seen}
+use Rattle.stmt_tokens.specs.Scan.{Seen, seen_token}
 use Rattle.stmt_tokens.specs.Streams.{Placed, Stream, ends, stops, ◌then◌, onto, plain, size, heads}
-use Rattle.stmt_reader.specs.Reading.{Parser, gives, bind, takes, more, listed, parts, items_from}
+use Rattle.stmt_reader.specs.Reading.{Parser, gives, bind, takes, more, list_parser, parts, items_from}
 use Rattle.stmt_tokens.specs.Words.{is_item}
 use Rattle.stmt_reader.specs.Grammar as rule
 use Rattle.stmt_reader.specs.Grammar.{Rule, means, sequence, either, many}
@@ -39,15 +39,15 @@ unfolding takes bind
 more_step test p front s f (inl e) = more_goes test p front s f e ∙ rw e refl
 more_step test p front s f (inr e) = more_ends test p front s e ∙ rw e refl
 
-first_at : (c : Seen → Bool) (ts : List Placed) (t : Token) (rest : List Token) (left : Stream) → plain ts ≡ t ∷ rest → c (seen t) ≡ false → heads c (onto ts left) ≡ false
+first_at : (c : Seen → Bool) (ts : List Placed) (t : Token) (rest : List Token) (left : Stream) → plain ts ≡ t ∷ rest → c (seen_token t) ≡ false → heads c (onto ts left) ≡ false
 first_at c [] t rest left e k = absurd cc
-first_at c (x ∷ xs) t rest left e k = let h : x.token ≡ t = cc in ap (λ y. c (seen y)) h ∙ k
+first_at c (x ∷ xs) t rest left e k = let h : x.token ≡ t = cc in ap (λ y. c (seen_token y)) h ∙ k
 
 weaker : (test c : Seen → Bool) (s : Stream) → heads (any test c) s ≡ false → heads (any test (any (any test c) none)) s ≡ false
 weaker test c (ends q) e = refl
 weaker test c (stops q) e = refl
 weaker test c (t then s) e =
-    let k = or_parts (test (seen t.token)) (c (seen t.token)) e in
+    let k = or_parts (test (seen_token t.token)) (c (seen_token t.token)) e in
     rw (k.0, k.1) refl
 
 -- one more item, or none
@@ -71,10 +71,10 @@ after_alike test L front = record { to = after_to test L front; back = λ ts ite
 
 -- what may follow an item: its separator, or what may follow the list
 leads_many : {A : Type 0} (test c : Seen → Bool) (L : Rule A) (ts : List Placed) (new : List A) (left : Stream) → ((t : Seen) → test t ≡ true → c t ≡ false) → many (behind test L) (plain ts) new → heads (any test c) left ≡ false → heads c (onto ts left) ≡ false
-unfolding many sequence rule.wanted
+unfolding many sequence rule.token_rule
 leads_many test c L ts [] left apart e free = subst (λ us. heads c (onto us left) ≡ false) (sym (nothing_placed ts e)) (heads-any test c left free).1
 leads_many test c L ts (a ∷ new) left apart (xs, vs2, e, (us, us2, u, e2, (t, e3, k), l), m) free =
-    first_at c ts t (us2 ++ vs2) left (e ∙ ap (λ x. x ++ vs2) (e2 ∙ ap (λ x. x ++ us2) e3)) (apart (seen t) k)
+    first_at c ts t (us2 ++ vs2) left (e ∙ ap (λ x. x ++ vs2) (e2 ∙ ap (λ x. x ++ us2) e3)) (apart (seen_token t) k)
 
 avoids_after : {A : Type 0} (test c : Seen → Bool) (L : Rule A) (front : List A) → ((t : Seen) → test t ≡ true → c t ≡ false) → Avoids c (After front (many (behind test L))) (any test c)
 avoids_after test c L front apart ts items left (new, k, m) free = leads_many test c L ts new left apart m free
@@ -94,14 +94,14 @@ item_then test p front = bind p (λ a. more test p (front ++ a ∷ []))
 abbrev item_and : {A : Type 0} → (Seen → Bool) → Rule A → List A → Rule (List A)
 item_and test L front = sequence L (λ a. After (front ++ a ∷ []) (many (behind test L)))
 
-reads_more_at : (n : ℕ) {A : Type 0} (test : Seen → Bool) (t : Token) (p : Parser A) (L : Rule A) (c : Seen → Bool) (front : List A) → test (scan.number None) ≡ false → test (seen t) ≡ true → ((m : ℕ) → Reads m p L c)
+reads_more_at : (n : ℕ) {A : Type 0} (test : Seen → Bool) (t : Token) (p : Parser A) (L : Rule A) (c : Seen → Bool) (front : List A) → test (scan.number None) ≡ false → test (seen_token t) ≡ true → ((m : ℕ) → Reads m p L c)
     → Inner n (item_then test p front) (item_and test L front) (any test c) → Reads n (more test p front) (After front (many (behind test L))) (any test c)
 reads_more_at n test t p L c front rejects e r inner =
     reads_alike n (takes test (item_then test p front) (gives front)) (more test p front) (one_more test L front) (After front (many (behind test L))) (any test (any (any test c) none)) (any test c)
     (λ s. more_step test p front s (forward_of_reads r) (cases_Bool (heads test s))) (after_alike test L front) (weaker test c)
     (reads_takes n test t (item_then test p front) (item_and test L front) (any test c) rejects e inner (begins_item test L front (r 0).starts) (reads_gives n front) (avoids_means test front (any (any test c) none)))
 
-pub reads_more : (n : ℕ) {A : Type 0} (test : Seen → Bool) (t : Token) (p : Parser A) (L : Rule A) (c : Seen → Bool) (front : List A) → test (scan.number None) ≡ false → test (seen t) ≡ true → ((m : ℕ) → Reads m p L c) → ((x : Seen) → test x ≡ true → c x ≡ false)
+pub reads_more : (n : ℕ) {A : Type 0} (test : Seen → Bool) (t : Token) (p : Parser A) (L : Rule A) (c : Seen → Bool) (front : List A) → test (scan.number None) ≡ false → test (seen_token t) ≡ true → ((m : ℕ) → Reads m p L c) → ((x : Seen) → test x ≡ true → c x ≡ false)
     → Reads n (more test p front) (After front (many (behind test L))) (any test c)
 reads_more zero test t p L c front rejects e r apart = reads_more_at zero test t p L c front rejects e r tt
 reads_more (suc m) test t p L c front rejects e r apart =
@@ -137,7 +137,7 @@ others_alike test L a = record { to = others_to test L a; back = others_back tes
 abbrev pub list_of : {A : Type 0} → (Seen → Bool) → Rule A → Rule (List A)
 list_of test L = sequence L (λ a. sequence (many (behind test L)) (λ others. means (a ∷ others)))
 
-pub reads_rest : (n : ℕ) {A : Type 0} (test : Seen → Bool) (t : Token) (p : Parser A) (L : Rule A) (c : Seen → Bool) (a : A) → test (scan.number None) ≡ false → test (seen t) ≡ true → ((m : ℕ) → Reads m p L c) → ((x : Seen) → test x ≡ true → c x ≡ false)
+pub reads_rest : (n : ℕ) {A : Type 0} (test : Seen → Bool) (t : Token) (p : Parser A) (L : Rule A) (c : Seen → Bool) (a : A) → test (scan.number None) ≡ false → test (seen_token t) ≡ true → ((m : ℕ) → Reads m p L c) → ((x : Seen) → test x ≡ true → c x ≡ false)
     → Reads n (more test p (a ∷ [])) (sequence (many (behind test L)) (λ others. means (a ∷ others))) (any test c)
 reads_rest n test t p L c a rejects e r apart =
     reads_alike n (more test p (a ∷ [])) (more test p (a ∷ [])) (After (a ∷ []) (many (behind test L))) (sequence (many (behind test L)) (λ others. means (a ∷ others))) (any test c) (any test c)
@@ -146,9 +146,9 @@ reads_rest n test t p L c a rejects e r apart =
 pub avoids_rest : {A : Type 0} (test c : Seen → Bool) (L : Rule A) (a : A) → ((x : Seen) → test x ≡ true → c x ≡ false) → Avoids c (sequence (many (behind test L)) (λ others. means (a ∷ others))) (any test c)
 avoids_rest test c L a apart ts items left m free = avoids_after test c L (a ∷ []) apart ts items left (others_back test L a (plain ts) items m) free
 
-pub reads_listed : (n : ℕ) {A : Type 0} (separator : Separator) (t : Token) {p : Parser A} {L : Rule A} {c : Seen → Bool} → parts separator (scan.number None) ≡ false → parts separator (seen t) ≡ true → ((m : ℕ) → Reads m p L c) → ((x : Seen) → parts separator x ≡ true → c x ≡ false)
-    → Reads n (listed separator p) (list_of (parts separator) L) (any (parts separator) c)
-unfolding listed
+pub reads_listed : (n : ℕ) {A : Type 0} (separator : Separator) (t : Token) {p : Parser A} {L : Rule A} {c : Seen → Bool} → parts separator (scan.number None) ≡ false → parts separator (seen_token t) ≡ true → ((m : ℕ) → Reads m p L c) → ((x : Seen) → parts separator x ≡ true → c x ≡ false)
+    → Reads n (list_parser separator p) (list_of (parts separator) L) (any (parts separator) c)
+unfolding list_parser
 reads_listed n separator t {p = p} {L = L} {c = c} rejects e r apart =
     reads_bind n (r n) (λ a. reads_rest n (parts separator) t p L c a rejects e r apart) (λ a. avoids_rest (parts separator) c L a apart)
 

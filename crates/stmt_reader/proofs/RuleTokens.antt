@@ -7,10 +7,10 @@ use Rattle.std.proofs.lemmas.Slice.Eq.{bytes_eq-Decides}
 use Rattle.stmt_tokens.specs.Tokens.{Token, word, number, quoted, mark}
 use Rattle.stmt_syntax.specs.Limits.{is_i64}
 use Rattle.stmt_tokens.specs.Scan as scan
-use Rattle.stmt_tokens.specs.Scan.{Seen, seen, i64_of}
+use Rattle.stmt_tokens.specs.Scan.{Seen, seen_token, i64_of}
 use Rattle.stmt_tokens.specs.Words.{is_keyword, is_spelled, keyword_text, is_mark, mark_number, number_of}
 use Rattle.stmt_tokens.specs.Streams.{Placed, Stream, ends, stops, ◌then◌, onto, plain, size, seen_ahead, heads, tail, place}
-use Rattle.stmt_reader.specs.Reading.{refused, Parser, go_on, bind, said, one, wanted, fitting, takes, choose}
+use Rattle.stmt_reader.specs.Reading.{fault_here, Parser, go_on, bind, token_value, one, token_parser, fitting_number, takes, choose}
 use Rattle.stmt_reader.specs.Reading as read
 use Rattle.stmt_reader.specs.Grammar as rule
 use Rattle.stmt_reader.specs.Grammar.{Rule, means, sequence, either}
@@ -30,11 +30,11 @@ abbrev some_of : {A : Type 0} → Result (A × Stream) Fault → Option A
 some_of (Ok x) = Some x.0
 some_of (Err f) = None
 
-said_ok : {A : Type 0} (s : Stream) (o : Option A) (a : A) (left : Stream) → said s o ≡ Ok (a, left) → (o ≡ Some a) × (tail s ≡ left)
+said_ok : {A : Type 0} (s : Stream) (o : Option A) (a : A) (left : Stream) → token_value s o ≡ Ok (a, left) → (o ≡ Some a) × (tail s ≡ left)
 said_ok s None a left e = absurd cc
 said_ok s (Some b) a left e = (ap some_of e, ap (left_of s) e)
 
-said_err : {A : Type 0} (s : Stream) (o : Option A) (f : Fault) → said s o ≡ Err f → (o ≡ None) × (f ≡ refused s)
+said_err : {A : Type 0} (s : Stream) (o : Option A) (f : Fault) → token_value s o ≡ Err f → (o ≡ None) × (f ≡ fault_here s)
 said_err s None f e = (refl, cc)
 said_err s (Some b) f e = absurd cc
 
@@ -45,7 +45,7 @@ fit_number : (test : Seen → Bool) (z : ℤ) (b : Bool) → test (scan.number N
 fit_number test z true n e = refl
 fit_number test z false n e = sym n ∙ e
 
-pub fit_by_test : (test : Seen → Bool) (t : Token) → test (scan.number None) ≡ false → test (seen t) ≡ true → is_fit t ≡ true
+pub fit_by_test : (test : Seen → Bool) (t : Token) → test (scan.number None) ≡ false → test (seen_token t) ≡ true → is_fit t ≡ true
 fit_by_test test (word w) n e = refl
 fit_by_test test (number z) n e = fit_number test z (is_i64 z) n e
 fit_by_test test (quoted w) n e = refl
@@ -55,7 +55,7 @@ fit_number_of : {A : Type 0} (f : Seen → Option A) (z : ℤ) (a : A) (b : Bool
 fit_number_of f z a true n e = refl
 fit_number_of f z a false n e = absurd cc
 
-fit_by_one : {A : Type 0} (f : Seen → Option A) (t : Token) (a : A) → f (scan.number None) ≡ None → f (seen t) ≡ Some a → is_fit t ≡ true
+fit_by_one : {A : Type 0} (f : Seen → Option A) (t : Token) (a : A) → f (scan.number None) ≡ None → f (seen_token t) ≡ Some a → is_fit t ≡ true
 fit_by_one f (word w) a n e = refl
 fit_by_one f (number z) a n e = fit_number_of f z a (is_i64 z) n e
 fit_by_one f (quoted w) a n e = refl
@@ -66,7 +66,7 @@ unfolding one rule.one
 one_found f (ends q) a left n e = absurd cc
 one_found f (stops q) a left n e = absurd cc
 one_found f (t then s) a left n e =
-    let k = said_ok (t then s) (f (seen t.token)) a left e in
+    let k = said_ok (t then s) (f (seen_token t.token)) a left e in
     record { taken = t ∷ []; split = ap (λ r. t then r) k.1; said = (t.token, refl, k.0); fit = (fit_by_one f t.token a n k.0, tt); firm = λ rest _. rw k.0 refl }
 
 one_failed : {A : Type 0} (f : Seen → Option A) (s : Stream) (g : Fault) → Begins (rule.one f) [] → one f s ≡ Err g → Failed (one f) (rule.one f) s g
@@ -74,14 +74,14 @@ unfolding one
 one_failed f (ends q) g b e = record { taken = []; left = ends q; split = refl; begins = b; fit = tt; stuck = cc }
 one_failed f (stops q) g b e = record { taken = []; left = stops q; split = refl; begins = b; fit = tt; stuck = cc }
 one_failed f (t then s) g b e =
-    let k = said_err (t then s) (f (seen t.token)) g e in
+    let k = said_err (t then s) (f (seen_token t.token)) g e in
     record { taken = []; left = t then s; split = refl; begins = b; fit = tt; stuck = inl (k.1, λ rest. rw k.0 (ap Err (sym k.1))) }
 
 one_agrees : {A : Type 0} (f : Seen → Option A) (ts : List Placed) (a : A) (left : Stream) → rule.one f (plain ts) a → Agrees ts a left (one f (onto ts left))
 unfolding one rule.one
 one_agrees f ts a left (t, e, k) =
     let x = single ts t e in
-    let h : f (seen x.at.token) ≡ Some a = ap (λ u. f (seen u)) x.is ∙ k in
+    let h : f (seen_token x.at.token) ≡ Some a = ap (λ u. f (seen_token u)) x.is ∙ k in
     subst (λ us. Agrees us a left (one f (onto us left))) (sym x.only) (rw h refl)
 
 pub reads_one : (n : ℕ) {A : Type 0} (f : Seen → Option A) → f (scan.number None) ≡ None → Begins (rule.one f) [] → Reads n (one f) (rule.one f) none
@@ -99,38 +99,38 @@ some_unit = Some tt
 abbrev passing : (Seen → Bool) → Seen → Option (Unit {0})
 passing test t = cond (test t) some_unit None
 
-passing_one : (b : Bool) (s : Stream) → cond b (ok_unit (tail s)) (Err (refused s)) ≡ said s (cond b some_unit None)
+passing_one : (b : Bool) (s : Stream) → cond b (ok_unit (tail s)) (Err (fault_here s)) ≡ token_value s (cond b some_unit None)
 passing_one true s = refl
 passing_one false s = refl
 
-wanted_is_one : (test : Seen → Bool) (s : Stream) → wanted test s ≡ one (passing test) s
-unfolding wanted one
+wanted_is_one : (test : Seen → Bool) (s : Stream) → token_parser test s ≡ one (passing test) s
+unfolding token_parser one
 wanted_is_one test (ends q) = refl
 wanted_is_one test (stops q) = refl
-wanted_is_one test (t then s) = passing_one (test (seen t.token)) (t then s)
+wanted_is_one test (t then s) = passing_one (test (seen_token t.token)) (t then s)
 
 passes_so : (b : Bool) (u : Unit {0}) → cond b some_unit None ≡ Some u → b ≡ true
 passes_so true u e = refl
 passes_so false u e = absurd cc
 
-passing_alike : (test : Seen → Bool) → Alike (rule.one (passing test)) (rule.wanted test)
-unfolding rule.one rule.wanted
+passing_alike : (test : Seen → Bool) → Alike (rule.one (passing test)) (rule.token_rule test)
+unfolding rule.one rule.token_rule
 passing_alike test = record {
-  to = λ ts u (t, e, k). (t, e, passes_so (test (seen t)) u k);
+  to = λ ts u (t, e, k). (t, e, passes_so (test (seen_token t)) u k);
   back = λ ts u (t, e, k). (t, e, rw k refl);
 }
 
-begins_wanted : (test : Seen → Bool) (t : Token) → test (seen t) ≡ true → Begins (rule.wanted test) []
-unfolding rule.wanted
+begins_wanted : (test : Seen → Bool) (t : Token) → test (seen_token t) ≡ true → Begins (rule.token_rule test) []
+unfolding rule.token_rule
 begins_wanted test t e = (t ∷ [], tt, (t, refl, e))
 
-begins_passing : (test : Seen → Bool) (t : Token) → test (seen t) ≡ true → Begins (rule.one (passing test)) []
+begins_passing : (test : Seen → Bool) (t : Token) → test (seen_token t) ≡ true → Begins (rule.one (passing test)) []
 unfolding rule.one
 begins_passing test t e = (t ∷ [], tt, (t, refl, rw e refl))
 
-pub reads_wanted : (n : ℕ) (test : Seen → Bool) (t : Token) → test (scan.number None) ≡ false → test (seen t) ≡ true → Reads n (wanted test) (rule.wanted test) none
+pub reads_wanted : (n : ℕ) (test : Seen → Bool) (t : Token) → test (scan.number None) ≡ false → test (seen_token t) ≡ true → Reads n (token_parser test) (rule.token_rule test) none
 reads_wanted n test t rejects e =
-    reads_alike n (one (passing test)) (wanted test) (rule.one (passing test)) (rule.wanted test) none none (wanted_is_one test) (passing_alike test) (λ s h. h)
+    reads_alike n (one (passing test)) (token_parser test) (rule.one (passing test)) (rule.token_rule test) none none (wanted_is_one test) (passing_alike test) (λ s h. h)
     (reads_one n (passing test) (rw rejects refl) (begins_passing test t e))
 
 pub same_text : (w : List ℕ) → bytes_eq w w ≡ true
@@ -161,13 +161,13 @@ abbrev rest_of : Stream → Result (ℤ × Stream) Fault → Stream
 rest_of d (Ok x) = x.1
 rest_of d (Err f) = d
 
-number_read : (b : Bool) (z : ℤ) (s : Stream) (a : ℤ) (left : Stream) → b ≡ is_i64 z → fitting s (Some (cond b (Some z) None)) ≡ Ok (a, left) → IsRead (number z) s a left
+number_read : (b : Bool) (z : ℤ) (s : Stream) (a : ℤ) (left : Stream) → b ≡ is_i64 z → fitting_number s (Some (cond b (Some z) None)) ≡ Ok (a, left) → IsRead (number z) s a left
 number_read true z s a left b-is e =
     let k : z ≡ a = ap (int_of z) e in
     record { token = ap number k; fits = sym (b-is ∙ ap is_i64 k); rest = ap (rest_of s) e }
 number_read false z s a left b-is e = absurd cc
 
-token_read : (k : Token) (s : Stream) (a : ℤ) (left : Stream) → fitting s (number_of (seen k)) ≡ Ok (a, left) → IsRead k s a left
+token_read : (k : Token) (s : Stream) (a : ℤ) (left : Stream) → fitting_number s (number_of (seen_token k)) ≡ Ok (a, left) → IsRead k s a left
 token_read (word w) s a left e = absurd cc
 token_read (number z) s a left e = number_read (is_i64 z) z s a left refl e
 token_read (quoted w) s a left e = absurd cc
@@ -182,11 +182,11 @@ number_found (t then s) a left e =
     record { taken = t ∷ []; split = ap (λ r. t then r) k.rest; said = ap (λ u. u ∷ []) k.token; fit = (ap is_fit k.token ∙ k.fits, tt); firm = λ rest _. rw (k.token, k.fits) refl }
 
 -- a token that isn't read as a number is none, or none of 64 bits
-number_unread : (b : Bool) (z : ℤ) (s : Stream) (f : Fault) → b ≡ is_i64 z → fitting s (Some (cond b (Some z) None)) ≡ Err f → (f ≡ BadNumber (place s)) × (is_i64 z ≡ false)
+number_unread : (b : Bool) (z : ℤ) (s : Stream) (f : Fault) → b ≡ is_i64 z → fitting_number s (Some (cond b (Some z) None)) ≡ Err f → (f ≡ BadNumber (place s)) × (is_i64 z ≡ false)
 number_unread true z s f b-is e = absurd cc
 number_unread false z s f b-is e = (cc, sym b-is)
 
-token_unread : (k : Token) (s : Stream) (f : Fault) → fitting s (number_of (seen k)) ≡ Err f → ((number_of (seen k) ≡ None) × (f ≡ refused s)) ⊎ ((z : ℤ) × (k ≡ number z) × (f ≡ BadNumber (place s)) × (is_i64 z ≡ false))
+token_unread : (k : Token) (s : Stream) (f : Fault) → fitting_number s (number_of (seen_token k)) ≡ Err f → ((number_of (seen_token k) ≡ None) × (f ≡ fault_here s)) ⊎ ((z : ℤ) × (k ≡ number z) × (f ≡ BadNumber (place s)) × (is_i64 z ≡ false))
 token_unread (word w) s f e = inl (refl, cc)
 token_unread (number z) s f e = let h = number_unread (is_i64 z) z s f refl e in inr (z, refl, h.0, h.1)
 token_unread (quoted w) s f e = inl (refl, cc)
@@ -200,7 +200,7 @@ begins_with_number : (t : Token) (z : ℤ) → t ≡ number z → Begins rule.nu
 unfolding rule.number
 begins_with_number t z e = ([], z, ap (λ u. u ∷ []) e)
 
-number_stuck : (t : Placed) (s : Stream) (f : Fault) → ((number_of (seen t.token) ≡ None) × (f ≡ refused (t then s))) ⊎ ((z : ℤ) × (t.token ≡ number z) × (f ≡ BadNumber (place (t then s))) × (is_i64 z ≡ false)) → StuckAt read.number rule.number [] t f
+number_stuck : (t : Placed) (s : Stream) (f : Fault) → ((number_of (seen_token t.token) ≡ None) × (f ≡ fault_here (t then s))) ⊎ ((z : ℤ) × (t.token ≡ number z) × (f ≡ BadNumber (place (t then s))) × (is_i64 z ≡ false)) → StuckAt read.number rule.number [] t f
 unfolding read.number
 number_stuck t s f (inl h) = inl (h.1, λ rest. rw h.0 (ap Err (sym h.1)))
 number_stuck t s f (inr h) = inr (h.2, ap is_fit h.1 ∙ h.3, begins_with_number t.token h.0 h.1)
@@ -211,7 +211,7 @@ number_failed (ends q) f e = record { taken = []; left = ends q; split = refl; b
 number_failed (stops q) f e = record { taken = []; left = stops q; split = refl; begins = begins_number; fit = tt; stuck = cc }
 number_failed (t then s) f e = record { taken = []; left = t then s; split = refl; begins = begins_number; fit = tt; stuck = number_stuck t s f (token_unread t.token (t then s) f e) }
 
-number_agrees_at : (b : Bool) (x : Placed) (z : ℤ) (left : Stream) → b ≡ is_i64 z → x.token ≡ number z → Agrees (x ∷ []) z left (fitting (x then left) (Some (cond b (Some z) None)))
+number_agrees_at : (b : Bool) (x : Placed) (z : ℤ) (left : Stream) → b ≡ is_i64 z → x.token ≡ number z → Agrees (x ∷ []) z left (fitting_number (x then left) (Some (cond b (Some z) None)))
 number_agrees_at true x z left b-is e = refl
 number_agrees_at false x z left b-is e = inl (ap is_fit e ∙ sym b-is, refl)
 
@@ -253,53 +253,53 @@ inner_agrees zero p L c ts a left r lt m free = absurd (omega arith)
 inner_agrees (suc k) p L c ts a left r lt m free = r.agrees ts a left (omega arith) m free
 
 abbrev past : {A : Type 0} → (Seen → Bool) → Parser A → Parser A
-past test p = bind (wanted test) (λ _. p)
+past test p = bind (token_parser test) (λ _. p)
 
 abbrev pub behind : {A : Type 0} → (Seen → Bool) → Rule A → Rule A
-behind test L = sequence (rule.wanted test) (λ _. L)
+behind test L = sequence (rule.token_rule test) (λ _. L)
 
-past_finds : (n : ℕ) {A : Type 0} (test : Seen → Bool) (p : Parser A) (L : Rule A) (c : Seen → Bool) (s : Stream) (a : A) (left : Stream) → Reads n (wanted test) (rule.wanted test) none → Inner n p L c → size s ≤ n → past test p s ≡ Ok (a, left) → Found (past test p) (behind test L) s a left
+past_finds : (n : ℕ) {A : Type 0} (test : Seen → Bool) (p : Parser A) (L : Rule A) (c : Seen → Bool) (s : Stream) (a : A) (left : Stream) → Reads n (token_parser test) (rule.token_rule test) none → Inner n p L c → size s ≤ n → past test p s ≡ Ok (a, left) → Found (past test p) (behind test L) s a left
 past_finds n test p L c s a left w r le e =
-    let k = unbound (wanted test) (λ _. p) s a left e in
+    let k = unbound (token_parser test) (λ _. p) s a left e in
     let lt = wanted_less test s k.value k.between k.first in
-    found_both (wanted test) (λ _. p) (rule.wanted test) (λ _. L) s k.between left k.value a (w.finds s k.value k.between le k.first) (inner_finds n p L c k.between a left r (omega arith) k.second)
+    found_both (token_parser test) (λ _. p) (rule.token_rule test) (λ _. L) s k.between left k.value a (w.finds s k.value k.between le k.first) (inner_finds n p L c k.between a left r (omega arith) k.second)
 
-past_fails : (n : ℕ) {A : Type 0} (test : Seen → Bool) (p : Parser A) (L : Rule A) (c : Seen → Bool) (s : Stream) (f : Fault) → Reads n (wanted test) (rule.wanted test) none → Inner n p L c → Begins L [] → size s ≤ n
-    → (wanted test s ≡ Err f) ⊎ Went (wanted test s) (λ _. p) (Err f) → Failed (past test p) (behind test L) s f
-past_fails n test p L c s f w r b le (inl e) = failed_first (wanted test) (λ _. p) (rule.wanted test) (λ _. L) s f (λ _. b) (w.fails s f le e)
+past_fails : (n : ℕ) {A : Type 0} (test : Seen → Bool) (p : Parser A) (L : Rule A) (c : Seen → Bool) (s : Stream) (f : Fault) → Reads n (token_parser test) (rule.token_rule test) none → Inner n p L c → Begins L [] → size s ≤ n
+    → (token_parser test s ≡ Err f) ⊎ Went (token_parser test s) (λ _. p) (Err f) → Failed (past test p) (behind test L) s f
+past_fails n test p L c s f w r b le (inl e) = failed_first (token_parser test) (λ _. p) (rule.token_rule test) (λ _. L) s f (λ _. b) (w.fails s f le e)
 past_fails n test p L c s f w r b le (inr k) =
     let lt = wanted_less test s k.value k.between k.first in
-    failed_second (wanted test) (λ _. p) (rule.wanted test) (λ _. L) s k.between k.value f (w.finds s k.value k.between le k.first) (inner_fails n p L c k.between f r (omega arith) k.second)
+    failed_second (token_parser test) (λ _. p) (rule.token_rule test) (λ _. L) s k.between k.value f (w.finds s k.value k.between le k.first) (inner_fails n p L c k.between f r (omega arith) k.second)
 
-one_long : (test : Seen → Bool) (ts : List Placed) (u : Unit {0}) → rule.wanted test (plain ts) u → length ts ≡ 1
-unfolding rule.wanted
+one_long : (test : Seen → Bool) (ts : List Placed) (u : Unit {0}) → rule.token_rule test (plain ts) u → length ts ≡ 1
+unfolding rule.token_rule
 one_long test ts u (t, e, k) = ap length (single ts t e).only
 
-past_agrees : (n : ℕ) {A : Type 0} (test : Seen → Bool) (p : Parser A) (L : Rule A) (c : Seen → Bool) (ts : List Placed) (a : A) (left : Stream) → Reads n (wanted test) (rule.wanted test) none → Inner n p L c → length ts ≤ n
+past_agrees : (n : ℕ) {A : Type 0} (test : Seen → Bool) (p : Parser A) (L : Rule A) (c : Seen → Bool) (ts : List Placed) (a : A) (left : Stream) → Reads n (token_parser test) (rule.token_rule test) none → Inner n p L c → length ts ≤ n
     → behind test L (plain ts) a → heads c left ≡ false → Agrees ts a left (past test p (onto ts left))
 unfolding bind sequence
 past_agrees n test p L c ts a left w r le (us, vs, u, e, l, m) free =
     let x = splits ts us vs e in
-    let l' : rule.wanted test (plain x.front) u = subst (λ y. rule.wanted test y u) (sym x.front-is) l in
+    let l' : rule.token_rule test (plain x.front) u = subst (λ y. rule.token_rule test y u) (sym x.front-is) l in
     let m' : L (plain x.back) a = subst (λ y. L y a) (sym x.back-is) m in
     let len : length ts ≡ length x.front + length x.back = ap length x.both ∙ length-append x.front x.back in
     let short : length x.front ≡ 1 = one_long test x.front u l' in
     let first = w.agrees x.front u (onto x.back left) (omega arith) l' (heads-none (onto x.back left)) in
     let second = inner_agrees n p L c x.back a left r (omega arith) m' free in
-    let both = agrees_bind (wanted test (onto x.front (onto x.back left))) (λ _. p) x.front x.back u a left first second in
-    subst (λ y. Agrees y a left (go_on (wanted test (onto y left)) (λ _. p))) (sym x.both) (subst (λ y. Agrees (x.front ++ x.back) a left (go_on (wanted test y) (λ _. p))) (sym (onto-append x.front x.back left)) both)
+    let both = agrees_bind (token_parser test (onto x.front (onto x.back left))) (λ _. p) x.front x.back u a left first second in
+    subst (λ y. Agrees y a left (go_on (token_parser test (onto y left)) (λ _. p))) (sym x.both) (subst (λ y. Agrees (x.front ++ x.back) a left (go_on (token_parser test y) (λ _. p))) (sym (onto-append x.front x.back left)) both)
 
-begins_behind : {A : Type 0} (test : Seen → Bool) (t : Token) (L : Rule A) → test (seen t) ≡ true → Begins L [] → Begins (behind test L) []
-unfolding sequence rule.wanted
+begins_behind : {A : Type 0} (test : Seen → Bool) (t : Token) (L : Rule A) → test (seen_token t) ≡ true → Begins L [] → Begins (behind test L) []
+unfolding sequence rule.token_rule
 begins_behind test t L e b = (t ∷ b.0, b.1, (t ∷ [], b.0, tt, refl, (t, refl, e), b.2))
 
-pub reads_past : (n : ℕ) {A : Type 0} (test : Seen → Bool) (t : Token) (p : Parser A) (L : Rule A) (c : Seen → Bool) → test (scan.number None) ≡ false → test (seen t) ≡ true → Inner n p L c → Begins L [] → Reads n (past test p) (behind test L) c
+pub reads_past : (n : ℕ) {A : Type 0} (test : Seen → Bool) (t : Token) (p : Parser A) (L : Rule A) (c : Seen → Bool) → test (scan.number None) ≡ false → test (seen_token t) ≡ true → Inner n p L c → Begins L [] → Reads n (past test p) (behind test L) c
 reads_past n test t p L c rejects e r b =
     let w = reads_wanted n test t rejects e in
     record {
       starts = begins_behind test t L e b;
       finds = λ s a left le h. past_finds n test p L c s a left w r le h;
-      fails = λ s f le h. past_fails n test p L c s f w r b le (unbound_fails (wanted test) (λ _. p) s f h);
+      fails = λ s f le h. past_fails n test p L c s f w r b le (unbound_fails (token_parser test) (λ _. p) s f h);
       agrees = λ ts a left le m free. past_agrees n test p L c ts a left w r le m free;
     }
 
@@ -397,18 +397,18 @@ takes_cond true p r f z = refl
 takes_cond false p r f z = refl
 
 takes_is_choose : {A : Type 0} (test : Seen → Bool) (p q : Parser A) (s : Stream) → takes test p q s ≡ choose test (past test p) q s
-unfolding takes choose bind wanted
-takes_is_choose test p q s = takes_cond (heads test s) p (tail s) (refused s) (q s)
+unfolding takes choose bind token_parser
+takes_is_choose test p q s = takes_cond (heads test s) p (tail s) (fault_here s) (q s)
 
 pub leads_behind : {A : Type 0} (test : Seen → Bool) (L : Rule A) → Leads test (behind test L)
-unfolding sequence rule.wanted
+unfolding sequence rule.token_rule
 leads_behind test L ts a left (us, vs, u, e, (t, e2, k), l) = leads_at test t vs left ts (e ∙ ap (λ x. x ++ vs) e2) k
   where
-    leads_at : (test : Seen → Bool) (t : Token) (vs : List Token) (left : Stream) (ts : List Placed) → plain ts ≡ t ∷ vs → test (seen t) ≡ true → heads test (onto ts left) ≡ true
+    leads_at : (test : Seen → Bool) (t : Token) (vs : List Token) (left : Stream) (ts : List Placed) → plain ts ≡ t ∷ vs → test (seen_token t) ≡ true → heads test (onto ts left) ≡ true
     leads_at test t vs left [] e k = absurd cc
-    leads_at test t vs left (x ∷ xs) e k = let h : x.token ≡ t = cc in ap (λ y. test (seen y)) h ∙ k
+    leads_at test t vs left (x ∷ xs) e k = let h : x.token ≡ t = cc in ap (λ y. test (seen_token y)) h ∙ k
 
-pub reads_takes : (n : ℕ) {A : Type 0} (test : Seen → Bool) (t : Token) (p : Parser A) (L : Rule A) (c : Seen → Bool) {q : Parser A} {M : Rule A} {d : Seen → Bool} → test (scan.number None) ≡ false → test (seen t) ≡ true → Inner n p L c → Begins L [] → Reads n q M d → Avoids test M (any test (any c d))
+pub reads_takes : (n : ℕ) {A : Type 0} (test : Seen → Bool) (t : Token) (p : Parser A) (L : Rule A) (c : Seen → Bool) {q : Parser A} {M : Rule A} {d : Seen → Bool} → test (scan.number None) ≡ false → test (seen_token t) ≡ true → Inner n p L c → Begins L [] → Reads n q M d → Avoids test M (any test (any c d))
     → Reads n (takes test p q) (either (behind test L) M) (any test (any c d))
 reads_takes n test t p L c {q = q} {M = M} {d = d} rejects e r b o apart =
     reads_alike n (choose test (past test p) q) (takes test p q) (either (behind test L) M) (either (behind test L) M) (any test (any c d)) (any test (any c d)) (takes_is_choose test p q) (alike-refl (either (behind test L) M)) (λ s h. h)
@@ -432,14 +432,14 @@ pub avoids_means : {A : Type 0} (test : Seen → Bool) (a : A) (on : Seen → Bo
 unfolding means
 avoids_means test a on ts b left (e, k) free = subst (λ us. heads test (onto us left) ≡ false) (sym (nothing_placed ts e)) (heads-any test on left free).0
 
-avoids_token : (test : Seen → Bool) (ts : List Placed) (t : Token) (left : Stream) → plain ts ≡ t ∷ [] → test (seen t) ≡ false → heads test (onto ts left) ≡ false
+avoids_token : (test : Seen → Bool) (ts : List Placed) (t : Token) (left : Stream) → plain ts ≡ t ∷ [] → test (seen_token t) ≡ false → heads test (onto ts left) ≡ false
 avoids_token test ts t left e k =
     let x = single ts t e in
-    subst (λ us. heads test (onto us left) ≡ false) (sym x.only) (ap (λ u. test (seen u)) x.is ∙ k)
+    subst (λ us. heads test (onto us left) ≡ false) (sym x.only) (ap (λ u. test (seen_token u)) x.is ∙ k)
 
-pub avoids_wanted : (test w : Seen → Bool) (on : Seen → Bool) → ((t : Seen) → w t ≡ true → test t ≡ false) → Avoids test (rule.wanted w) on
-unfolding rule.wanted
-avoids_wanted test w on h ts u left (t, e, k) free = avoids_token test ts t left e (h (seen t) k)
+pub avoids_wanted : (test w : Seen → Bool) (on : Seen → Bool) → ((t : Seen) → w t ≡ true → test t ≡ false) → Avoids test (rule.token_rule w) on
+unfolding rule.token_rule
+avoids_wanted test w on h ts u left (t, e, k) free = avoids_token test ts t left e (h (seen_token t) k)
 
 pub keyword_only : (test : Seen → Bool) (k : Keyword) → test (scan.word (keyword_text k)) ≡ false → (t : Seen) → is_keyword k t ≡ true → test t ≡ false
 keyword_only test k h (scan.word w) e = subst (λ v. test (scan.word v) ≡ false) (sym ((bytes_eq-Decides w (keyword_text k)).0 e)) h
@@ -456,7 +456,7 @@ spelled_only test text h (scan.number z) e = absurd cc
 spelled_only test text h (scan.quoted w) e = absurd cc
 spelled_only test text h (scan.mark m) e = absurd cc
 
-pub avoids_spelled : (test : Seen → Bool) (text : List ℕ) (on : Seen → Bool) → test (scan.word text) ≡ false → Avoids test (rule.wanted (is_spelled text)) on
+pub avoids_spelled : (test : Seen → Bool) (text : List ℕ) (on : Seen → Bool) → test (scan.word text) ≡ false → Avoids test (rule.token_rule (is_spelled text)) on
 avoids_spelled test text on h = avoids_wanted test (is_spelled text) on (spelled_only test text h)
 
 -- the mark of a number
@@ -494,7 +494,7 @@ avoids_mark test m on h = avoids_wanted test (is_mark m) on (mark_only test m h)
 
 pub avoids_one : {A : Type 0} (test : Seen → Bool) (f : Seen → Option A) (on : Seen → Bool) → ((t : Seen) (a : A) → f t ≡ Some a → test t ≡ false) → Avoids test (rule.one f) on
 unfolding rule.one
-avoids_one test f on h ts a left (t, e, k) free = avoids_token test ts t left e (h (seen t) a k)
+avoids_one test f on h ts a left (t, e, k) free = avoids_token test ts t left e (h (seen_token t) a k)
 
 pub avoids_number : (test : Seen → Bool) (on : Seen → Bool) → ((o : Option ℤ) → test (scan.number o) ≡ false) → Avoids test rule.number on
 unfolding rule.number

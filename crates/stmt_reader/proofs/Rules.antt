@@ -3,7 +3,7 @@ use Rattle.std.proofs.Common.{◌≡◌, ℕ, ◌+◌, ◌≤◌, Bool, false, �
 use Rattle.std.specs.Prelude.{◌⊎◌}
 use Rattle.std.proofs.lemmas.Bool.{or_parts}
 use Rattle.stmt_tokens.specs.Tokens.{Token}
-use Rattle.stmt_tokens.specs.Scan.{Seen, seen}
+use Rattle.stmt_tokens.specs.Scan.{Seen, seen_token}
 use Rattle.stmt_tokens.specs.Streams.{Placed, Stream, ends, stops, ◌then◌, onto, plain, size, seen_ahead, heads}
 use Rattle.stmt_reader.specs.Reading.{Parser, gives, go_on, bind}
 use Rattle.stmt_reader.specs.Grammar.{Rule, means, sequence}
@@ -67,7 +67,7 @@ any c d t = c t || d t
 pub heads-any : (c d : Seen → Bool) (s : Stream) → heads (any c d) s ≡ false → (heads c s ≡ false) × (heads d s ≡ false)
 heads-any c d (ends p) e = (refl, refl)
 heads-any c d (stops p) e = (refl, refl)
-heads-any c d (t then s) e = or_parts (c (seen t.token)) (d (seen t.token)) e
+heads-any c d (t then s) e = or_parts (c (seen_token t.token)) (d (seen_token t.token)) e
 
 -- no word of M, with nothing of `on` behind it, begins with a token of `test`
 abbrev pub Avoids : {B : Type 0} → (Seen → Bool) → Rule B → (Seen → Bool) → Type 0

@@ -7,10 +7,10 @@ use Rattle.ts_num.specs.declared.values.Fun.{Fun}
 use Rattle.ts_num.specs.declared.values.Fun.TheVariants as fun
 use Rattle.stmt_tokens.specs.Tokens.{Token, word, number, quoted, mark}
 use Rattle.stmt_tokens.specs.Scan as scan
-use Rattle.stmt_tokens.specs.Scan.{Seen, seen}
+use Rattle.stmt_tokens.specs.Scan.{Seen, seen_token}
 use Rattle.stmt_tokens.specs.Words.{is_mark, word_of, function_of, function_of_word}
 use Rattle.stmt_tokens.specs.Streams.{Stream, ends, stops, ◌then◌, plain, heads}
-use Rattle.stmt_reader.specs.Reading.{refused, Parser, gives, go_on, bind, wanted, choose, known, keys_and_function}
+use Rattle.stmt_reader.specs.Reading.{fault_here, Parser, gives, go_on, bind, token_parser, choose, function_head, keys_and_function}
 use Rattle.stmt_reader.specs.Reading as read
 use Rattle.stmt_reader.specs.Grammar as rule
 use Rattle.stmt_reader.specs.Grammar.{Rule, means, sequence, either, many}
@@ -50,13 +50,13 @@ step_rule front = behind (is_mark marks.Comma) (sequence rule.name (λ w. word_r
 -- ---- one step is the whole
 
 -- a word that names a function
-word_function : (t : Token) (w : List ℕ) (f : Fun) → word_of (seen t) ≡ Some w → function_of_word w ≡ Some f → function_of (seen t) ≡ Some f
+word_function : (t : Token) (w : List ℕ) (f : Fun) → word_of (seen_token t) ≡ Some w → function_of_word w ≡ Some f → function_of (seen_token t) ≡ Some f
 word_function (word v) w f e k = let h : v ≡ w = cc in ap function_of_word h ∙ k
 word_function (number z) w f e k = absurd cc
 word_function (quoted v) w f e k = absurd cc
 word_function (mark m) w f e k = absurd cc
 
-word_from : (t : Token) (f : Fun) → function_of (seen t) ≡ Some f → (w : List ℕ) × (word_of (seen t) ≡ Some w) × (function_of_word w ≡ Some f)
+word_from : (t : Token) (f : Fun) → function_of (seen_token t) ≡ Some f → (w : List ℕ) × (word_of (seen_token t) ≡ Some w) × (function_of_word w ≡ Some f)
 word_from (word v) f e = (v, refl, e)
 word_from (number z) f e = absurd cc
 word_from (quoted v) f e = absurd cc
@@ -130,7 +130,7 @@ step_alike front = record { to = step_to front; back = step_back front }
 -- ---- reading the keys
 
 begins_function : Begins function_rule []
-unfolding sequence means rule.one rule.wanted
+unfolding sequence means rule.one rule.token_rule
 begins_function = (
   mark marks.Comma ∷ word (codes "sum") ∷ mark marks.Open ∷ [],
   fun.Sum,
@@ -156,17 +156,17 @@ twice : (r : Result (Unit {0} × Stream) Fault) (front : List (List ℕ)) (f : F
 twice (Ok x) front f = refl
 twice (Err g) front f = refl
 
-word_with_function : (front : List (List ℕ)) (w : List ℕ) (f : Fun) (s : Stream) → function_of_word w ≡ Some f → after_word front w s ≡ choose (is_mark marks.Open) (bind (wanted (is_mark marks.Open)) (λ _. gives (keyed front f))) (keys_and_function (front ++ w ∷ [])) s
+word_with_function : (front : List (List ℕ)) (w : List ℕ) (f : Fun) (s : Stream) → function_of_word w ≡ Some f → after_word front w s ≡ choose (is_mark marks.Open) (bind (token_parser (is_mark marks.Open)) (λ _. gives (keyed front f))) (keys_and_function (front ++ w ∷ [])) s
 unfolding choose bind
-word_with_function front w f s e = rw e (ap (λ r. cond (heads (is_mark marks.Open) s) r (keys_and_function (front ++ w ∷ []) s)) (twice (wanted (is_mark marks.Open) s) front f))
+word_with_function front w f s e = rw e (ap (λ r. cond (heads (is_mark marks.Open) s) r (keys_and_function (front ++ w ∷ []) s)) (twice (token_parser (is_mark marks.Open) s) front f))
 
 no_comma : (s : Stream) → heads (is_mark marks.Open) s ≡ true → heads (is_mark marks.Comma) s ≡ false
 no_comma (ends q) e = refl
 no_comma (stops q) e = refl
-no_comma (t then s) e = mark_only (is_mark marks.Comma) marks.Open refl (seen t.token) e
+no_comma (t then s) e = mark_only (is_mark marks.Comma) marks.Open refl (seen_token t.token) e
 
-keys_refused : (front : List (List ℕ)) (s : Stream) → heads (is_mark marks.Comma) s ≡ false → keys_and_function front s ≡ Err (refused s)
-unfolding bind wanted
+keys_refused : (front : List (List ℕ)) (s : Stream) → heads (is_mark marks.Comma) s ≡ false → keys_and_function front s ≡ Err (fault_here s)
+unfolding bind token_parser
 keys_refused front s e = keys_go front s ∙ rw e refl
 
 word_without_function : (front : List (List ℕ)) (w : List ℕ) (s : Stream) → function_of_word w ≡ None → (heads (is_mark marks.Open) s ≡ true) ⊎ (heads (is_mark marks.Open) s ≡ false) → after_word front w s ≡ keys_and_function (front ++ w ∷ []) s
@@ -179,7 +179,7 @@ reads_word n front w None e r =
     reads_alike n (keys_and_function (front ++ w ∷ [])) (after_word front w) (keys_rule (front ++ w ∷ [])) (keys_rule (front ++ w ∷ [])) none none
     (λ s. word_without_function front w s e (cases_Bool (heads (is_mark marks.Open) s))) (alike-refl (keys_rule (front ++ w ∷ []))) (λ s h. h) r
 reads_word n front w (Some f) e r =
-    reads_alike n (choose (is_mark marks.Open) (bind (wanted (is_mark marks.Open)) (λ _. gives (keyed front f))) (keys_and_function (front ++ w ∷ []))) (after_word front w)
+    reads_alike n (choose (is_mark marks.Open) (bind (token_parser (is_mark marks.Open)) (λ _. gives (keyed front f))) (keys_and_function (front ++ w ∷ []))) (after_word front w)
     (either (behind (is_mark marks.Open) (means (keyed front f))) (keys_rule (front ++ w ∷ []))) (either (behind (is_mark marks.Open) (means (keyed front f))) (keys_rule (front ++ w ∷ []))) none none
     (λ s. word_with_function front w f s e) (alike-refl _) (λ s h. h)
     (reads_choose_on n (is_mark marks.Open) none (reads_then n (reads_mark n marks.Open) (λ _. reads_gives n (keyed front f))) r (leads_behind (is_mark marks.Open) (means (keyed front f)))

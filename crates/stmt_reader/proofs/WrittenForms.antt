@@ -55,7 +55,7 @@ create_view =
     yields_then (yields_keyword kw.As) (λ _ g hg.
     yields_then (yields_keyword kw.Select) (λ _ h hh.
     yields_then yields_fold (λ fold i hi.
-    yields_then (anything rule.filling) (λ filled j hj.
+    yields_then (anything rule.with_data) (λ filled j hj.
     yields_means (stmt.View name only filled fold) _ (record { whole = hi.is; size = omega (arith, hi.size) })))))))))))
 
 alter_view : Yields rule.alter_view Holds
@@ -66,7 +66,7 @@ alter_view =
     yields_then yields_name (λ name d hd.
     yields_then (yields_keyword kw.Set) (λ _ e he.
     yields_then (yields_mark marks.Open) (λ _ f hf.
-    yields_then (anything rule.setting) (λ only g hg.
+    yields_then (anything rule.mode_setting) (λ only g hg.
     yields_then (yields_mark marks.Close) (λ _ h hh.
     yields_means (stmt.Mode name only) _ (record { whole = tt; size = omega arith })))))))))
 
@@ -145,14 +145,14 @@ refresh_snap : Yields rule.refresh_snap Holds
 refresh_snap =
     yields_then (yields_keyword kw.Refresh) (λ _ a ha.
     yields_then (yields_keyword kw.Snap) (λ _ b hb.
-    yields_then (anything rule.chosen) (λ cut c hc.
+    yields_then (anything rule.optional_number) (λ cut c hc.
     yields_means (stmt.Snap cut) _ (record { whole = tt; size = omega arith }))))
 
 refresh_finish : Yields rule.refresh_finish Holds
 refresh_finish =
     yields_then (yields_keyword kw.Refresh) (λ _ a ha.
     yields_then (yields_keyword kw.Finish) (λ _ b hb.
-    yields_then (anything rule.chosen) (λ cut c hc.
+    yields_then (anything rule.optional_number) (λ cut c hc.
     yields_means (stmt.Finish cut) _ (record { whole = tt; size = omega arith }))))
 
 begin : Yields rule.begin Holds

@@ -10,7 +10,7 @@ use Rattle.ts_num.specs.declared.values.Fun.TheVariants as fun
 use Rattle.ts_schema.specs.declared.conditions.Cmp.{Cmp}
 use Rattle.ts_schema.specs.declared.conditions.Cmp.TheVariants as cmp
 use Rattle.stmt_tokens.specs.Tokens.{Token, word, number, quoted, mark}
-use Rattle.stmt_tokens.specs.Scan.{seen}
+use Rattle.stmt_tokens.specs.Scan.{seen_token}
 use Rattle.stmt_syntax.specs.Heads.{head_name, bucket_word}
 use Rattle.stmt_tokens.specs.Words.{comparison_of, comparison_of_mark, function_of, function_of_word, is_star_of}
 use Rattle.stmt_reader.specs.Grammar as rule
@@ -91,7 +91,7 @@ record Compares (op : Cmp) (n : ℕ) : Type 0 where
   pub plain : is_null_test op ≡ false
   pub size : 1 ≤ n
 
-compares : (t : Token) (op : Cmp) → comparison_of (seen t) ≡ Some op → Compares op (token_size t + 0)
+compares : (t : Token) (op : Cmp) → comparison_of (seen_token t) ≡ Some op → Compares op (token_size t + 0)
 compares (word w) op e = absurd cc
 compares (number z) op e = absurd cc
 compares (quoted w) op e = absurd cc
@@ -196,7 +196,7 @@ named_word w f e =
     chosen _ fun.Max f _ _ e (named_by (codes "max") w fun.Max f refl (omega arith)) (λ e.
     chosen _ fun.Avg f _ _ e (named_by (codes "avg") w fun.Avg f refl (omega arith)) (λ e. absurd cc)))))
 
-named : (t : Token) (f : Fun) → function_of (seen t) ≡ Some f → Named f (token_size t + 0)
+named : (t : Token) (f : Fun) → function_of (seen_token t) ≡ Some f → Named f (token_size t + 0)
 named (word w) f e = named_word w f e
 named (number z) f e = absurd cc
 named (quoted w) f e = absurd cc
@@ -207,7 +207,7 @@ record ArgumentOf (a : Fun × Option (List ℕ)) (n : ℕ) : Type 0 where
   pub whole : is_some a.1 ≡ takes_argument a.0
   pub size : argument_size a.1 ≤ n
 
-star_mark : (f : Fun) (t : Token) → is_star_of f (seen t) ≡ true → 1 ≤ token_size t + 0
+star_mark : (f : Fun) (t : Token) → is_star_of f (seen_token t) ≡ true → 1 ≤ token_size t + 0
 star_mark fun.Count (word w) e = absurd cc
 star_mark fun.Count (number z) e = absurd cc
 star_mark fun.Count (quoted w) e = absurd cc
@@ -279,7 +279,7 @@ yields_select_list =
 yields_items : (i : ℕ) (names : List (List ℕ)) → Yields (rule.items_from i names) (λ _ n. 0 ≤ n)
 yields_items i names = record { holds = λ ts u l. omega arith }
 
-yields_grouping : (first : List ℕ) (keys : List (List ℕ)) → Yields (rule.grouping first keys) (λ _ n. 7 ≤ n)
+yields_grouping : (first : List ℕ) (keys : List (List ℕ)) → Yields (rule.group_by first keys) (λ _ n. 7 ≤ n)
 yields_grouping first keys =
     yields_then (yields_keyword kw.Group) (λ _ m hm.
     yields_then (yields_keyword kw.By) (λ _ n hn.

@@ -5,10 +5,10 @@ use Rattle.std.specs.List.{AllByRecursion}
 use Rattle.std.proofs.lemmas.List.Sums.{sum_by-cons}
 use Rattle.std.proofs.lemmas.Slice.Eq.{bytes_eq-Decides}
 use Rattle.stmt_tokens.specs.Tokens.{Token, word, number, quoted, mark}
-use Rattle.stmt_tokens.specs.Scan.{Seen, seen}
+use Rattle.stmt_tokens.specs.Scan.{Seen, seen_token}
 use Rattle.stmt_tokens.specs.Words.{keyword_text, is_keyword, is_spelled, is_mark, word_of, quoted_of}
 use Rattle.stmt_reader.specs.Grammar as rule
-use Rattle.stmt_reader.specs.Grammar.{Rule, means, sequence, either, many, listed, one, wanted}
+use Rattle.stmt_reader.specs.Grammar.{Rule, means, sequence, either, many, list_rule, one, token_rule}
 use Rattle.stmt_tokens.specs.declared.keywords.Keyword.{Keyword}
 use Rattle.stmt_tokens.specs.declared.tokens.Mark.{Mark}
 
@@ -86,7 +86,7 @@ pub record Listed {A : Type 0} (c : ℕ) (R : A → Type 0) (f : A → ℕ) (ite
   pub size : sum_by f items ≤ c + n
 
 -- a list of items, where f counts the c bytes of what parts them to each
-pub yields_listed : {A B : Type 0} {S : Rule B} {L : Rule A} {R : A → Type 0} (c : ℕ) (f : A → ℕ) → Yields S (λ _ n. c ≤ n) → Yields L (λ a n. Item R f a (c + n)) → Yields (listed S L) (Listed c R f)
+pub yields_listed : {A B : Type 0} {S : Rule B} {L : Rule A} {R : A → Type 0} (c : ℕ) (f : A → ℕ) → Yields S (λ _ n. c ≤ n) → Yields L (λ a n. Item R f a (c + n)) → Yields (list_rule S L) (Listed c R f)
 yields_listed {A} {R = R} c f s y =
     yields_then y (λ first n h.
     yields_then (yields_many (behind c s y)) (λ others m k.
@@ -103,19 +103,19 @@ yields_listed {A} {R = R} c f s y =
 one_token : (P : ℕ → Type 0) (ts : List Token) (t : Token) → ts ≡ t ∷ [] → P (token_size t + 0) → P (weight ts)
 one_token P ts t e h = subst (λ (us : List Token). P (weight us)) (sym e) h
 
-pub yields_one : {A : Type 0} (f : Seen → Option A) (P : A → ℕ → Type 0) → ((t : Token) (a : A) → f (seen t) ≡ Some a → P a (token_size t + 0)) → Yields (one f) P
+pub yields_one : {A : Type 0} (f : Seen → Option A) (P : A → ℕ → Type 0) → ((t : Token) (a : A) → f (seen_token t) ≡ Some a → P a (token_size t + 0)) → Yields (one f) P
 unfolding one
 yields_one f P h = record { holds = λ ts a (t, e, k). one_token (P a) ts t e (h t a k) }
 
-pub yields_wanted : (test : Seen → Bool) (P : ℕ → Type 0) → ((t : Token) → test (seen t) ≡ true → P (token_size t + 0)) → Yields (wanted test) (λ _ n. P n)
-unfolding wanted
+pub yields_wanted : (test : Seen → Bool) (P : ℕ → Type 0) → ((t : Token) → test (seen_token t) ≡ true → P (token_size t + 0)) → Yields (token_rule test) (λ _ n. P n)
+unfolding token_rule
 yields_wanted test P h = record { holds = λ ts u (t, e, k). one_token P ts t e (h t k) }
 
 -- whatever it is
-pub yields_any : (test : Seen → Bool) → Yields (wanted test) (λ _ n. 0 ≤ n)
+pub yields_any : (test : Seen → Bool) → Yields (token_rule test) (λ _ n. 0 ≤ n)
 yields_any test = yields_wanted test (λ n. 0 ≤ n) (λ t k. omega arith)
 
-keyword_size : (k : Keyword) (t : Token) → is_keyword k (seen t) ≡ true → length (keyword_text k) ≤ token_size t + 0
+keyword_size : (k : Keyword) (t : Token) → is_keyword k (seen_token t) ≡ true → length (keyword_text k) ≤ token_size t + 0
 keyword_size k (word w) e = omega (arith, ap length ((bytes_eq-Decides w (keyword_text k)).0 e))
 keyword_size k (number z) e = absurd cc
 keyword_size k (quoted w) e = absurd cc
@@ -124,16 +124,16 @@ keyword_size k (mark m) e = absurd cc
 pub yields_keyword : (k : Keyword) → Yields (rule.keyword k) (λ _ n. length (keyword_text k) ≤ n)
 yields_keyword k = yields_wanted (is_keyword k) (λ n. length (keyword_text k) ≤ n) (keyword_size k)
 
-spelled_size : (text : List ℕ) (t : Token) → is_spelled text (seen t) ≡ true → length text ≤ token_size t + 0
+spelled_size : (text : List ℕ) (t : Token) → is_spelled text (seen_token t) ≡ true → length text ≤ token_size t + 0
 spelled_size text (word w) e = omega (arith, ap length ((bytes_eq-Decides w text).0 e))
 spelled_size text (number z) e = absurd cc
 spelled_size text (quoted w) e = absurd cc
 spelled_size text (mark m) e = absurd cc
 
-pub yields_spelled : (text : List ℕ) → Yields (wanted (is_spelled text)) (λ _ n. length text ≤ n)
+pub yields_spelled : (text : List ℕ) → Yields (token_rule (is_spelled text)) (λ _ n. length text ≤ n)
 yields_spelled text = yields_wanted (is_spelled text) (λ n. length text ≤ n) (spelled_size text)
 
-mark_size : (m : Mark) (t : Token) → is_mark m (seen t) ≡ true → 1 ≤ token_size t + 0
+mark_size : (m : Mark) (t : Token) → is_mark m (seen_token t) ≡ true → 1 ≤ token_size t + 0
 mark_size m (word w) e = absurd cc
 mark_size m (number z) e = absurd cc
 mark_size m (quoted w) e = absurd cc
@@ -142,7 +142,7 @@ mark_size m (mark o) e = omega arith
 pub yields_mark : (m : Mark) → Yields (rule.mark m) (λ _ n. 1 ≤ n)
 yields_mark m = yields_wanted (is_mark m) (λ n. 1 ≤ n) (mark_size m)
 
-word_size : (t : Token) (w : List ℕ) → word_of (seen t) ≡ Some w → length w ≤ token_size t + 0
+word_size : (t : Token) (w : List ℕ) → word_of (seen_token t) ≡ Some w → length w ≤ token_size t + 0
 word_size (word v) w e = let k : v ≡ w = cc in omega (arith, ap length k)
 word_size (number z) w e = absurd cc
 word_size (quoted v) w e = absurd cc
@@ -151,13 +151,13 @@ word_size (mark m) w e = absurd cc
 pub yields_name : Yields rule.name (λ w n. length w ≤ n)
 yields_name = yields_one word_of (λ w n. length w ≤ n) word_size
 
-quoted_size : (t : Token) (w : List ℕ) → quoted_of (seen t) ≡ Some w → 2 + length w ≤ token_size t + 0
+quoted_size : (t : Token) (w : List ℕ) → quoted_of (seen_token t) ≡ Some w → 2 + length w ≤ token_size t + 0
 quoted_size (word v) w e = absurd cc
 quoted_size (number z) w e = absurd cc
 quoted_size (quoted v) w e = let k : v ≡ w = cc in omega (arith, ap length k)
 quoted_size (mark m) w e = absurd cc
 
-pub yields_quoted : Yields rule.quoted (λ w n. 2 + length w ≤ n)
+pub yields_quoted : Yields rule.quoted_name (λ w n. 2 + length w ≤ n)
 yields_quoted = yields_one quoted_of (λ w n. 2 + length w ≤ n) quoted_size
 
 pub yields_number : Yields rule.number (λ _ n. 1 ≤ n)

@@ -4,7 +4,7 @@ use Rattle.std.specs.Prelude.{option_and_then}
 use Rattle.stmt_tokens.specs.Scan.{Seen}
 use Rattle.stmt_tokens.specs.Words.{word_of, number_of}
 use Rattle.stmt_tokens.specs.Streams.{Stream, ends, stops, ◌then◌, size, heads, tail, seen_ahead}
-use Rattle.stmt_reader.specs.Reading.{refused, Parser, gives, go_on, bind, takes, choose, said, one, wanted, fitting, number, repeat, more, parts, listed, value, row, not_null, column, null_test, number_test, any_test, alias, argument, aggregate_rest, aggregate, name}
+use Rattle.stmt_reader.specs.Reading.{fault_here, Parser, gives, go_on, bind, takes, choose, token_value, one, token_parser, fitting_number, number, repeat, more, parts, list_parser, value, row, not_null, column, null_test, number_test, any_test, alias, argument, aggregate_rest, aggregate, name}
 use Rattle.stmt_reader.specs.declared.faults.Fault.{Fault}
 
 -- what a parser leaves is no more than what it was given
@@ -68,7 +68,7 @@ forward-choose when {p = p} {q = q} f g =
     }
 
 said_goes :
-    {A : Type 0} (s : Stream) (o : Option A) (a : A) (left : Stream) → said s o ≡ Ok (a, left) → size left ≤ size s
+    {A : Type 0} (s : Stream) (o : Option A) (a : A) (left : Stream) → token_value s o ≡ Ok (a, left) → size left ≤ size s
 said_goes s None a left e = absurd cc
 said_goes s (Some b) a left e = let k = left_is b a (tail s) left e in subst (λ (r : Stream). size r ≤ size s) k (size-tail s)
 
@@ -76,17 +76,17 @@ pub forward-one : {A : Type 0} (f : Seen → Option A) → Forward (one f)
 unfolding one
 forward-one f = record { goes = λ s a left e. said_goes s (option_and_then f (seen_ahead s)) a left e }
 
-pub forward-wanted : (when : Seen → Bool) → Forward (wanted when)
-unfolding wanted
+pub forward-wanted : (when : Seen → Bool) → Forward (token_parser when)
+unfolding token_parser
 forward-wanted when = record {
   goes = λ s a left e.
-      cond_goes (heads when s) (Ok (tt, tail s)) (Err (refused s)) (size s) a left
+      cond_goes (heads when s) (Ok (tt, tail s)) (Err (fault_here s)) (size s) a left
       (λ h. let k = left_is tt a (tail s) left h in subst (λ (r : Stream). size r ≤ size s) k (size-tail s))
       (λ h. absurd cc) e;
 }
 
 fitting_goes :
-    (s : Stream) (o : Option (Option _)) (a : _) (left : Stream) → fitting s o ≡ Ok (a, left) → size left ≤ size s
+    (s : Stream) (o : Option (Option _)) (a : _) (left : Stream) → fitting_number s o ≡ Ok (a, left) → size left ≤ size s
 fitting_goes s None a left e = absurd cc
 fitting_goes s (Some None) a left e = absurd cc
 fitting_goes s (Some (Some z)) a left e = let k = left_is z a (tail s) left e in subst (λ (r : Stream). size r ≤ size s) k (size-tail s)
@@ -106,8 +106,8 @@ pub forward-more :
 unfolding more
 forward-more when p front f = record { goes = λ s a left e. (forward-repeat (size s) when p front f).goes s a left e }
 
-pub forward-listed : {A : Type 0} (separator : _) (p : Parser A) → Forward p → Forward (listed separator p)
-unfolding listed
+pub forward-listed : {A : Type 0} (separator : _) (p : Parser A) → Forward p → Forward (list_parser separator p)
+unfolding list_parser
 forward-listed separator p f = forward-bind f (λ a. forward-more (parts separator) p (a ∷ []) f)
 
 -- ---- phrases

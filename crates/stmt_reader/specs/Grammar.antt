@@ -1,7 +1,7 @@
 -- The grammar: which tokens are which statement. A rule relates some tokens to what they mean.
 use Rattle.std.specs.Prelude.{◌≡◌, ℕ, suc, ℤ, pos, Bool, true, false, ◌⊎◌, List, [], ◌∷◌, ◌++◌, Option, Some, None}
 use Rattle.stmt_tokens.specs.Tokens.{Token, number as number_token}
-use Rattle.stmt_tokens.specs.Scan.{Seen, seen}
+use Rattle.stmt_tokens.specs.Scan.{Seen, seen_token}
 use Rattle.stmt_tokens.specs.Words.{is_keyword, is_spelled, is_mark, word_of, quoted_of, flag_of, comparison_of, function_of, is_star_of, is_item}
 use Rattle.stmt_syntax.specs.Heads.{head_name, bucket_word, calendar_word}
 use Rattle.stmt_tokens.specs.declared.keywords.Keyword.{Keyword}
@@ -59,8 +59,8 @@ many L ts [] = ts ≡ []
 many L ts (a ∷ items) = (us : List Token) × (vs : List Token) × (ts ≡ us ++ vs) × L us a × many L vs items
 
 -- a rule once or more, parted by another
-abbrev pub listed : {A B : Type 0} → Rule B → Rule A → Rule (List A)
-listed separator L = do
+abbrev pub list_rule : {A B : Type 0} → Rule B → Rule A → Rule (List A)
+list_rule separator L = do
   first ← L
   others ← many (separator >> L)
   means (first ∷ others)
@@ -69,27 +69,27 @@ listed separator L = do
 
 -- a token that means something
 unfoldable pub one : {A : Type 0} → (Seen → Option A) → Rule A
-one f ts a = (t : Token) × (ts ≡ t ∷ []) × (f (seen t) ≡ Some a)
+one f ts a = (t : Token) × (ts ≡ t ∷ []) × (f (seen_token t) ≡ Some a)
 
 -- a token that passes a test
-unfoldable pub wanted : (Seen → Bool) → Rule (Unit {0})
-wanted test ts u = (t : Token) × (ts ≡ t ∷ []) × (test (seen t) ≡ true)
+unfoldable pub token_rule : (Seen → Bool) → Rule (Unit {0})
+token_rule test ts u = (t : Token) × (ts ≡ t ∷ []) × (test (seen_token t) ≡ true)
 
 -- a word of the grammar, in any case
 abbrev pub keyword : Keyword → Rule (Unit {0})
-keyword k = wanted (is_keyword k)
+keyword k = token_rule (is_keyword k)
 
 -- a mark of the grammar
 abbrev pub mark : Mark → Rule (Unit {0})
-mark m = wanted (is_mark m)
+mark m = token_rule (is_mark m)
 
 -- n, c and x: a name
 abbrev pub name : Rule (List ℕ)
 name = one word_of
 
 -- 'n' and 'c': a name in quotes
-abbrev pub quoted : Rule (List ℕ)
-quoted = one quoted_of
+abbrev pub quoted_name : Rule (List ℕ)
+quoted_name = one quoted_of
 
 -- num: any number, also where it isn't an i64
 unfoldable pub number : Rule ℤ
@@ -109,7 +109,7 @@ value = either (keyword kw.Null >> means None) (number >>= λ z. means (Some z))
 abbrev pub row : Rule (List (Option ℤ))
 row = do
   mark marks.Open
-  values ← listed (mark marks.Comma) value
+  values ← list_rule (mark marks.Comma) value
   mark marks.Close
   means values
 
@@ -133,7 +133,7 @@ test = name >>= λ c. either (keyword kw.Is >> null_test c) (number_test c)
 
 -- [WHERE test { AND test }]
 abbrev pub filters : Rule (List NamedTest)
-filters = optional (keyword kw.Where >> listed (keyword kw.And) test) []
+filters = optional (keyword kw.Where >> list_rule (keyword kw.And) test) []
 
 -- FROM n [WHERE tests]
 abbrev pub source : Rule (List ℕ × List NamedTest)
@@ -149,7 +149,7 @@ alias = optional (keyword kw.As >> name >>= λ x. means (Some x)) None
 
 -- * behind count (, or c
 abbrev pub argument : Fun → Rule (Fun × Option (List ℕ))
-argument f = either (wanted (is_star_of f) >> means (fun.CountAll, None)) (name >>= λ c. means (f, Some c))
+argument f = either (token_rule (is_star_of f) >> means (fun.CountAll, None)) (name >>= λ c. means (f, Some c))
 
 -- agg: count ( * ) [AS x], or fun ( c ) [AS x]
 abbrev pub aggregate_rest : Fun → Rule NamedAgg
@@ -188,20 +188,20 @@ abbrev pub select_list : Rule (List (List ℕ) × List NamedAgg)
 select_list = do
   keys ← many (mark marks.Comma >> name)
   mark marks.Comma
-  aggs ← listed (mark marks.Comma) aggregate
+  aggs ← list_rule (mark marks.Comma) aggregate
   means (keys, aggs)
 
 -- { , item }, one for each name: the name or the number of its output column, the first of which has i before it
 abbrev pub items_from : ℕ → List (List ℕ) → Rule (Unit {0})
 items_from i [] = means tt
-items_from i (n ∷ names) = mark marks.Comma >> wanted (is_item i n) >> items_from (suc i) names
+items_from i (n ∷ names) = mark marks.Comma >> token_rule (is_item i n) >> items_from (suc i) names
 
 -- GROUP BY item { , item }, where the items are as many as the head, which has this name, and the keys together
-abbrev pub grouping : List ℕ → List (List ℕ) → Rule (Unit {0})
-grouping first keys = do
+abbrev pub group_by : List ℕ → List (List ℕ) → Rule (Unit {0})
+group_by first keys = do
   keyword kw.Group
   keyword kw.By
-  wanted (is_item 0 first)
+  token_rule (is_item 0 first)
   items_from 1 keys
 
 -- the rest of a fold behind its head, whose own word this is: { , c } , agg { , agg } FROM n [WHERE tests] GROUP BY
@@ -210,7 +210,7 @@ abbrev pub fold_behind : List ℕ → Head → Rule NamedFold
 fold_behind own h = do
   list ← select_list
   from ← source
-  grouping (head_name own h.name) list.0
+  group_by (head_name own h.name) list.0
   means (record { step = h.step; shift = h.shift; at = h.at; name = h.name; keys = list.0; aggs = list.1; table = from.0; tests = from.1 })
 
 -- fold, behind its SELECT: bucket { , c } , agg { , agg } FROM n [WHERE tests] GROUP BY item { , item }
@@ -223,7 +223,7 @@ calendar_bucket = do
   mark marks.Open
   z ← number
   mark marks.Comma
-  u ← quoted
+  u ← quoted_name
   mark marks.Comma
   c ← name
   mark marks.Close
@@ -233,7 +233,7 @@ calendar_bucket = do
 -- calendar_bucket ( num , 'unit' , c ) [AS x] { , c } , agg { , agg } FROM n [WHERE tests] GROUP BY item { , item }
 abbrev pub calendar_fold : Rule Stmt
 calendar_fold = do
-  wanted (is_spelled calendar_word)
+  token_rule (is_spelled calendar_word)
   h ← calendar_bucket
   f ← fold_behind calendar_word h.head
   means (stmt.Calendar h.number h.unit f)
@@ -259,7 +259,7 @@ create_table = do
   keyword kw.Table
   n ← name
   mark marks.Open
-  cols ← listed (mark marks.Comma) column
+  cols ← list_rule (mark marks.Comma) column
   mark marks.Close
   means (stmt.Table n cols)
 
@@ -269,9 +269,9 @@ create_hypertable = do
   keyword kw.Select
   keyword kw.CreateHypertable
   mark marks.Open
-  n ← quoted
+  n ← quoted_name
   mark marks.Comma
-  c ← quoted
+  c ← quoted_name
   mark marks.Comma
   keyword kw.ChunkTimeInterval
   mark marks.Arrow
@@ -280,8 +280,8 @@ create_hypertable = do
   means (stmt.Hyper n c z)
 
 -- timescaledb . materialized_only = flag
-abbrev pub setting : Rule Bool
-setting = do
+abbrev pub mode_setting : Rule Bool
+mode_setting = do
   keyword kw.Timescaledb
   mark marks.Point
   keyword kw.MaterializedOnly
@@ -289,16 +289,16 @@ setting = do
   flag
 
 -- [= true]
-abbrev pub affirmed : Rule (Unit {0})
-affirmed = optional (mark marks.Equal >> keyword kw.True) tt
+abbrev pub equals_true : Rule (Unit {0})
+equals_true = optional (mark marks.Equal >> keyword kw.True) tt
 
 -- [, setting]
 abbrev pub mode : Rule Bool
-mode = optional (mark marks.Comma >> setting) true
+mode = optional (mark marks.Comma >> mode_setting) true
 
 -- [WITH DATA | WITH NO DATA]
-abbrev pub filling : Rule Bool
-filling =
+abbrev pub with_data : Rule Bool
+with_data =
     optional
     (keyword kw.With >> either (keyword kw.No >> keyword kw.Data >> means false) (keyword kw.Data >> means true))
     true
@@ -310,7 +310,7 @@ options = do
   keyword kw.Timescaledb
   mark marks.Point
   keyword kw.Continuous
-  affirmed
+  equals_true
   only ← mode
   mark marks.Close
   means only
@@ -318,7 +318,7 @@ options = do
 -- 'n' , bound , bound
 abbrev pub window : Rule Window
 window = do
-  n ← quoted
+  n ← quoted_name
   mark marks.Comma
   lo ← value
   mark marks.Comma
@@ -337,7 +337,7 @@ create_view = do
   keyword kw.As
   keyword kw.Select
   f ← fold
-  filled ← filling
+  filled ← with_data
   means (stmt.View n only filled f)
 
 -- ALTER MATERIALIZED VIEW n SET ( setting )
@@ -349,7 +349,7 @@ alter_view = do
   n ← name
   keyword kw.Set
   mark marks.Open
-  only ← setting
+  only ← mode_setting
   mark marks.Close
   means (stmt.Mode n only)
 
@@ -357,7 +357,7 @@ alter_view = do
 abbrev pub column_list : Rule (Option (List (List ℕ)))
 column_list =
     optional
-    (mark marks.Open >> listed (mark marks.Comma) name >>= λ cols. mark marks.Close >> means (Some cols))
+    (mark marks.Open >> list_rule (mark marks.Comma) name >>= λ cols. mark marks.Close >> means (Some cols))
     None
 
 -- INSERT INTO n [( c { , c } )] VALUES row { , row }
@@ -368,7 +368,7 @@ insert = do
   n ← name
   cols ← column_list
   keyword kw.Values
-  rows ← listed (mark marks.Comma) row
+  rows ← list_rule (mark marks.Comma) row
   means (stmt.Insert n cols rows)
 
 -- DELETE FROM n [WHERE tests]
@@ -388,7 +388,7 @@ drop_chunks = do
   keyword kw.Select
   keyword kw.DropChunks
   mark marks.Open
-  n ← quoted
+  n ← quoted_name
   mark marks.Comma
   older_than
   z ← number
@@ -414,15 +414,15 @@ refresh_cut = do
   means (stmt.Cut w.view w.lo w.hi)
 
 -- [num]
-abbrev pub chosen : Rule (Option ℤ)
-chosen = optional (number >>= λ z. means (Some z)) None
+abbrev pub optional_number : Rule (Option ℤ)
+optional_number = optional (number >>= λ z. means (Some z)) None
 
 -- REFRESH SNAP [num]
 abbrev pub refresh_snap : Rule Stmt
 refresh_snap = do
   keyword kw.Refresh
   keyword kw.Snap
-  c ← chosen
+  c ← optional_number
   means (stmt.Snap c)
 
 -- REFRESH FINISH [num]
@@ -430,7 +430,7 @@ abbrev pub refresh_finish : Rule Stmt
 refresh_finish = do
   keyword kw.Refresh
   keyword kw.Finish
-  c ← chosen
+  c ← optional_number
   means (stmt.Finish c)
 
 -- BEGIN

@@ -28,10 +28,10 @@ use Rattle.ts_schema.specs.declared.conditions.Cmp.TheVariants as cmp
 use Rattle.stmt_tokens.specs.declared.tokens.Mark.{Mark}
 
 -- the fault where nothing that may come next comes
-abbrev pub refused : Stream → Fault
-refused (ends p) = Syntax p
-refused (stops p) = NoToken p
-refused (t then s) = Syntax t.at
+abbrev pub fault_here : Stream → Fault
+fault_here (ends p) = Syntax p
+fault_here (stops p) = NoToken p
+fault_here (t then s) = Syntax t.at
 
 -- Reading from left to right: what the tokens in front say and the tokens after them, or the first fault.
 abbrev pub Parser : Type 0 → Type 0
@@ -83,47 +83,47 @@ choose test p q s = if heads test s then p s else q s
 -- ---- one token
 
 -- what the token in front says
-abbrev pub said : {A : Type 0} → Stream → Option A → Result (A × Stream) Fault
-said s None = Err (refused s)
-said s (Some a) = Ok (a, tail s)
+abbrev pub token_value : {A : Type 0} → Stream → Option A → Result (A × Stream) Fault
+token_value s None = Err (fault_here s)
+token_value s (Some a) = Ok (a, tail s)
 
 -- a token that says something
 unfoldable pub one : {A : Type 0} → (Seen → Option A) → Parser A
-one f s = said s (option_and_then f (seen_ahead s))
+one f s = token_value s (option_and_then f (seen_ahead s))
 
 -- a token that passes a test
-unfoldable pub wanted : (Seen → Bool) → Parser (Unit {0})
-wanted test s = if heads test s then Ok (tt, tail s) else Err (refused s)
+unfoldable pub token_parser : (Seen → Bool) → Parser (Unit {0})
+token_parser test s = if heads test s then Ok (tt, tail s) else Err (fault_here s)
 
 -- a word of the grammar
 abbrev pub keyword : Keyword → Parser (Unit {0})
-keyword k = wanted (is_keyword k)
+keyword k = token_parser (is_keyword k)
 
 -- a mark of the grammar
 abbrev pub mark : Mark → Parser (Unit {0})
-mark m = wanted (is_mark m)
+mark m = token_parser (is_mark m)
 
 -- a name
 abbrev pub name : Parser (List ℕ)
 name = one word_of
 
 -- a name in quotes
-abbrev pub quoted : Parser (List ℕ)
-quoted = one quoted_of
+abbrev pub quoted_name : Parser (List ℕ)
+quoted_name = one quoted_of
 
 -- a comparison
 abbrev pub comparison : Parser Cmp
 comparison = one comparison_of
 
 -- a number that is an i64
-abbrev pub fitting : Stream → Option (Option ℤ) → Result (ℤ × Stream) Fault
-fitting s None = Err (refused s)
-fitting s (Some None) = Err (BadNumber (place s))
-fitting s (Some (Some z)) = Ok (z, tail s)
+abbrev pub fitting_number : Stream → Option (Option ℤ) → Result (ℤ × Stream) Fault
+fitting_number s None = Err (fault_here s)
+fitting_number s (Some None) = Err (BadNumber (place s))
+fitting_number s (Some (Some z)) = Ok (z, tail s)
 
 -- a number of 64 bits
 unfoldable pub number : Parser ℤ
-number s = fitting s (option_and_then number_of (seen_ahead s))
+number s = fitting_number s (option_and_then number_of (seen_ahead s))
 
 -- ---- lists
 
@@ -142,8 +142,8 @@ parts separators.Comma t = is_mark marks.Comma t
 parts separators.And t = is_keyword kw.And t
 
 -- one or more
-unfoldable pub listed : {A : Type 0} → Separator → Parser A → Parser (List A)
-listed separator p = p >>= λ a. more (parts separator) p (a ∷ [])
+unfoldable pub list_parser : {A : Type 0} → Separator → Parser A → Parser (List A)
+list_parser separator p = p >>= λ a. more (parts separator) p (a ∷ [])
 
 -- ---- parts of statements
 
@@ -155,7 +155,7 @@ value = takes (is_keyword kw.Null) (gives None) (number >>= λ z. gives (Some z)
 unfoldable pub row : Parser (List (Option ℤ))
 row = do
   mark marks.Open
-  vs ← listed separators.Comma value
+  vs ← list_parser separators.Comma value
   mark marks.Close
   gives vs
 
@@ -191,7 +191,7 @@ any_test = name >>= λ c. takes (is_keyword kw.Is) (null_test c) (number_test c)
 
 -- [WHERE tests]
 unfoldable pub filters : Parser (List NamedTest)
-filters = takes (is_keyword kw.Where) (listed separators.And any_test) (gives [])
+filters = takes (is_keyword kw.Where) (list_parser separators.And any_test) (gives [])
 
 -- [AS x]
 unfoldable pub alias : Parser (Option (List ℕ))
@@ -219,17 +219,17 @@ aggregate = do
   aggregate_rest f
 
 -- the function that a word names, with its opening parenthesis
-abbrev pub known : Option Fun → Parser Fun
-known None = λ s. Err (refused s)
-known (Some f) = mark marks.Open >> gives f
+abbrev pub function_head : Option Fun → Parser Fun
+function_head None = λ s. Err (fault_here s)
+function_head (Some f) = mark marks.Open >> gives f
 
 -- the keys, and the function of the first aggregate with its opening parenthesis: these keys, and at most n more
 abbrev pub keys_within : ℕ → List (List ℕ) → Parser (List (List ℕ) × Fun)
-keys_within zero front = λ s. Err (refused s)
+keys_within zero front = λ s. Err (fault_here s)
 keys_within (suc n) front = do
   mark marks.Comma
   w ← name
-  choose (is_mark marks.Open) (known (function_of_word w) >>= λ f. gives (front, f)) (keys_within n (front ++ w ∷ []))
+  choose (is_mark marks.Open) (function_head (function_of_word w) >>= λ f. gives (front, f)) (keys_within n (front ++ w ∷ []))
 
 -- the keys after these, and the function of the first aggregate with its opening parenthesis
 unfoldable pub keys_and_function : List (List ℕ) → Parser (List (List ℕ) × Fun)
@@ -255,11 +255,11 @@ bucket = do
 -- the items of GROUP BY for these output columns, which have i before them
 abbrev pub items_from : ℕ → List (List ℕ) → Parser (Unit {0})
 items_from i [] = gives tt
-items_from i (n ∷ names) = mark marks.Comma >> wanted (is_item i n) >> items_from (suc i) names
+items_from i (n ∷ names) = mark marks.Comma >> token_parser (is_item i n) >> items_from (suc i) names
 
 -- the items are as many as the names of the output columns
 unfoldable pub items : List ℕ → List (List ℕ) → Parser (Unit {0})
-items first names = wanted (is_item 0 first) >> items_from 1 names
+items first names = token_parser (is_item 0 first) >> items_from 1 names
 
 -- FROM n [WHERE tests]
 unfoldable pub source : Parser (List ℕ × List NamedTest)
@@ -283,8 +283,8 @@ select_list = do
   gives (k.0, aggs)
 
 -- GROUP BY item { , item }
-unfoldable pub grouping : List ℕ → List (List ℕ) → Parser (Unit {0})
-grouping first keys = do
+unfoldable pub group_by : List ℕ → List (List ℕ) → Parser (Unit {0})
+group_by first keys = do
   keyword kw.Group
   keyword kw.By
   items first keys
@@ -294,7 +294,7 @@ unfoldable pub fold_behind : List ℕ → Head → Parser NamedFold
 fold_behind own h = do
   list ← select_list
   from ← source
-  _ ← grouping (head_name own h.name) list.0
+  _ ← group_by (head_name own h.name) list.0
   gives (record { step = h.step; shift = h.shift; at = h.at; name = h.name; keys = list.0; aggs = list.1; table = from.0; tests = from.1 })
 
 -- a fold after its SELECT
@@ -307,7 +307,7 @@ calendar_bucket = do
   mark marks.Open
   z ← number
   mark marks.Comma
-  u ← quoted
+  u ← quoted_name
   mark marks.Comma
   c ← name
   mark marks.Close
@@ -321,13 +321,13 @@ unfoldable pub table_rest : Parser Stmt
 table_rest = do
   n ← name
   mark marks.Open
-  cols ← listed separators.Comma column
+  cols ← list_parser separators.Comma column
   mark marks.Close
   gives (stmt.Table n cols)
 
 -- timescaledb . materialized_only = flag
-unfoldable pub setting : Parser Bool
-setting = do
+unfoldable pub mode_setting : Parser Bool
+mode_setting = do
   keyword kw.Timescaledb
   mark marks.Point
   keyword kw.MaterializedOnly
@@ -335,12 +335,12 @@ setting = do
   one flag_of
 
 -- [= true]
-unfoldable pub affirmed : Parser (Unit {0})
-affirmed = takes (is_mark marks.Equal) (keyword kw.True) (gives tt)
+unfoldable pub equals_true : Parser (Unit {0})
+equals_true = takes (is_mark marks.Equal) (keyword kw.True) (gives tt)
 
 -- [, setting]
 unfoldable pub mode : Parser Bool
-mode = takes (is_mark marks.Comma) setting (gives true)
+mode = takes (is_mark marks.Comma) mode_setting (gives true)
 
 -- ( timescaledb . continuous [= true] [, setting] )
 unfoldable pub options : Parser Bool
@@ -349,14 +349,14 @@ options = do
   keyword kw.Timescaledb
   mark marks.Point
   keyword kw.Continuous
-  _ ← affirmed
+  _ ← equals_true
   only ← mode
   mark marks.Close
   gives only
 
 -- [WITH DATA | WITH NO DATA]
-unfoldable pub filling : Parser Bool
-filling =
+unfoldable pub with_data : Parser Bool
+with_data =
     takes (is_keyword kw.With)
     (takes (is_keyword kw.No) (keyword kw.Data >> gives false) (keyword kw.Data >> gives true))
     (gives true)
@@ -371,7 +371,7 @@ view_rest = do
   keyword kw.As
   keyword kw.Select
   f ← fold_rest
-  filled ← filling
+  filled ← with_data
   gives (stmt.View n only filled f)
 
 -- what follows CREATE
@@ -386,7 +386,7 @@ alter_rest = do
   n ← name
   keyword kw.Set
   mark marks.Open
-  only ← setting
+  only ← mode_setting
   mark marks.Close
   gives (stmt.Mode n only)
 
@@ -394,7 +394,7 @@ alter_rest = do
 unfoldable pub column_list : Parser (Option (List (List ℕ)))
 column_list =
     takes (is_mark marks.Open)
-    (listed separators.Comma name >>= λ cs. mark marks.Close >> gives (Some cs))
+    (list_parser separators.Comma name >>= λ cs. mark marks.Close >> gives (Some cs))
     (gives None)
 
 -- INTO n [( c { , c } )] VALUES row { , row }
@@ -404,7 +404,7 @@ insert_rest = do
   t ← name
   cols ← column_list
   keyword kw.Values
-  rows ← listed separators.Comma row
+  rows ← list_parser separators.Comma row
   gives (stmt.Insert t cols rows)
 
 -- FROM n [WHERE tests]
@@ -415,9 +415,9 @@ delete_rest = source >>= λ s. gives (stmt.Delete s.0 s.1)
 unfoldable pub hyper_rest : Parser Stmt
 hyper_rest = do
   mark marks.Open
-  t ← quoted
+  t ← quoted_name
   mark marks.Comma
-  c ← quoted
+  c ← quoted_name
   mark marks.Comma
   keyword kw.ChunkTimeInterval
   mark marks.Arrow
@@ -433,7 +433,7 @@ older_than = takes (is_keyword kw.OlderThan) (mark marks.Arrow) (gives tt)
 unfoldable pub drop_rest : Parser Stmt
 drop_rest = do
   mark marks.Open
-  t ← quoted
+  t ← quoted_name
   mark marks.Comma
   _ ← older_than
   z ← number
@@ -463,7 +463,7 @@ select_rest =
 -- 'n' , bound , bound
 unfoldable pub window : Parser Window
 window = do
-  v ← quoted
+  v ← quoted_name
   mark marks.Comma
   lo ← value
   mark marks.Comma
@@ -480,15 +480,15 @@ call_rest = do
   gives (stmt.Refresh w.view w.lo w.hi)
 
 -- [num]
-unfoldable pub chosen : Parser (Option ℤ)
-chosen = choose is_number (number >>= λ z. gives (Some z)) (gives None)
+unfoldable pub optional_number : Parser (Option ℤ)
+optional_number = choose is_number (number >>= λ z. gives (Some z)) (gives None)
 
 -- what follows REFRESH
 unfoldable pub refresh_rest : Parser Stmt
 refresh_rest =
     takes (is_keyword kw.Cut) (window >>= λ w. gives (stmt.Cut w.view w.lo w.hi))
-    (takes (is_keyword kw.Snap) (chosen >>= λ c. gives (stmt.Snap c))
-    (keyword kw.Finish >> chosen >>= λ c. gives (stmt.Finish c)))
+    (takes (is_keyword kw.Snap) (optional_number >>= λ c. gives (stmt.Snap c))
+    (keyword kw.Finish >> optional_number >>= λ c. gives (stmt.Finish c)))
 
 -- [READ ONLY]
 unfoldable pub begin_rest : Parser Stmt
@@ -515,7 +515,7 @@ form =
 
 -- nothing comes any more
 unfoldable pub end : Parser (Unit {0})
-end s = if is_end s then Ok (tt, s) else Err (refused s)
+end s = if is_end s then Ok (tt, s) else Err (fault_here s)
 
 -- [;]
 unfoldable pub semicolon : Parser (Unit {0})

@@ -97,9 +97,9 @@ impl Reader<'_> {
     }
 
     /// One row or more.
-    #[tactic(auto, unfolding(crate::specs::Reading::listed, crate::specs::Reading::bind))]
+    #[tactic(auto, unfolding(crate::specs::Reading::list_parser, crate::specs::Reading::bind))]
     pub(crate) fn rows_of_values(&mut self) -> Result<CellRows<Option<i64>>, ReadError>
-        ensures { Gives result (spec.listed separators.Comma spec.row (ahead self.old)) (ahead self.new) }
+        ensures { Gives result (spec.list_parser separators.Comma spec.row (ahead self.old)) (ahead self.new) }
     {
         let mut rows = CellRows::new(self.alloc());
         let room = Seq::new(self.alloc());
@@ -229,7 +229,7 @@ impl Reader<'_> {
         if !self.takes_keyword(Keyword::Where) {
             return Ok(Seq::new(self.alloc()));
         }
-        self.listed(Separator::And)
+        self.read_list(Separator::And)
     }
 
     /// `[AS x]`

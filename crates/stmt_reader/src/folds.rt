@@ -6,7 +6,7 @@ ghost use Rattle.stmt_tokens.specs.Streams.{heads, tail};
 ghost use Rattle.stmt_tokens.specs.Words.{function_of_word, is_item, is_star_of};
 ghost use Rattle.stmt_syntax.specs.Heads.{head_name};
 ghost use Rattle.stmt_reader.specs.Reading as spec;
-ghost use Rattle.stmt_reader.specs.Reading.{Gives, wanted};
+ghost use Rattle.stmt_reader.specs.Reading.{Gives, token_parser};
 ghost use Rattle.stmt_reader.specs.Forward.{forward-aggregate};
 
 use crate::faults::ReadError;
@@ -77,7 +77,7 @@ impl Reader<'_> {
     {
         let (keys, aggs) = self.select_list()?;
         let (table, tests) = self.source()?;
-        self.grouping(own, &head.name, &keys)?;
+        self.read_group_by(own, &head.name, &keys)?;
         let Head {
             step,
             shift,
@@ -125,7 +125,7 @@ impl Reader<'_> {
         self.mark(Mark::Open)?;
         let number = self.number()?;
         self.mark(Mark::Comma)?;
-        let unit = self.quoted()?;
+        let unit = self.read_quoted()?;
         self.mark(Mark::Comma)?;
         let at = self.name()?;
         self.mark(Mark::Close)?;
@@ -173,7 +173,7 @@ impl Reader<'_> {
             self.mark(Mark::Comma)?;
             let name = self.name()?;
             if self.is_at_mark(Mark::Open) {
-                let fun = self.known(&name)?;
+                let fun = self.read_function(&name)?;
                 return Ok((keys, fun));
             }
             keys.push(name)?;
@@ -182,8 +182,8 @@ impl Reader<'_> {
 
     /// The function that a word names, with its opening parenthesis.
     #[tactic(auto, unfolding(crate::specs::Reading::bind))]
-    fn known(&mut self, name: &Name) -> Result<Fun, ReadError>
-        ensures { Gives result (spec.known (function_of_word name.now) (ahead self.old)) (ahead self.new) }
+    fn read_function(&mut self, name: &Name) -> Result<Fun, ReadError>
+        ensures { Gives result (spec.function_head (function_of_word name.now) (ahead self.old)) (ahead self.new) }
     {
         let Some(fun) = function_named(name.bytes()) else {
             return Err(self.refusal());
@@ -258,15 +258,15 @@ impl Reader<'_> {
     }
 
     /// `GROUP BY` and as many items as the head and the keys together.
-    #[tactic(auto, unfolding(crate::specs::Reading::grouping, crate::specs::Reading::items, crate::specs::Reading::bind))]
-    fn grouping(
+    #[tactic(auto, unfolding(crate::specs::Reading::group_by, crate::specs::Reading::items, crate::specs::Reading::bind))]
+    fn read_group_by(
         &mut self,
         own: &[u8],
         name: &Option<Name>,
         keys: &Seq<Name>,
     ) -> Result<(), ReadError>
         requires { lower own.now ≡ own.now }
-        ensures { Gives result (spec.grouping (head_name own.now name.now) keys.now (ahead self.old)) (ahead self.new) }
+        ensures { Gives result (spec.group_by (head_name own.now name.now) keys.now (ahead self.old)) (ahead self.new) }
     {
         self.keyword(Keyword::Group)?;
         self.keyword(Keyword::By)?;
@@ -277,7 +277,7 @@ impl Reader<'_> {
     /// The item of the head, by the name after AS or by its own word.
     fn first_item(&mut self, own: &[u8], name: &Option<Name>) -> Result<(), ReadError>
         requires { lower own.now ≡ own.now }
-        ensures { Gives result (wanted (is_item 0 (head_name own.now name.now)) (ahead self.old)) (ahead self.new) }
+        ensures { Gives result (token_parser (is_item 0 (head_name own.now name.now)) (ahead self.old)) (ahead self.new) }
     {
         match name {
             Some(name) => self.named_item(0, name),
@@ -298,7 +298,7 @@ impl Reader<'_> {
 
     /// An output column that has `before` others before it, by its number or its name.
     fn named_item(&mut self, before: usize, name: &Name) -> Result<(), ReadError>
-        ensures { Gives result (wanted (is_item before name.now) (ahead self.old)) (ahead self.new) }
+        ensures { Gives result (token_parser (is_item before name.now) (ahead self.old)) (ahead self.new) }
     {
         self.item(before, name.bytes())
     }

@@ -102,7 +102,7 @@ impl Reader<'_> {
     {
         let name = self.name()?;
         self.mark(Mark::Open)?;
-        let cols = self.listed(Separator::Comma)?;
+        let cols = self.read_list(Separator::Comma)?;
         self.mark(Mark::Close)?;
         Ok(Stmt::Table { name, cols })
     }
@@ -119,7 +119,7 @@ impl Reader<'_> {
         self.keyword(Keyword::As)?;
         self.keyword(Keyword::Select)?;
         let fold = self.fold()?;
-        let filled = self.filling()?;
+        let filled = self.read_with_data()?;
         Ok(Stmt::View {
             name,
             only,
@@ -128,7 +128,7 @@ impl Reader<'_> {
         })
     }
 
-    /// `( timescaledb . continuous [= true] [, setting] )`
+    /// `( timescaledb . continuous [= true] [, read_mode_setting] )`
     #[tactic(auto, unfolding(crate::specs::Reading::options, crate::specs::Reading::bind))]
     fn options(&mut self) -> Result<bool, ReadError>
         ensures { Gives result (spec.options (ahead self.old)) (ahead self.new) }
@@ -137,16 +137,16 @@ impl Reader<'_> {
         self.keyword(Keyword::Timescaledb)?;
         self.mark(Mark::Point)?;
         self.keyword(Keyword::Continuous)?;
-        self.affirmed()?;
+        self.read_equals_true()?;
         let only = self.mode()?;
         self.mark(Mark::Close)?;
         Ok(only)
     }
 
     /// `[= true]`
-    #[tactic(auto, unfolding(crate::specs::Reading::affirmed, crate::specs::Reading::takes))]
-    fn affirmed(&mut self) -> Result<(), ReadError>
-        ensures { Gives result (spec.affirmed (ahead self.old)) (ahead self.new) }
+    #[tactic(auto, unfolding(crate::specs::Reading::equals_true, crate::specs::Reading::takes))]
+    fn read_equals_true(&mut self) -> Result<(), ReadError>
+        ensures { Gives result (spec.equals_true (ahead self.old)) (ahead self.new) }
     {
         if self.takes_mark(Mark::Equal) {
             self.keyword(Keyword::True)
@@ -155,22 +155,22 @@ impl Reader<'_> {
         }
     }
 
-    /// `[, setting]`; without it an aggregate shows materialised buckets only.
+    /// `[, read_mode_setting]`; without it an aggregate shows materialised buckets only.
     #[tactic(auto, unfolding(crate::specs::Reading::mode, crate::specs::Reading::takes))]
     fn mode(&mut self) -> Result<bool, ReadError>
         ensures { Gives result (spec.mode (ahead self.old)) (ahead self.new) }
     {
         if self.takes_mark(Mark::Comma) {
-            self.setting()
+            self.read_mode_setting()
         } else {
             Ok(true)
         }
     }
 
     /// `timescaledb . materialized_only = flag`
-    #[tactic(auto, unfolding(crate::specs::Reading::setting, crate::specs::Reading::bind))]
-    fn setting(&mut self) -> Result<bool, ReadError>
-        ensures { Gives result (spec.setting (ahead self.old)) (ahead self.new) }
+    #[tactic(auto, unfolding(crate::specs::Reading::mode_setting, crate::specs::Reading::bind))]
+    fn read_mode_setting(&mut self) -> Result<bool, ReadError>
+        ensures { Gives result (spec.mode_setting (ahead self.old)) (ahead self.new) }
     {
         self.keyword(Keyword::Timescaledb)?;
         self.mark(Mark::Point)?;
@@ -180,9 +180,9 @@ impl Reader<'_> {
     }
 
     /// `[WITH DATA | WITH NO DATA]`
-    #[tactic(auto, unfolding(crate::specs::Reading::filling, crate::specs::Reading::bind, crate::specs::Reading::takes))]
-    fn filling(&mut self) -> Result<bool, ReadError>
-        ensures { Gives result (spec.filling (ahead self.old)) (ahead self.new) }
+    #[tactic(auto, unfolding(crate::specs::Reading::with_data, crate::specs::Reading::bind, crate::specs::Reading::takes))]
+    fn read_with_data(&mut self) -> Result<bool, ReadError>
+        ensures { Gives result (spec.with_data (ahead self.old)) (ahead self.new) }
     {
         if !self.takes_keyword(Keyword::With) {
             return Ok(true);
@@ -202,7 +202,7 @@ impl Reader<'_> {
         let view = self.name()?;
         self.keyword(Keyword::Set)?;
         self.mark(Mark::Open)?;
-        let only = self.setting()?;
+        let only = self.read_mode_setting()?;
         self.mark(Mark::Close)?;
         Ok(Stmt::Mode { view, only })
     }
@@ -228,7 +228,7 @@ impl Reader<'_> {
         if !self.takes_mark(Mark::Open) {
             return Ok(None);
         }
-        let cols = self.listed(Separator::Comma)?;
+        let cols = self.read_list(Separator::Comma)?;
         self.mark(Mark::Close)?;
         Ok(Some(cols))
     }
@@ -282,9 +282,9 @@ impl Reader<'_> {
         ensures { Gives result (spec.hyper_rest (ahead self.old)) (ahead self.new) }
     {
         self.mark(Mark::Open)?;
-        let table = self.quoted()?;
+        let table = self.read_quoted()?;
         self.mark(Mark::Comma)?;
-        let col = self.quoted()?;
+        let col = self.read_quoted()?;
         self.mark(Mark::Comma)?;
         self.keyword(Keyword::ChunkTimeInterval)?;
         self.mark(Mark::Arrow)?;
@@ -303,7 +303,7 @@ impl Reader<'_> {
         ensures { Gives result (spec.drop_rest (ahead self.old)) (ahead self.new) }
     {
         self.mark(Mark::Open)?;
-        let table = self.quoted()?;
+        let table = self.read_quoted()?;
         self.mark(Mark::Comma)?;
         self.older_than()?;
         let below = self.number()?;
@@ -348,7 +348,7 @@ impl Reader<'_> {
     fn window(&mut self) -> Result<Window, ReadError>
         ensures { Gives result (spec.window (ahead self.old)) (ahead self.new) }
     {
-        let view = self.quoted()?;
+        let view = self.read_quoted()?;
         self.mark(Mark::Comma)?;
         let lo = self.value()?;
         self.mark(Mark::Comma)?;
@@ -367,19 +367,19 @@ impl Reader<'_> {
         }
         if self.takes_keyword(Keyword::Snap) {
             return Ok(Stmt::Snap {
-                cut: self.chosen()?,
+                cut: self.read_optional_number()?,
             });
         }
         self.keyword(Keyword::Finish)?;
         Ok(Stmt::Finish {
-            cut: self.chosen()?,
+            cut: self.read_optional_number()?,
         })
     }
 
     /// `[num]`
-    #[tactic(auto, unfolding(crate::specs::Reading::chosen, crate::specs::Reading::bind, crate::specs::Reading::choose))]
-    fn chosen(&mut self) -> Result<Option<i64>, ReadError>
-        ensures { Gives result (spec.chosen (ahead self.old)) (ahead self.new) }
+    #[tactic(auto, unfolding(crate::specs::Reading::optional_number, crate::specs::Reading::bind, crate::specs::Reading::choose))]
+    fn read_optional_number(&mut self) -> Result<Option<i64>, ReadError>
+        ensures { Gives result (spec.optional_number (ahead self.old)) (ahead self.new) }
     {
         if !self.is_at_number() {
             return Ok(None);

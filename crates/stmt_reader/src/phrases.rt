@@ -2,7 +2,7 @@
 ghost use Rattle.std.specs.Prelude.{◌≡◌, ◌≤◌, if◌then◌else◌, [], ◌∷◌, Ok};
 ghost use Rattle.stmt_reader.specs.Cursor.{ahead};
 ghost use Rattle.stmt_tokens.specs.Streams.{Stream, heads, tail, size};
-ghost use Rattle.stmt_reader.specs.Reading.{Parser, Gives, parts, more, listed};
+ghost use Rattle.stmt_reader.specs.Reading.{Parser, Gives, parts, more, list_parser};
 
 use crate::faults::ReadError;
 use crate::reader::Reader;
@@ -59,21 +59,21 @@ impl Reader<'_> {
     }
 
     /// Reads one or more items.
-    pub fn listed<T: Phrase + Drop>(&mut self, separator: Separator) -> Result<Seq<T>, ReadError>
-        ensures { Gives result (listed separator T.phrase (ahead self.old)) (ahead self.new) }
+    pub fn read_list<T: Phrase + Drop>(&mut self, separator: Separator) -> Result<Seq<T>, ReadError>
+        ensures { Gives result (list_parser separator T.phrase (ahead self.old)) (ahead self.new) }
     {
         let room = Seq::new(self.alloc());
         self.listed_in(separator, room)
     }
 
     /// Reads one or more items into the memory of a list, of whose items none stays.
-    #[tactic(auto, unfolding(crate::specs::Reading::listed, crate::specs::Reading::bind))]
+    #[tactic(auto, unfolding(crate::specs::Reading::list_parser, crate::specs::Reading::bind))]
     pub(crate) fn listed_in<T: Phrase + Drop>(
         &mut self,
         separator: Separator,
         room: Seq<T>,
     ) -> Result<Seq<T>, ReadError>
-        ensures { Gives result (listed separator T.phrase (ahead self.old)) (ahead self.new) }
+        ensures { Gives result (list_parser separator T.phrase (ahead self.old)) (ahead self.new) }
     {
         let mut items = room.into_items();
         items.clear();

@@ -3,7 +3,7 @@ ghost use Rattle.std.specs.Prelude.{◌≡◌, ◌≤◌, length, if◌then◌el
 ghost use Rattle.stmt_syntax.specs.Limits.{longest_line};
 ghost use Rattle.stmt_tokens.specs.Bytes.{lower};
 ghost use Rattle.stmt_tokens.specs.Streams.{heads, tail, seen_ahead, place, is_end};
-ghost use Rattle.stmt_reader.specs.Reading.{refused, Gives, wanted, one, name, quoted, number, end};
+ghost use Rattle.stmt_reader.specs.Reading.{fault_here, Gives, token_parser, one, name, quoted_name, number, end};
 ghost use Rattle.stmt_tokens.specs.Words.{is_keyword, is_spelled, is_mark, is_number, is_item, flag_of, comparison_of, function_of};
 ghost use Rattle.stmt_reader.specs.Cursor.{ahead};
 ghost use Rattle.stmt_tokens.specs.Scan.{view, IsNamed};
@@ -11,7 +11,7 @@ ghost use Rattle.stmt_tokens.specs.Scan.{view, IsNamed};
 use crate::faults::{Fault, ReadError};
 use std::alloc::Global;
 use std::marker::Model;
-use stmt_tokens::{Ahead, Keyword, Mark, Token, look, name_of};
+use stmt_tokens::{Keyword, Mark, NextToken, Token, look, name_of};
 use ts_num::Fun;
 use ts_schema::{Cmp, Name};
 
@@ -26,7 +26,7 @@ pub struct Reader<'a> {
     alloc: Global,
     text: &'a [u8],
     at: usize,
-    ahead: Ahead<'a>,
+    ahead: NextToken<'a>,
 }
 
 impl<'a> Model for Reader<'a> {
@@ -94,9 +94,9 @@ impl<'a> Reader<'a> {
         ensures named { IsNamed result }
     {
         match self.ahead {
-            Ahead::Token { token, .. } => Some(token),
-            Ahead::End => None,
-            Ahead::Nothing(_) => None,
+            NextToken::Token { token, .. } => Some(token),
+            NextToken::End => None,
+            NextToken::Nothing(_) => None,
         }
     }
 
@@ -105,21 +105,21 @@ impl<'a> Reader<'a> {
         ensures { result ≡ place (ahead self.now) }
     {
         match self.ahead {
-            Ahead::Token { begin, .. } => begin as u32 + 1,
-            Ahead::End => self.at as u32 + 1,
-            Ahead::Nothing(begin) => begin as u32 + 1,
+            NextToken::Token { begin, .. } => begin as u32 + 1,
+            NextToken::End => self.at as u32 + 1,
+            NextToken::Nothing(begin) => begin as u32 + 1,
         }
     }
 
     /// The fault where nothing that may come next comes.
     pub fn refusal(&self) -> ReadError
-        ensures { result ≡ ReadError.Fault (refused (ahead self.now)) }
+        ensures { result ≡ ReadError.Fault (fault_here (ahead self.now)) }
     {
         let place = self.place();
         ReadError::Fault(match self.ahead {
-            Ahead::Token { .. } => Fault::Syntax(place),
-            Ahead::End => Fault::Syntax(place),
-            Ahead::Nothing(_) => Fault::NoToken(place),
+            NextToken::Token { .. } => Fault::Syntax(place),
+            NextToken::End => Fault::Syntax(place),
+            NextToken::Nothing(_) => Fault::NoToken(place),
         })
     }
 
@@ -128,12 +128,12 @@ impl<'a> Reader<'a> {
         ensures tail { ahead self.new ≡ tail (ahead self.old) }
     {
         match self.ahead {
-            Ahead::Token { end, .. } => {
+            NextToken::Token { end, .. } => {
                 self.at = end;
                 self.ahead = look(self.text, end);
             }
-            Ahead::End => {}
-            Ahead::Nothing(_) => {}
+            NextToken::End => {}
+            NextToken::Nothing(_) => {}
         }
     }
 
@@ -194,9 +194,9 @@ impl<'a> Reader<'a> {
         ensures { result ≡ is_end (ahead self.now) }
     {
         match self.ahead {
-            Ahead::End => true,
-            Ahead::Token { .. } => false,
-            Ahead::Nothing(_) => false,
+            NextToken::End => true,
+            NextToken::Token { .. } => false,
+            NextToken::Nothing(_) => false,
         }
     }
 
@@ -238,9 +238,9 @@ impl<'a> Reader<'a> {
     }
 
     /// A word of the grammar.
-    #[tactic(auto, unfolding(crate::specs::Reading::wanted))]
+    #[tactic(auto, unfolding(crate::specs::Reading::token_parser))]
     pub fn keyword(&mut self, keyword: Keyword) -> Result<(), ReadError>
-        ensures { Gives result (wanted (is_keyword keyword) (ahead self.old)) (ahead self.new) }
+        ensures { Gives result (token_parser (is_keyword keyword) (ahead self.old)) (ahead self.new) }
     {
         if !self.takes_keyword(keyword) {
             return Err(self.refusal());
@@ -249,10 +249,10 @@ impl<'a> Reader<'a> {
     }
 
     /// The word with this text, which is in lower case.
-    #[tactic(auto, unfolding(crate::specs::Reading::wanted))]
+    #[tactic(auto, unfolding(crate::specs::Reading::token_parser))]
     pub fn word(&mut self, text: &[u8]) -> Result<(), ReadError>
         requires { lower text.now ≡ text.now }
-        ensures { Gives result (wanted (is_spelled text.now) (ahead self.old)) (ahead self.new) }
+        ensures { Gives result (token_parser (is_spelled text.now) (ahead self.old)) (ahead self.new) }
     {
         if !self.takes_word(text) {
             return Err(self.refusal());
@@ -261,9 +261,9 @@ impl<'a> Reader<'a> {
     }
 
     /// A mark.
-    #[tactic(auto, unfolding(crate::specs::Reading::wanted))]
+    #[tactic(auto, unfolding(crate::specs::Reading::token_parser))]
     pub fn mark(&mut self, mark: Mark) -> Result<(), ReadError>
-        ensures { Gives result (wanted (is_mark mark) (ahead self.old)) (ahead self.new) }
+        ensures { Gives result (token_parser (is_mark mark) (ahead self.old)) (ahead self.new) }
     {
         if !self.takes_mark(mark) {
             return Err(self.refusal());
@@ -290,8 +290,8 @@ impl<'a> Reader<'a> {
 
     /// A name in quotes.
     #[tactic(auto, unfolding(crate::specs::Reading::one))]
-    pub fn quoted(&mut self) -> Result<Name, ReadError>
-        ensures { Gives result (quoted (ahead self.old)) (ahead self.new) }
+    pub fn read_quoted(&mut self) -> Result<Name, ReadError>
+        ensures { Gives result (quoted_name (ahead self.old)) (ahead self.new) }
     {
         match self.token() {
             Some(Token::Quoted(word)) => {
@@ -323,10 +323,10 @@ impl<'a> Reader<'a> {
     }
 
     /// An item of GROUP BY: the output column that has `before` others before it.
-    #[tactic(auto, unfolding(crate::specs::Reading::wanted))]
+    #[tactic(auto, unfolding(crate::specs::Reading::token_parser))]
     pub fn item(&mut self, before: usize, name: &[u8]) -> Result<(), ReadError>
         requires { lower name.now ≡ name.now }
-        ensures { Gives result (wanted (is_item before name.now) (ahead self.old)) (ahead self.new) }
+        ensures { Gives result (token_parser (is_item before name.now) (ahead self.old)) (ahead self.new) }
     {
         if !self.is_at_item(before, name) {
             return Err(self.refusal());

@@ -7,7 +7,7 @@ ghost use Rattle.stmt_reader.specs.Reading as spec;
 ghost use Rattle.stmt_reader.specs.declared.phrases.Separator.TheVariants as separators;
 
 use cell_rows::CellRows;
-use stmt_tokens::{Ahead, Mark, lone_mark_at, look, short_number_at};
+use stmt_tokens::{Mark, NextToken, lone_mark_at, look, short_number_at};
 use ts_schema::NoMemory;
 
 /// A value of a row, and the byte behind it.
@@ -30,7 +30,7 @@ fn value_behind(text: &[u8], skip: usize) -> Option<Value>
             end: number.end,
         });
     }
-    let Ahead::Token { token, end, .. } = look(text, skip) else {
+    let NextToken::Token { token, end, .. } = look(text, skip) else {
         return None;
     };
     let value = token.value()?;
@@ -62,7 +62,7 @@ fn mark_behind_blanks(text: &[u8], skip: usize, mark: Mark) -> Option<usize>
     ensures behind { IfSome result (λ end. stream text.now end ≡ tail (stream text.now skip)) }
     ensures within { IfSome result (λ end. end ≤ length text.now) }
 {
-    let Ahead::Token { token, end, .. } = look(text, skip) else {
+    let NextToken::Token { token, end, .. } = look(text, skip) else {
         return None;
     };
     if !token.is_mark(mark) {

@@ -12,12 +12,12 @@ use Rattle.ts_schema.specs.Names.{is_head, is_tail, is_name}
 use Rattle.stmt_tokens.specs.Bytes.{begins_word, continues_word, lower}
 use Rattle.stmt_tokens.specs.Tokens.{Lexeme, sign_len, number_at, begins_with, quoted_at, long_mark, short_mark, mark_of_len, or_else, mark_at, lexeme_at, of_lexeme, next_here, next, blank_len}
 use Rattle.stmt_tokens.specs.Scan as scan
-use Rattle.stmt_tokens.specs.Scan.{SeenNext, seen, seen_next, IsNamedToken}
+use Rattle.stmt_tokens.specs.Scan.{SeenNext, seen_token, seen_next, IsNamedToken}
 
 -- a token whose name, where it has one, is a name
 abbrev pub IsNamedLexeme : Option Lexeme → Type 0
 IsNamedLexeme None = Unit {0}
-IsNamedLexeme (Some l) = IsNamedToken (seen l.token)
+IsNamedLexeme (Some l) = IsNamedToken (seen_token l.token)
 
 named_if : (b : Bool) (x y : Option Lexeme) → (b ≡ true → IsNamedLexeme x) → (b ≡ false → IsNamedLexeme y) → IsNamedLexeme (cond b x y)
 named_if b x y = cond_both b x y IsNamedLexeme

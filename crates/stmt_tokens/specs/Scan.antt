@@ -7,8 +7,8 @@ use Rattle.stmt_tokens.specs.declared.tokens.Mark.{Mark}
 use Rattle.stmt_tokens.specs.declared.tokens.Token.{Token}
 use Rattle.stmt_tokens.specs.declared.tokens.Token.TheVariants as tokens
 use Rattle.stmt_tokens.specs.declared.tokens.Lexeme.{Lexeme}
-use Rattle.stmt_tokens.specs.declared.tokens.Ahead.{Ahead}
-use Rattle.stmt_tokens.specs.declared.tokens.Ahead.TheVariants as heads
+use Rattle.stmt_tokens.specs.declared.tokens.NextToken.{NextToken}
+use Rattle.stmt_tokens.specs.declared.tokens.NextToken.TheVariants as heads
 use Rattle.stmt_tokens.specs.declared.tokens.TokenAt.{TokenAt}
 use Rattle.stmt_tokens.specs.declared.tokens.TokenAt.TheVariants as at
 use Rattle.stmt_tokens.specs.declared.tokens.TokenKind.TheVariants as kinds
@@ -29,11 +29,11 @@ abbrev pub signed_number : ℕ → ℕ → ℤ
 signed_number sign value = if sign == 0 then pos value else neg_ℤ (pos value)
 
 -- what the code keeps of a token
-abbrev pub seen : spec.Token → Seen
-seen (spec.word w) = word w
-seen (spec.number z) = number (i64_of z)
-seen (spec.quoted w) = quoted w
-seen (spec.mark m) = mark m
+abbrev pub seen_token : spec.Token → Seen
+seen_token (spec.word w) = word w
+seen_token (spec.number z) = number (i64_of z)
+seen_token (spec.quoted w) = quoted w
+seen_token (spec.mark m) = mark m
 
 -- what the code has of a token
 abbrev pub view : Token → Seen
@@ -50,7 +50,7 @@ pub record SeenLexeme : Type 0 where
 -- what the code keeps of a token and its bytes
 abbrev pub seen_lexeme : Option spec.Lexeme → Option SeenLexeme
 seen_lexeme None = None
-seen_lexeme (Some l) = Some (record { token = seen l.token; len = l.len })
+seen_lexeme (Some l) = Some (record { token = seen_token l.token; len = l.len })
 
 -- what the code has of them
 abbrev pub view_lexeme : Option Lexeme → Option SeenLexeme
@@ -65,12 +65,12 @@ pub data SeenNext : Type 0 where
 
 -- what the code keeps of what comes next
 abbrev pub seen_next : spec.Next → SeenNext
-seen_next (spec.token t begin end) = token (seen t) begin end
+seen_next (spec.token t begin end) = token (seen_token t) begin end
 seen_next spec.ended = ended
 seen_next (spec.nothing begin) = nothing begin
 
 -- what the code has of it
-abbrev pub view_ahead : Ahead → SeenNext
+abbrev pub view_ahead : NextToken → SeenNext
 view_ahead (heads.Token t begin end) = token (view t) begin end
 view_ahead heads.End = ended
 view_ahead (heads.Nothing begin) = nothing begin

@@ -1,6 +1,6 @@
 use Rattle.std.specs.Prelude.{ℕ, zero, suc, ◌+◌, Bool, true, false, List, [], ◌∷◌, length, map, Option, Some, None}
 use Rattle.stmt_tokens.specs.Tokens.{Token, token, ended, nothing, next}
-use Rattle.stmt_tokens.specs.Scan.{Seen, seen}
+use Rattle.stmt_tokens.specs.Scan.{Seen, seen_token}
 
 -- a token at its place, which counts from 1
 pub record Placed : Type 0 where
@@ -48,7 +48,7 @@ size (t then s) = suc (size s)
 abbrev pub seen_ahead : Stream → Option Seen
 seen_ahead (ends p) = None
 seen_ahead (stops p) = None
-seen_ahead (t then s) = Some (seen t.token)
+seen_ahead (t then s) = Some (seen_token t.token)
 
 -- a token is there and passes a test
 abbrev pub passes : (Seen → Bool) → Option Seen → Bool

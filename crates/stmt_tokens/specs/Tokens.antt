@@ -142,15 +142,15 @@ next text skip = let begin = skip + blank_len (drop skip text) in next_here begi
 -- ---- what `next_token` answers
 
 -- places count from 1
-abbrev pub shown : ℕ → Next → TokenAt
-shown skip ended = at.End (skip + 1)
-shown skip (nothing begin) = at.NoToken (begin + 1)
-shown skip (token (word w) begin end) = at.Token kinds.Word begin end
-shown skip (token (number z) begin end) =
+abbrev pub token_at_of : ℕ → Next → TokenAt
+token_at_of skip ended = at.End (skip + 1)
+token_at_of skip (nothing begin) = at.NoToken (begin + 1)
+token_at_of skip (token (word w) begin end) = at.Token kinds.Word begin end
+token_at_of skip (token (number z) begin end) =
     if is_i64 z then at.Token (kinds.Number z) begin end else at.BadNumber (begin + 1)
-shown skip (token (quoted w) begin end) = at.Token kinds.Quoted begin end
-shown skip (token (mark m) begin end) = at.Token kinds.Mark begin end
+token_at_of skip (token (quoted w) begin end) = at.Token kinds.Quoted begin end
+token_at_of skip (token (mark m) begin end) = at.Token kinds.Mark begin end
 
 -- the next token after the first `skip` bytes
 abbrev pub token_at : List ℕ → ℕ → TokenAt
-token_at text skip = shown skip (next text skip)
+token_at text skip = token_at_of skip (next text skip)

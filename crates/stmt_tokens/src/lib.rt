@@ -14,6 +14,6 @@ pub use keywords::Keyword;
 pub use lines::{LineKind, split_line};
 pub use names::name_of;
 pub use tokens::{
-    Ahead, Mark, MarkAt, NumberAt, Token, TokenAt, TokenKind, function_named, lone_mark_at, look,
-    next_token, short_number_at,
+    Mark, MarkAt, NextToken, NumberAt, Token, TokenAt, TokenKind, function_named, lone_mark_at,
+    look, next_token, short_number_at,
 };

@@ -273,7 +273,7 @@ pub struct Lexeme<'a> {
 
 /// What comes after some blanks. The numbers count bytes from 0.
 #[derive(Clone, Copy, Debug)]
-pub enum Ahead<'a> {
+pub enum NextToken<'a> {
     /// A token, its first byte, and the byte after it.
     Token {
         token: Token<'a>,
@@ -295,14 +295,14 @@ pub fn next_token(text: &[u8], skip: u32) -> TokenAt
     ensures token { result ≡ spec.token_at text.now skip }
 {
     match look(text, skip as usize) {
-        Ahead::End => TokenAt::End(skip + 1),
-        Ahead::Nothing(begin) => TokenAt::NoToken(begin as u32 + 1),
-        Ahead::Token { token, begin, end } => shown(token, begin as u32, end as u32),
+        NextToken::End => TokenAt::End(skip + 1),
+        NextToken::Nothing(begin) => TokenAt::NoToken(begin as u32 + 1),
+        NextToken::Token { token, begin, end } => token_at(token, begin as u32, end as u32),
     }
 }
 
 /// A token with its bytes, or the place of a number that isn't an i64.
-fn shown(token: Token<'_>, at: u32, end: u32) -> TokenAt
+fn token_at(token: Token<'_>, at: u32, end: u32) -> TokenAt
     requires { at < 2 ^ 32 - 1 }
     ensures { result ≡ shown_token (view token.entry) at end }
 {
@@ -318,13 +318,13 @@ fn shown(token: Token<'_>, at: u32, end: u32) -> TokenAt
 
 /// What comes after the first `skip` bytes of a text.
 #[inline]
-pub fn look(text: &[u8], skip: usize) -> Ahead<'_>
+pub fn look(text: &[u8], skip: usize) -> NextToken<'_>
     requires within { skip ≤ length text.now }
     ensures next { view_ahead result ≡ seen_next (spec.next text.now skip) }
     ensures fits { SeenFits skip (length text.now) (view_ahead result) }
 {
     match lone_mark_at(text, skip) {
-        Some(MarkAt { mark, begin, end }) => Ahead::Token {
+        Some(MarkAt { mark, begin, end }) => NextToken::Token {
             token: Token::Mark(mark),
             begin,
             end,
@@ -399,7 +399,7 @@ fn lone_mark(text: &[u8], skip: usize) -> Option<Mark>
 /// What comes after the blanks that stand there. It stays a function of its own, so that what looks for a mark
 /// stays short.
 #[inline(never)]
-fn look_behind_blanks(text: &[u8], skip: usize) -> Ahead<'_>
+fn look_behind_blanks(text: &[u8], skip: usize) -> NextToken<'_>
     requires within { skip ≤ length text.now }
     ensures next { view_ahead result ≡ seen_next (spec.next text.now skip) }
     ensures fits { SeenFits skip (length text.now) (view_ahead result) }
@@ -408,11 +408,11 @@ fn look_behind_blanks(text: &[u8], skip: usize) -> Ahead<'_>
     let begin = skip + blank_len(left);
     let (_, rest) = text.split_at(begin);
     if rest.is_empty() {
-        return Ahead::End;
+        return NextToken::End;
     }
     match lexeme_at(rest) {
-        None => Ahead::Nothing(begin),
-        Some(lexeme) => Ahead::Token {
+        None => NextToken::Nothing(begin),
+        Some(lexeme) => NextToken::Token {
             token: lexeme.token,
             begin,
             end: begin + lexeme.len,

@@ -7,7 +7,7 @@ use Rattle.std.specs.Cmp.Lexicographic.{slice_cmp}
 use Rattle.std.specs.List.{list_any}
 use Rattle.std.specs.Ordering.{match_ordering}
 use Rattle.transcript.specs.Shape.{is_among, are_apart}
-use Rattle.transcript.specs.declared.transcripts.Talk.{Talk}
+use Rattle.transcript.specs.declared.transcripts.SessionTranscript.{SessionTranscript}
 
 abbrev Key : Type 0
 Key = Bor (List ℕ)
@@ -46,22 +46,22 @@ is_kept-insert_key : (q : List ℕ) (ks : List Key) (k : Key) → is_kept q (ins
 is_kept-insert_key q [] k = refl
 is_kept-insert_key q (x ∷ xs) k = placed (order k x) q k x xs refl (is_kept-insert_key q xs k)
 
-abbrev names_of : List Talk → List (List ℕ)
+abbrev names_of : List SessionTranscript → List (List ℕ)
 names_of talks = map (λ s. s.name) talks
 
 -- of the talks, those of the list come last: no name comes twice among them, and their names are the keys
-pub record Seen (talks left done : List Talk) (ks : List Key) : Type 0 where
+pub record Seen (talks left done : List SessionTranscript) (ks : List Key) : Type 0 where
   pub split : talks ≡ left ++ done
   pub apart : are_apart (names_of done) ≡ true
   pub kept : (q : List ℕ) → is_kept q ks ≡ is_among q (names_of done)
 
-pub none_seen : (talks : List Talk) (ks : List Key) → ks ≡ [] → Seen talks talks [] ks
+pub none_seen : (talks : List SessionTranscript) (ks : List Key) → ks ≡ [] → Seen talks talks [] ks
 none_seen talks ks e = record { split = sym (append-nil talks); apart = refl; kept = λ q. rw e refl }
 
-key_among : (talk : Talk) (key : Key) (talks left done : List Talk) (ks : List Key) → Seen talks left done ks → key.now ≡ talk.name → is_kept key.now ks ≡ is_among talk.name (names_of done)
+key_among : (talk : SessionTranscript) (key : Key) (talks left done : List SessionTranscript) (ks : List Key) → Seen talks left done ks → key.now ≡ talk.name → is_kept key.now ks ≡ is_among talk.name (names_of done)
 key_among talk key talks left done ks h e = h.kept key.now ∙ ap (λ n. is_among n (names_of done)) e
 
-pub one_seen : (talks left rest done : List Talk) (talk : Talk) (key : Key) (ks new : List Key) → Seen talks left done ks → left ≡ rest ++ talk ∷ [] → key.now ≡ talk.name
+pub one_seen : (talks left rest done : List SessionTranscript) (talk : SessionTranscript) (key : Key) (ks new : List Key) → Seen talks left done ks → left ≡ rest ++ talk ∷ [] → key.now ≡ talk.name
     → true ≡ not (is_kept key.now ks) → new ≡ insert_key order ks key → Seen talks rest (talk ∷ done) new
 one_seen talks left rest done talk key ks new h last e fresh is = record {
   split = h.split ∙ ap (λ l. l ++ done) last ∙ append_assoc rest (talk ∷ []) done;
@@ -73,11 +73,11 @@ and_false : (b : Bool) → (b && false) ≡ false
 and_false true = refl
 and_false false = refl
 
-not_apart : (before : List Talk) (name : List ℕ) (done : List Talk) → is_among name (names_of done) ≡ true → are_apart (names_of before ++ name ∷ names_of done) ≡ false
+not_apart : (before : List SessionTranscript) (name : List ℕ) (done : List SessionTranscript) → is_among name (names_of done) ≡ true → are_apart (names_of before ++ name ∷ names_of done) ≡ false
 not_apart [] name done h = ap (λ b. not b && are_apart (names_of done)) h
 not_apart (t ∷ before) name done h = ap (λ b. not (is_among t.name (names_of before ++ name ∷ names_of done)) && b) (not_apart before name done h) ∙ and_false _
 
-names-append : (before : List Talk) (talk : Talk) (done : List Talk) → names_of (before ++ talk ∷ done) ≡ names_of before ++ talk.name ∷ names_of done
+names-append : (before : List SessionTranscript) (talk : SessionTranscript) (done : List SessionTranscript) → names_of (before ++ talk ∷ done) ≡ names_of before ++ talk.name ∷ names_of done
 names-append [] talk done = refl
 names-append (t ∷ before) talk done = ap (λ l. t.name ∷ l) (names-append before talk done)
 
@@ -85,12 +85,12 @@ not_false : (b : Bool) → false ≡ not b → b ≡ true
 not_false true h = refl
 not_false false h = absurd cc
 
-pub seen_twice : (talks left rest done : List Talk) (talk : Talk) (key : Key) (ks : List Key) → Seen talks left done ks → left ≡ rest ++ talk ∷ [] → key.now ≡ talk.name
+pub seen_twice : (talks left rest done : List SessionTranscript) (talk : SessionTranscript) (key : Key) (ks : List Key) → Seen talks left done ks → left ≡ rest ++ talk ∷ [] → key.now ≡ talk.name
     → false ≡ not (is_kept key.now ks) → false ≡ are_apart (names_of talks)
 seen_twice talks left rest done talk key ks h last e known =
     let among = sym (key_among talk key talks left done ks h e) ∙ not_false (is_kept key.now ks) known in
     let whole : talks ≡ rest ++ talk ∷ done = h.split ∙ ap (λ l. l ++ done) last ∙ append_assoc rest (talk ∷ []) done in
     sym (ap (λ l. are_apart (names_of l)) whole ∙ ap are_apart (names-append rest talk done) ∙ not_apart rest talk.name done among)
 
-pub all_seen : (talks left done : List Talk) (ks : List Key) → Seen talks left done ks → left ≡ [] → true ≡ are_apart (names_of talks)
+pub all_seen : (talks left done : List SessionTranscript) (ks : List Key) → Seen talks left done ks → left ≡ [] → true ≡ are_apart (names_of talks)
 all_seen talks left done ks h none = sym (ap (λ l. are_apart (names_of l)) (h.split ∙ ap (λ l. l ++ done) none) ∙ h.apart)

@@ -8,7 +8,7 @@ use Rattle.transcript.specs.Ascii.{is_ascii_exchange, is_ascii_talk, is_ascii_te
 use Rattle.transcript.specs.Laws.{AsciiReadsBack}
 use Rattle.transcript.specs.Text.{IsWritableExchange, IsWritableTalk}
 use Rattle.transcript.specs.declared.transcripts.Exchange.{Exchange}
-use Rattle.transcript.specs.declared.transcripts.Talk.{Talk}
+use Rattle.transcript.specs.declared.transcripts.SessionTranscript.{SessionTranscript}
 use Rattle.transcript.proofs.ReadingBack.{reads_back}
 
 same_ascii : (bytes : List ℕ) → are_ascii bytes ≡ is_ascii_text bytes
@@ -26,7 +26,7 @@ exchanges_writable (e ∷ es) all =
       exchanges_writable es (and_second (is_ascii_exchange e) (list_all is_ascii_exchange es) all),
     )
 
-talks_writable : (ts : List Talk) → list_all is_ascii_talk ts ≡ true → AllByRecursion IsWritableTalk ts
+talks_writable : (ts : List SessionTranscript) → list_all is_ascii_talk ts ≡ true → AllByRecursion IsWritableTalk ts
 talks_writable [] all = tt
 talks_writable (t ∷ ts) all =
     let here = and_first (is_ascii_talk t) (list_all is_ascii_talk ts) all in (

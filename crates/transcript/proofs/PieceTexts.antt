@@ -5,14 +5,14 @@ use Rattle.serde_json.specs.Written.{compact_text, items_text, comma_if}
 use Rattle.transcript.specs.Pieces.{talk_head}
 use Rattle.transcript.specs.Text.{exchange_data, exchanges_data, talk_data, talks_data, transcript_text}
 use Rattle.transcript.specs.declared.transcripts.Exchange.{Exchange}
-use Rattle.transcript.specs.declared.transcripts.Talk.{Talk}
+use Rattle.transcript.specs.declared.transcripts.SessionTranscript.{SessionTranscript}
 use Rattle.transcript.specs.declared.transcripts.Transcript.{Transcript}
 
 pub exchange_pieces : (e : Exchange) → compact_text (exchange_data e) ≡ codes "{\"line\":" ++ (quoted e.line ++ (codes ",\"reply\":" ++ (quoted e.reply ++ codes "}")))
 unfolding escape_byte
 exchange_pieces e = refl
 
-pub talk_pieces : (t : Talk) → compact_text (talk_data t) ≡ codes "{\"name\":" ++ (quoted t.name ++ (codes ",\"replies\":[" ++ (items_text false (exchanges_data t.replies) ++ codes "}")))
+pub talk_pieces : (t : SessionTranscript) → compact_text (talk_data t) ≡ codes "{\"name\":" ++ (quoted t.name ++ (codes ",\"replies\":[" ++ (items_text false (exchanges_data t.replies) ++ codes "}")))
 unfolding escape_byte
 talk_pieces t = refl
 

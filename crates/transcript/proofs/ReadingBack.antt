@@ -21,7 +21,7 @@ use Rattle.transcript.specs.Laws.{ReadsBack, ReadsAsOne}
 use Rattle.transcript.specs.Reading.{transcript_in}
 use Rattle.transcript.specs.Text.{exchange_data, exchanges_data, talk_data, talks_data, transcript_data, transcript_text, IsWritable, IsWritableTalk, IsWritableExchange}
 use Rattle.transcript.specs.declared.transcripts.Exchange.{Exchange}
-use Rattle.transcript.specs.declared.transcripts.Talk.{Talk}
+use Rattle.transcript.specs.declared.transcripts.SessionTranscript.{SessionTranscript}
 use Rattle.transcript.specs.declared.transcripts.Transcript.{Transcript}
 use Rattle.transcript.proofs.PieceTexts.{exchange_pieces, talk_pieces, transcript_pieces}
 use Rattle.transcript.proofs.Trailing.{tokens-line_feed}
@@ -33,7 +33,7 @@ exchanges_numbers : (es : List Exchange) → ItemsHaveNumbers (items_outline (ex
 exchanges_numbers [] = tt
 exchanges_numbers (e ∷ es) = ((tt, (tt, tt)), exchanges_numbers es)
 
-talks_numbers : (ts : List Talk) → ItemsHaveNumbers (items_outline (talks_data ts))
+talks_numbers : (ts : List SessionTranscript) → ItemsHaveNumbers (items_outline (talks_data ts))
 talks_numbers [] = tt
 talks_numbers (t ∷ ts) = ((tt, (exchanges_numbers t.replies, tt)), talks_numbers ts)
 
@@ -46,7 +46,7 @@ exchanges_depth : (es : List Exchange) → tree.items_depth (items_outline (exch
 exchanges_depth [] = omega arith
 exchanges_depth (e ∷ es) = omega (arith, exchanges_depth es)
 
-talks_depth : (ts : List Talk) → tree.items_depth (items_outline (talks_data ts)) ≤ 3
+talks_depth : (ts : List SessionTranscript) → tree.items_depth (items_outline (talks_data ts)) ≤ 3
 talks_depth [] = omega arith
 talks_depth (t ∷ ts) = omega (arith, exchanges_depth t.replies, talks_depth ts)
 
@@ -59,7 +59,7 @@ exchanges_value : (es : List Exchange) → of_items (items_outline (exchanges_da
 exchanges_value [] = refl
 exchanges_value (e ∷ es) = rw (exchanges_value es) refl
 
-talks_value : (ts : List Talk) → of_items (items_outline (talks_data ts)) ≡ Some (talks_data ts)
+talks_value : (ts : List SessionTranscript) → of_items (items_outline (talks_data ts)) ≡ Some (talks_data ts)
 talks_value [] = refl
 talks_value (t ∷ ts) = rw (exchanges_value t.replies, talks_value ts) refl
 
@@ -97,12 +97,12 @@ exchanges_utf8 : (later : Bool) (es : List Exchange) → AllByRecursion IsWritab
 exchanges_utf8 later [] h = IsUtf8-are_ascii (93 ∷ []) refl
 exchanges_utf8 later (e ∷ es) h = IsUtf8-append _ _ (comma_utf8 later) (IsUtf8-append _ _ (exchange_utf8 e h.0) (exchanges_utf8 true es h.1))
 
-talk_utf8 : (t : Talk) → IsWritableTalk t → IsUtf8 (compact_text (talk_data t))
+talk_utf8 : (t : SessionTranscript) → IsWritableTalk t → IsUtf8 (compact_text (talk_data t))
 talk_utf8 t h =
     subst IsUtf8 (sym (talk_pieces t))
     (IsUtf8-append _ _ (IsUtf8-are_ascii (codes "{\"name\":") refl) (IsUtf8-append _ _ (IsUtf8-quoted t.name h.0) (IsUtf8-append _ _ (IsUtf8-are_ascii (codes ",\"replies\":[") refl) (IsUtf8-append _ _ (exchanges_utf8 false t.replies h.1) (IsUtf8-are_ascii (codes "}") refl)))))
 
-talks_utf8 : (later : Bool) (ts : List Talk) → AllByRecursion IsWritableTalk ts → IsUtf8 (items_text later (talks_data ts))
+talks_utf8 : (later : Bool) (ts : List SessionTranscript) → AllByRecursion IsWritableTalk ts → IsUtf8 (items_text later (talks_data ts))
 talks_utf8 later [] h = IsUtf8-are_ascii (93 ∷ []) refl
 talks_utf8 later (t ∷ ts) h = IsUtf8-append _ _ (comma_utf8 later) (IsUtf8-append _ _ (talk_utf8 t h.0) (talks_utf8 true ts h.1))
 

@@ -9,7 +9,7 @@ use Rattle.transcript.specs.Sending.{Gathers, Sends}
 use Rattle.transcript.specs.Text.{exchange_data, exchanges_data, talk_data, talks_data}
 use Rattle.transcript.specs.declared.pieces.Piece.{Piece}
 use Rattle.transcript.specs.declared.transcripts.Exchange.{Exchange}
-use Rattle.transcript.specs.declared.transcripts.Talk.{Talk}
+use Rattle.transcript.specs.declared.transcripts.SessionTranscript.{SessionTranscript}
 use Rattle.transcript.proofs.Sequel.{SentSome, some_sent, some_failed, rest_sent, first_failed, gathers_both, part_of_both}
 
 no_items_left : {A : Type 0} → (xs : List A) → length xs ≡ 0 → xs ≡ []
@@ -37,19 +37,19 @@ module _ (old mid new : Option (List ℕ)) (before page after text : List ℕ) w
     pub exchanges_end : (left : List Exchange) (r : Result (Unit {0}) WriteFault) → SentSome old mid before page text (items_text later (exchanges_data left)) → length left ≡ 0 → Sends r mid new page after (93 ∷ []) → Sends r old new before after text
     exchanges_end left r h none sent = rest_sent old mid new before page after text (93 ∷ []) r (subst (λ xs. SentSome old mid before page text (items_text later (exchanges_data xs))) (no_items_left left none) h) sent
 
-    talk_first : (left rest : List Talk) (x : Talk) → SentSome old mid before page text (items_text later (talks_data left)) → left ≡ x ∷ rest
+    talk_first : (left rest : List SessionTranscript) (x : SessionTranscript) → SentSome old mid before page text (items_text later (talks_data left)) → left ≡ x ∷ rest
         → SentSome old mid before page text ((comma_if later ++ compact_text (talk_data x)) ++ items_text true (talks_data rest))
     talk_first left rest x h is = grouped mid (comma_if later) (compact_text (talk_data x)) (items_text true (talks_data rest)) (subst (λ xs. SentSome old mid before page text (items_text later (talks_data xs))) is h)
 
-    pub talk_next : (left rest : List Talk) (x : Talk) → SentSome old mid before page text (items_text later (talks_data left)) → left ≡ x ∷ rest → Gathers mid new page after (comma_if later ++ compact_text (talk_data x))
+    pub talk_next : (left rest : List SessionTranscript) (x : SessionTranscript) → SentSome old mid before page text (items_text later (talks_data left)) → left ≡ x ∷ rest → Gathers mid new page after (comma_if later ++ compact_text (talk_data x))
         → SentSome old new before after text (items_text true (talks_data rest))
     talk_next left rest x h is more = some_sent old mid new before page after text (comma_if later ++ compact_text (talk_data x)) (items_text true (talks_data rest)) (talk_first left rest x h is) more
 
-    pub talk_failed : (left rest : List Talk) (x : Talk) → SentSome old mid before page text (items_text later (talks_data left)) → left ≡ x ∷ rest → AppendsPart mid new (page ++ (comma_if later ++ compact_text (talk_data x)))
+    pub talk_failed : (left rest : List SessionTranscript) (x : SessionTranscript) → SentSome old mid before page text (items_text later (talks_data left)) → left ≡ x ∷ rest → AppendsPart mid new (page ++ (comma_if later ++ compact_text (talk_data x)))
         → AppendsPart old new (before ++ text)
     talk_failed left rest x h is part = some_failed old mid new before page after text (comma_if later ++ compact_text (talk_data x)) (items_text true (talks_data rest)) (talk_first left rest x h is) part
 
-    pub talks_end : (left : List Talk) (r : Result (Unit {0}) WriteFault) → SentSome old mid before page text (items_text later (talks_data left)) → length left ≡ 0 → Sends r mid new page after (93 ∷ []) → Sends r old new before after text
+    pub talks_end : (left : List SessionTranscript) (r : Result (Unit {0}) WriteFault) → SentSome old mid before page text (items_text later (talks_data left)) → length left ≡ 0 → Sends r mid new page after (93 ∷ []) → Sends r old new before after text
     talks_end left r h none sent = rest_sent old mid new before page after text (93 ∷ []) r (subst (λ xs. SentSome old mid before page text (items_text later (talks_data xs))) (no_items_left left none) h) sent
 
 -- ---- pieces

@@ -10,7 +10,7 @@ use Rattle.transcript.specs.Text.{exchange_data, exchanges_data, talk_data, talk
 use Rattle.transcript.specs.declared.reading.ReadTranscript.{ReadTranscript}
 use Rattle.transcript.specs.declared.reading.ReadTranscript.TheVariants as out
 use Rattle.transcript.specs.declared.transcripts.Exchange.{Exchange}
-use Rattle.transcript.specs.declared.transcripts.Talk.{Talk}
+use Rattle.transcript.specs.declared.transcripts.SessionTranscript.{SessionTranscript}
 use Rattle.transcript.specs.declared.transcripts.Transcript.{Transcript}
 
 -- ---- the data of a transcript is read as that transcript
@@ -19,10 +19,10 @@ pub exchanges_in-exchanges_data : (es : List Exchange) → exchanges_in (exchang
 exchanges_in-exchanges_data [] = refl
 exchanges_in-exchanges_data (e ∷ es) = ap (option_map (λ more. e ∷ more)) (exchanges_in-exchanges_data es)
 
-talk_in-talk_data : (t : Talk) → talk_in (talk_data t) ≡ Some t
+talk_in-talk_data : (t : SessionTranscript) → talk_in (talk_data t) ≡ Some t
 talk_in-talk_data t = ap (option_map (λ replies. record { name = t.name; replies = replies })) (exchanges_in-exchanges_data t.replies)
 
-pub talks_in-talks_data : (ts : List Talk) → talks_in (talks_data ts) ≡ Some ts
+pub talks_in-talks_data : (ts : List SessionTranscript) → talks_in (talks_data ts) ≡ Some ts
 talks_in-talks_data [] = refl
 talks_in-talks_data (t ∷ ts) =
     ap (option_and_then (λ u. option_map (λ more. u ∷ more) (talks_in (talks_data ts)))) (talk_in-talk_data t)
@@ -48,13 +48,13 @@ one_before done x (Some more) = ap Some (sym (append_assoc done (x ∷ []) more)
 pub exchange_before : (done : List Exchange) (d : Data) (ds : Items) (e : Exchange) → exchange_in d ≡ Some e → before done (exchanges_in (item d ds)) ≡ before (done ++ e ∷ []) (exchanges_in ds)
 exchange_before done d ds e is = rw is (one_before done e (exchanges_in ds))
 
-pub talk_before : (done : List Talk) (d : Data) (ds : Items) (t : Talk) → talk_in d ≡ Some t → before done (talks_in (item d ds)) ≡ before (done ++ t ∷ []) (talks_in ds)
+pub talk_before : (done : List SessionTranscript) (d : Data) (ds : Items) (t : SessionTranscript) → talk_in d ≡ Some t → before done (talks_in (item d ds)) ≡ before (done ++ t ∷ []) (talks_in ds)
 talk_before done d ds t is = rw is (one_before done t (talks_in ds))
 
 pub no_exchange : (done : List Exchange) (d : Data) (ds : Items) → exchange_in d ≡ None → before done (exchanges_in (item d ds)) ≡ None
 no_exchange done d ds is = rw is refl
 
-pub no_talk : (done : List Talk) (d : Data) (ds : Items) → talk_in d ≡ None → before done (talks_in (item d ds)) ≡ None
+pub no_talk : (done : List SessionTranscript) (d : Data) (ds : Items) → talk_in d ≡ None → before done (talks_in (item d ds)) ≡ None
 no_talk done d ds is = rw is refl
 
 pub first_exchange : (ds : Items) → exchanges_in ds ≡ before [] (exchanges_in ds)
@@ -147,7 +147,7 @@ exchanges_is (item d ds) es h =
     let more = map_is _ (exchanges_in ds) es first.2 in
     ap₂ item (exchange_is d first.0 first.1) (exchanges_is ds more.0 more.1) ∙ ap exchanges_data more.2
 
-talk_is : (d : Data) (t : Talk) → talk_in d ≡ Some t → d ≡ talk_data t
+talk_is : (d : Data) (t : SessionTranscript) → talk_in d ≡ Some t → d ≡ talk_data t
 talk_is d t h =
     let found = and_then_is talk_of (two_members (codes "name") (codes "replies") d) t h in
     let name = and_then_is _ (as_str found.0.0) t found.2 in
@@ -157,7 +157,7 @@ talk_is d t h =
     ∙ ap₂ (λ a b. object (member (codes "name") a (member (codes "replies") b no_members))) (as_str_is found.0.0 name.0 name.1) (as_array_is found.0.1 list.0 list.1 ∙ ap array (exchanges_is list.0 replies.0 list.2))
     ∙ ap talk_data replies.2
 
-talks_is : (ds : Items) (ts : List Talk) → talks_in ds ≡ Some ts → ds ≡ talks_data ts
+talks_is : (ds : Items) (ts : List SessionTranscript) → talks_in ds ≡ Some ts → ds ≡ talks_data ts
 talks_is no_items ts h = let same : [] ≡ ts = cc in ap talks_data same
 talks_is (item d ds) ts h =
     let first = and_then_is _ (talk_in d) ts h in

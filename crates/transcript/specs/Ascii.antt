@@ -3,7 +3,7 @@ use Rattle.std.specs.Prelude.{ℕ, Bool, ◌&&◌, List}
 use Rattle.std.specs.List.{list_all}
 use Rattle.std.specs.Char.{is_ascii}
 use Rattle.transcript.specs.declared.transcripts.Exchange.{Exchange}
-use Rattle.transcript.specs.declared.transcripts.Talk.{Talk}
+use Rattle.transcript.specs.declared.transcripts.SessionTranscript.{SessionTranscript}
 use Rattle.transcript.specs.declared.transcripts.Transcript.{Transcript}
 
 abbrev pub is_ascii_text : List ℕ → Bool
@@ -14,7 +14,7 @@ abbrev pub is_ascii_exchange : Exchange → Bool
 is_ascii_exchange e = is_ascii_text e.line && is_ascii_text e.reply
 
 -- the name of a session, and its lines with their replies
-abbrev pub is_ascii_talk : Talk → Bool
+abbrev pub is_ascii_talk : SessionTranscript → Bool
 is_ascii_talk t = is_ascii_text t.name && list_all is_ascii_exchange t.replies
 
 abbrev pub is_ascii_transcript : Transcript → Bool

@@ -10,7 +10,7 @@ use Rattle.transcript.specs.Text.{transcript_data}
 use Rattle.transcript.specs.declared.reading.ReadTranscript.{ReadTranscript}
 use Rattle.transcript.specs.declared.reading.ReadTranscript.TheVariants as out
 use Rattle.transcript.specs.declared.transcripts.Exchange.{Exchange}
-use Rattle.transcript.specs.declared.transcripts.Talk.{Talk}
+use Rattle.transcript.specs.declared.transcripts.SessionTranscript.{SessionTranscript}
 use Rattle.transcript.specs.declared.transcripts.Transcript.{Transcript}
 
 -- the text is JSON with the value of the transcript, where of equal keys the last stands. Every session of it has a
@@ -41,15 +41,15 @@ exchanges_in no_items = Some []
 exchanges_in (item d ds) = option_and_then (λ e. option_map (λ es. e ∷ es) (exchanges_in ds)) (exchange_in d)
 
 -- name and replies of a talk, where the one is a text and the other an array of exchanges
-abbrev pub talk_of : Data × Data → Option Talk
+abbrev pub talk_of : Data × Data → Option SessionTranscript
 talk_of p =
     option_and_then (λ name. option_map (λ replies. record { name = name; replies = replies })
     (option_and_then exchanges_in (as_array p.1))) (as_str p.0)
 
-abbrev pub talk_in : Data → Option Talk
+abbrev pub talk_in : Data → Option SessionTranscript
 talk_in d = option_and_then talk_of (two_members (codes "name") (codes "replies") d)
 
-abbrev pub talks_in : Items → Option (List Talk)
+abbrev pub talks_in : Items → Option (List SessionTranscript)
 talks_in no_items = Some []
 talks_in (item d ds) = option_and_then (λ t. option_map (λ ts. t ∷ ts) (talks_in ds)) (talk_in d)
 

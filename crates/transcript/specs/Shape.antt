@@ -5,7 +5,7 @@ use Rattle.stmt_syntax.specs.Limits.{longest_line}
 use Rattle.stmt_tokens.specs.Lines.{begins_session, continues_session, line_kind, session_name}
 use Rattle.stmt_tokens.specs.declared.lines.LineKind.{LineKind}
 use Rattle.stmt_tokens.specs.declared.lines.LineKind.TheVariants.{Blank, NotAscii, NoSession, Stmt}
-use Rattle.transcript.specs.declared.transcripts.Talk.{Talk}
+use Rattle.transcript.specs.declared.transcripts.SessionTranscript.{SessionTranscript}
 use Rattle.transcript.specs.declared.transcripts.Transcript.{Transcript}
 
 -- ---- a session's name
@@ -45,7 +45,7 @@ is_line_of name line = nat_le (length line) longest_line && is_one_line line && 
 -- ---- a transcript
 
 -- a good name, and lines of that session
-abbrev pub is_sound_talk : Talk → Bool
+abbrev pub is_sound_talk : SessionTranscript → Bool
 is_sound_talk t = is_session_name t.name && list_all (λ e. is_line_of t.name e.line) t.replies
 
 -- every session has a good name of its own and says only its own lines

@@ -4,7 +4,7 @@ use Rattle.std.specs.List.{AllByRecursion}
 use Rattle.serde_json.specs.Data.{Data, number, unsigned, string, array, object, Items, no_items, item, no_members, member}
 use Rattle.serde_json.specs.Written.{compact_text}
 use Rattle.transcript.specs.declared.transcripts.Exchange.{Exchange}
-use Rattle.transcript.specs.declared.transcripts.Talk.{Talk}
+use Rattle.transcript.specs.declared.transcripts.SessionTranscript.{SessionTranscript}
 use Rattle.transcript.specs.declared.transcripts.Transcript.{Transcript}
 
 -- {"line":..,"reply":..}
@@ -16,11 +16,11 @@ exchanges_data [] = no_items
 exchanges_data (e ∷ es) = item (exchange_data e) (exchanges_data es)
 
 -- {"name":..,"replies":[..]}
-abbrev pub talk_data : Talk → Data
+abbrev pub talk_data : SessionTranscript → Data
 talk_data t =
     object (member (codes "name") (string t.name) (member (codes "replies") (array (exchanges_data t.replies)) no_members))
 
-abbrev pub talks_data : List Talk → Items
+abbrev pub talks_data : List SessionTranscript → Items
 talks_data [] = no_items
 talks_data (t ∷ ts) = item (talk_data t) (talks_data ts)
 
@@ -38,7 +38,7 @@ transcript_text t = compact_text (transcript_data t) ++ 10 ∷ []
 abbrev pub IsWritableExchange : Exchange → Type 0
 IsWritableExchange e = IsUtf8 e.line × IsUtf8 e.reply
 
-abbrev pub IsWritableTalk : Talk → Type 0
+abbrev pub IsWritableTalk : SessionTranscript → Type 0
 IsWritableTalk t = IsUtf8 t.name × AllByRecursion IsWritableExchange t.replies
 
 abbrev pub IsWritable : Transcript → Type 0

@@ -3,7 +3,7 @@ ghost use Rattle.std.specs.Prelude.{◌≡◌};
 ghost use Rattle.std.specs.List.{list_all};
 ghost use Rattle.transcript.specs.Ascii.{is_ascii_exchange, is_ascii_talk, is_ascii_text, is_ascii_transcript};
 
-use crate::transcripts::{Exchange, Talk, Transcript};
+use crate::transcripts::{Exchange, SessionTranscript, Transcript};
 
 /// Whether every name, line and reply is ASCII.
 pub fn is_ascii(transcript: &Transcript) -> bool
@@ -13,10 +13,10 @@ pub fn is_ascii(transcript: &Transcript) -> bool
         .sessions
         .items()
         .iter()
-        .all(|talk| is_ascii_talk(talk))
+        .all(|talk| is_ascii_session(talk))
 }
 
-fn is_ascii_talk(talk: &Talk) -> bool
+fn is_ascii_session(talk: &SessionTranscript) -> bool
     ensures { result ≡ is_ascii_talk talk.now }
 {
     is_ascii_text(talk.name.items()) && are_ascii(talk.replies.items())

@@ -7,7 +7,7 @@ ghost use Rattle.ts_io.specs.Faults.{Counted};
 ghost use Rattle.ts_io.specs.Whole.{AppendsPart};
 ghost use Rattle.transcript.specs.Sending.{Gathers, Sends, is_plain};
 
-use crate::pages::{Page, send};
+use crate::send_buffer::{Page, send};
 use ts_io::{Sink, WriteFault};
 
 /// Sends a text with its escapes.

@@ -7,7 +7,7 @@
 //! - `members`: the parts of a JSON value.
 //! - `sending`: the text of a transcript sent to a sink.
 //! - `pieces`, `escapes`: the pieces of that text, and its strings.
-//! - `pages`: a text written in pages.
+//! - `send_buffer`: a text written in pages.
 //! - `laws`: what stands between a transcript, its text, and the lines of an input.
 #![tactic(auto)]
 
@@ -15,9 +15,9 @@ mod ascii;
 mod escapes;
 mod laws;
 mod members;
-mod pages;
 mod pieces;
 mod reading;
+mod send_buffer;
 mod sending;
 mod shape;
 mod transcripts;
@@ -26,4 +26,4 @@ pub use ascii::is_ascii;
 pub use laws::{lines_law, text_law};
 pub use reading::{ReadTranscript, read_transcript};
 pub use sending::send_transcript;
-pub use transcripts::{Exchange, Talk, Transcript};
+pub use transcripts::{Exchange, SessionTranscript, Transcript};

@@ -7,7 +7,7 @@ ghost use Rattle.transcript.specs.Pieces.{piece_text};
 ghost use Rattle.transcript.specs.Sending.{Sends};
 
 use crate::escapes::send_escaped;
-use crate::pages::{Page, send};
+use crate::send_buffer::{Page, send};
 use ts_io::{Sink, WriteFault};
 
 /// A piece of a text.

@@ -6,7 +6,7 @@ ghost use Rattle.transcript.specs.Reading.{Reads, Answers, AnswersSound, exchang
 
 use crate::members::{items_in, text_in, two_members};
 use crate::shape::is_sound;
-use crate::transcripts::{Exchange, Talk, Transcript as Kept};
+use crate::transcripts::{Exchange, SessionTranscript, Transcript as Kept};
 use serde_json::Value;
 use std::alloc::Global;
 use ts_schema::{NoMemory, Seq};
@@ -73,7 +73,7 @@ fn transcript_in(alloc: Global, value: Value) -> Result<Option<Kept>, NoMemory>
     let Some(start) = start.as_u64() else {
         return Ok(None);
     };
-    let Some(sessions) = talks_in(alloc, sessions)? else {
+    let Some(sessions) = sessions_in(alloc, sessions)? else {
         return Ok(None);
     };
     Ok(Some(Kept { start, sessions }))
@@ -81,7 +81,7 @@ fn transcript_in(alloc: Global, value: Value) -> Result<Option<Kept>, NoMemory>
 
 #[tactic(auto, using(crate::proofs::Values::talk_before, crate::proofs::Values::no_talk, crate::proofs::Values::first_talk))]
 /// The talks whose data an array is.
-fn talks_in(alloc: Global, value: Value) -> Result<Option<Seq<Talk>>, NoMemory>
+fn sessions_in(alloc: Global, value: Value) -> Result<Option<Seq<SessionTranscript>>, NoMemory>
     ensures read { IfOk result (λ read. read ≡ option_and_then talks_in (as_array (view value))) }
 {
     let Some(items) = items_in(value) else {
@@ -89,7 +89,7 @@ fn talks_in(alloc: Global, value: Value) -> Result<Option<Seq<Talk>>, NoMemory>
     };
     let mut talks = Seq::new(alloc);
     for item in items {
-        let Some(talk) = talk_in(alloc, item)? else {
+        let Some(talk) = session_in(alloc, item)? else {
             return Ok(None);
         };
         talks.push(talk)?;
@@ -98,7 +98,7 @@ fn talks_in(alloc: Global, value: Value) -> Result<Option<Seq<Talk>>, NoMemory>
 }
 
 /// The talk whose data a value is.
-fn talk_in(alloc: Global, value: Value) -> Result<Option<Talk>, NoMemory>
+fn session_in(alloc: Global, value: Value) -> Result<Option<SessionTranscript>, NoMemory>
     ensures read { IfOk result (λ read. read ≡ talk_in (view value)) }
 {
     let Some((name, replies)) = two_members(value, "name", "replies") else {
@@ -110,7 +110,7 @@ fn talk_in(alloc: Global, value: Value) -> Result<Option<Talk>, NoMemory>
     let Some(replies) = exchanges_in(alloc, replies)? else {
         return Ok(None);
     };
-    Ok(Some(Talk {
+    Ok(Some(SessionTranscript {
         name: Seq::of(name),
         replies,
     }))

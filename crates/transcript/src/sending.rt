@@ -9,9 +9,9 @@ ghost use Rattle.transcript.specs.Pieces.{start_text, talk_head};
 ghost use Rattle.transcript.specs.Sending.{Sends};
 ghost use Rattle.transcript.specs.Text.{exchange_data, exchanges_data, talk_data, talks_data, transcript_text};
 
-use crate::pages::{Page, flush, send};
 use crate::pieces::{Piece, comma, send_pieces};
-use crate::transcripts::{Exchange, Talk, Transcript};
+use crate::send_buffer::{Page, flush, send};
+use crate::transcripts::{Exchange, SessionTranscript, Transcript};
 use itoa::Buffer;
 use ts_io::{Sink, WriteFault};
 
@@ -57,7 +57,7 @@ fn send_after_head<K: Sink>(
         (items_text false (talks_data transcript.now.sessions) ++ start_text transcript.now.start) }
     ensures counted { Counted (K.faults sink.old) (K.faults sink.new) (is_err result) }
 {
-    match send_talks(transcript.sessions.items(), page, sink) {
+    match send_sessions(transcript.sessions.items(), page, sink) {
         Ok(()) => send_start(transcript.start, page, sink),
         Err(fault) => Err(fault),
     }
@@ -80,7 +80,11 @@ fn send_start<K: Sink>(start: u64, page: &mut Page, sink: &mut K) -> Result<(), 
 }
 
 /// Sends the talks with commas between them, and the closing bracket.
-fn send_talks<K: Sink>(talks: &[Talk], page: &mut Page, sink: &mut K) -> Result<(), WriteFault>
+fn send_sessions<K: Sink>(
+    talks: &[SessionTranscript],
+    page: &mut Page,
+    sink: &mut K,
+) -> Result<(), WriteFault>
     ensures sent { Sends result (K.written sink.old) (K.written sink.new) page.old.items page.new.items
         (items_text false (talks_data talks.now)) }
     ensures counted { Counted (K.faults sink.old) (K.faults sink.new) (is_err result) }
@@ -88,7 +92,7 @@ fn send_talks<K: Sink>(talks: &[Talk], page: &mut Page, sink: &mut K) -> Result<
     let mut later = false;
     let mut left = talks;
     while let Some((talk, rest)) = left.split_first() {
-        match send_talk(later, talk, page, sink) {
+        match send_session(later, talk, page, sink) {
             Ok(()) => {}
             Err(fault) => return Err(fault),
         }
@@ -99,9 +103,9 @@ fn send_talks<K: Sink>(talks: &[Talk], page: &mut Page, sink: &mut K) -> Result<
 }
 
 /// Sends a talk, behind a comma where one stands before it.
-fn send_talk<K: Sink>(
+fn send_session<K: Sink>(
     later: bool,
-    talk: &Talk,
+    talk: &SessionTranscript,
     page: &mut Page,
     sink: &mut K,
 ) -> Result<(), WriteFault>
@@ -109,14 +113,14 @@ fn send_talk<K: Sink>(
         (comma_if later ++ compact_text (talk_data talk.now)) }
     ensures counted { Counted (K.faults sink.old) (K.faults sink.new) (is_err result) }
 {
-    match send_talk_head(later, talk.name.items(), page, sink) {
-        Ok(()) => send_talk_rest(talk.replies.items(), page, sink),
+    match send_session_head(later, talk.name.items(), page, sink) {
+        Ok(()) => send_session_rest(talk.replies.items(), page, sink),
         Err(fault) => Err(fault),
     }
 }
 
 /// Sends a talk up to its first exchange.
-fn send_talk_head<K: Sink>(
+fn send_session_head<K: Sink>(
     later: bool,
     name: &[u8],
     page: &mut Page,
@@ -136,7 +140,7 @@ fn send_talk_head<K: Sink>(
 }
 
 /// Sends the exchanges of a talk, and its end.
-fn send_talk_rest<K: Sink>(
+fn send_session_rest<K: Sink>(
     exchanges: &[Exchange],
     page: &mut Page,
     sink: &mut K,

@@ -5,7 +5,7 @@ ghost use Rattle.stmt_syntax.specs.Limits.{longest_line};
 ghost use Rattle.stmt_tokens.specs.Lines.{begins_session, continues_session, line_kind, session_name};
 ghost use Rattle.transcript.specs.Shape.{is_session_name, is_one_line, speaks_in, is_line_of, is_sound_talk, are_apart, is_sound};
 
-use crate::transcripts::{Exchange, Talk, Transcript};
+use crate::transcripts::{Exchange, SessionTranscript, Transcript};
 use std::alloc::Global;
 use std::collections::BTreeSet;
 use stmt_tokens::{LineKind, split_line};
@@ -23,14 +23,14 @@ pub(crate) fn is_sound(alloc: Global, transcript: &Transcript) -> Result<bool, N
     are_apart(alloc, talks)
 }
 
-fn are_sound(talks: &[Talk]) -> bool
+fn are_sound(talks: &[SessionTranscript]) -> bool
     ensures { result ≡ list_all is_sound_talk talks.now }
 {
-    talks.iter().all(|talk| is_sound_talk(talk))
+    talks.iter().all(|talk| is_sound_session(talk))
 }
 
 /// Whether no name comes twice.
-fn are_apart(alloc: Global, talks: &[Talk]) -> Result<bool, NoMemory>
+fn are_apart(alloc: Global, talks: &[SessionTranscript]) -> Result<bool, NoMemory>
     ensures apart { IfOk result (λ apart. apart ≡ are_apart (map (λ s. s.name) talks.now)) }
 {
     let mut later = BTreeSet::new(alloc);
@@ -44,7 +44,7 @@ fn are_apart(alloc: Global, talks: &[Talk]) -> Result<bool, NoMemory>
     Ok(true)
 }
 
-fn is_sound_talk(talk: &Talk) -> bool
+fn is_sound_session(talk: &SessionTranscript) -> bool
     ensures { result ≡ is_sound_talk talk.now }
 {
     is_session_name(talk.name.items()) && are_lines_of(talk.name.items(), talk.replies.items())

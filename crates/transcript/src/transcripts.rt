@@ -12,7 +12,7 @@ pub struct Exchange {
 
 /// What one session said.
 #[derive(Drop, Debug)]
-pub struct Talk {
+pub struct SessionTranscript {
     /// The name of the session.
     pub name: Seq<u8>,
     /// Its lines with their replies, in order.
@@ -25,5 +25,5 @@ pub struct Transcript {
     /// The position at which the run began.
     pub start: u64,
     /// The sessions, in order.
-    pub sessions: Seq<Talk>,
+    pub sessions: Seq<SessionTranscript>,
 }

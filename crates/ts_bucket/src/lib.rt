@@ -14,6 +14,6 @@ pub use buckets::{MOST_STEP, bucket, first, step_law, width};
 pub use chunks::chunk_start;
 pub use spans::{Hull, Span};
 pub use times::{MAX_TIME, MIN_TIME, times_law};
-pub use whole_spans::{all_buckets, buckets_in, touched};
+pub use whole_spans::{all_buckets, buckets_in, span_touched};
 pub use widths::Width;
 pub use windows::{inscribe, meets};

@@ -26,7 +26,7 @@ pub fn all_buckets(w: Width) -> Span
 
 /// The buckets that a hull meets: from the start of the bucket of its least number to the end of that of its
 /// greatest. The hull begins at a time or above, and that end is a number of 64 bits.
-pub fn touched(w: Width, hull: Hull) -> Span
+pub fn span_touched(w: Width, hull: Hull) -> Span
     requires { IsWithin w hull }
     ensures value { result ≡ touched_span w hull }
     ensures bounds { IsWidth w }

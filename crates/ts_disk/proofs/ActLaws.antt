@@ -3,13 +3,13 @@ use Rattle.std.proofs.Common.{◌≡◌, ◌⊎◌, inl, inr, ⊎_elim, ℕ, ◌
 use Rattle.std.proofs.lemmas.Bool.{cases_lt}
 use Rattle.std.proofs.lemmas.List.{ext_get_or, take_all, take-append-le}
 use Rattle.ts_schema.specs.Counts.{one_more}
-use Rattle.ts_disk.specs.CrashImage.{State, IsImage, Torn, Follows, LeavesNoMore, Only, Elapses, at_rest, written}
+use Rattle.ts_disk.specs.CrashImage.{State, IsImage, Torn, Follows, LeavesNoMore, Only, Elapses, at_rest, file_after_write}
 use Rattle.ts_disk.specs.Disk.{Writes}
 use Rattle.ts_disk.specs.ImageLaws.{shows-state, shows-at_rest}
-use Rattle.ts_disk.specs.MemDisk.{Recorded, WasImage, PerformsAct, after, state_after, state_of, content, known, leaves, moment, begins_within, all_within}
-use Rattle.ts_disk.specs.declared.acts.Act.{Act}
-use Rattle.ts_disk.specs.declared.acts.Act.TheVariants.{Write, Sync}
-use Rattle.ts_disk.specs.declared.acts.Piece.{Piece}
+use Rattle.ts_disk.specs.MemDisk.{Recorded, WasImage, PerformsAct, after, state_after, state_of, content, known_bytes, leaves, moment, begins_within, all_within}
+use Rattle.ts_disk.specs.declared.disk_acts.Act.{Act}
+use Rattle.ts_disk.specs.declared.disk_acts.Act.TheVariants.{Write, Sync}
+use Rattle.ts_disk.specs.declared.disk_acts.Piece.{Piece}
 use Rattle.ts_disk.proofs.Images.{torn_refl, torn_image}
 
 pub state_push : (s : State) (acts : List Act) (act : Act) → state_after s (acts ++ act ∷ []) ≡ after (state_after s acts) act
@@ -80,21 +80,21 @@ module _ (disk : Recorded) where
   content_more : (act : Act) → content (more disk act) ≡ (after (state_of disk) act).now
   content_more act = ap (λ (s : State). s.now) (state_push (at_rest disk.first) disk.acts act)
 
-  pub did_write : {T E : Type 0} (piece : Piece) (result : Result T E) (new : Recorded) → PerformsAct (Write piece) disk result new → Writes (known disk) piece.at piece.bytes result (known new)
-  did_write piece (Ok v) new does = ap (λ (r : Recorded). known r) does ∙ ap (λ (file : List ℕ). Some file) (content_more (Write piece))
-  did_write piece (Err e) new does = subst (λ (r : Recorded). IsSomeAnd (known r) (Torn piece.at (length piece.bytes) (content disk))) (sym does) (torn_refl piece.at (length piece.bytes) (content disk))
+  pub did_write : {T E : Type 0} (piece : Piece) (result : Result T E) (new : Recorded) → PerformsAct (Write piece) disk result new → Writes (known_bytes disk) piece.at piece.bytes result (known_bytes new)
+  did_write piece (Ok v) new does = ap (λ (r : Recorded). known_bytes r) does ∙ ap (λ (file : List ℕ). Some file) (content_more (Write piece))
+  did_write piece (Err e) new does = subst (λ (r : Recorded). IsSomeAnd (known_bytes r) (Torn piece.at (length piece.bytes) (content disk))) (sym does) (torn_refl piece.at (length piece.bytes) (content disk))
 
   pub did_tear : {T E : Type 0} (piece : Piece) (result : Result T E) (new : Recorded) → PerformsAct (Write piece) disk result new → piece.at ≤ length (content disk) → Follows (Torn piece.at (length piece.bytes)) (leaves disk) (leaves new)
   did_tear piece result new does begins c image = ⊎_elim (λ here. torn_image (state_of disk) piece c begins grown here) (λ old. (c, old, torn_refl piece.at (length piece.bytes) c)) (did_leave (Write piece) result new does c image)
 
-  pub did_sync : {T E : Type 0} (result : Result T E) (new : Recorded) → PerformsAct Sync disk result new → known new ≡ known disk
-  did_sync (Ok v) new does = ap (λ (r : Recorded). known r) does ∙ ap (λ (file : List ℕ). Some file) (content_more Sync)
-  did_sync (Err e) new does = ap (λ (r : Recorded). known r) does
+  pub did_sync : {T E : Type 0} (result : Result T E) (new : Recorded) → PerformsAct Sync disk result new → known_bytes new ≡ known_bytes disk
+  did_sync (Ok v) new does = ap (λ (r : Recorded). known_bytes r) does ∙ ap (λ (file : List ℕ). Some file) (content_more Sync)
+  did_sync (Err e) new does = ap (λ (r : Recorded). known_bytes r) does
 
   image_at_rest : (file c : List ℕ) → IsImage (at_rest file) c → c ≡ file
   image_at_rest file c image = ext_get_or 0 c file (omega (arith, image.no_shorter, image.no_longer)) (λ i le. image.outside i (omega (arith, image.no_longer)) refl)
 
-  pub did_last : {T E : Type 0} (result : Result T E) (new : Recorded) → PerformsAct Sync disk result new → OnOk result (IfSome (known disk) (λ file. Only file (leaves new)))
+  pub did_last : {T E : Type 0} (result : Result T E) (new : Recorded) → PerformsAct Sync disk result new → OnOk result (IfSome (known_bytes disk) (λ file. Only file (leaves new)))
   did_last (Ok v) new does = λ c image. image_at_rest (content disk) c (leaves_more Sync c (subst (λ (r : Recorded). leaves r c) does image))
   did_last (Err e) new does = tt
 
@@ -104,14 +104,14 @@ module _ (disk : Recorded) where
 -- a write that was noted, or wasn't, leaves bytes and acts that belong together
 pub noted : {T E : Type 0} (first : State) (acts later : List Act) (piece : Piece) (bytes now : List ℕ) (result : Result T E)
     → bytes ≡ (state_after first acts).now → all_within first acts → piece.at ≤ length bytes
-    → OnOk result (now ≡ written bytes piece.at piece.bytes) → OnOk result (later ≡ acts ++ Write piece ∷ [])
+    → OnOk result (now ≡ file_after_write bytes piece.at piece.bytes) → OnOk result (later ≡ acts ++ Write piece ∷ [])
     → OnErr result (now ≡ bytes) → OnErr result (later ≡ acts)
     → (now ≡ (state_after first later).now) × all_within first later
 noted first acts later piece bytes now (Ok v) is within begins wrote note kept same =
     let more_acts : later ≡ acts ++ Write piece ∷ [] = note in
-    let new_bytes : now ≡ written bytes piece.at piece.bytes = wrote in
+    let new_bytes : now ≡ file_after_write bytes piece.at piece.bytes = wrote in
     let here : begins_within (state_after first acts) (Write piece) = subst (λ (file : List ℕ). piece.at ≤ length file) is begins in (
-      new_bytes ∙ ap (λ (file : List ℕ). written file piece.at piece.bytes) is ∙ sym (ap (λ (s : State). s.now) (state_push first acts (Write piece))) ∙ sym (ap (λ (l : List Act). (state_after first l).now) more_acts),
+      new_bytes ∙ ap (λ (file : List ℕ). file_after_write file piece.at piece.bytes) is ∙ sym (ap (λ (s : State). s.now) (state_push first acts (Write piece))) ∙ sym (ap (λ (l : List Act). (state_after first l).now) more_acts),
       subst (λ (l : List Act). all_within first l) (sym more_acts) (within_push first acts (Write piece) within here),
     )
 noted first acts later piece bytes now (Err e) is within begins wrote note kept same =

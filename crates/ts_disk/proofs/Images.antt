@@ -6,18 +6,18 @@ use Rattle.std.proofs.lemmas.List.{ext_get_or, get_or-take, get_or-drop, take_at
 use Rattle.std.proofs.lemmas.List.Folds.{list_any-append}
 use Rattle.std.proofs.lemmas.List.FromFn.{length-map-range_with_len, get_or-map-range_with_len}
 use Rattle.std.specs.List.{list_any, range_with_len}
-use Rattle.ts_disk.specs.CrashImage.{State, IsImage, Torn, covers, written}
+use Rattle.ts_disk.specs.CrashImage.{State, IsImage, Torn, covers, file_after_write}
 use Rattle.ts_disk.specs.ImageLaws.{length-written}
 use Rattle.ts_disk.specs.MemDisk.{after}
-use Rattle.ts_disk.specs.declared.acts.Act.TheVariants.{Write}
-use Rattle.ts_disk.specs.declared.acts.Piece.{Piece}
+use Rattle.ts_disk.specs.declared.disk_acts.Act.TheVariants.{Write}
+use Rattle.ts_disk.specs.declared.disk_acts.Piece.{Piece}
 
 -- a crash may leave all as it was
 pub torn_refl : (at n : ℕ) (c : List ℕ) → Torn at n c c
 torn_refl at n c = record { before = refl; after = refl; no_shorter = omega arith; no_longer = omega arith }
 
 -- or the whole write
-pub torn_written : (file : List ℕ) (at : ℕ) (piece : List ℕ) → at ≤ length file → Torn at (length piece) file (written file at piece)
+pub torn_written : (file : List ℕ) (at : ℕ) (piece : List ℕ) → at ≤ length file → Torn at (length piece) file (file_after_write file at piece)
 torn_written file at piece le =
     let front = take at file in
     let rest = drop (at + length piece) file in

@@ -2,11 +2,11 @@
 use Rattle.std.proofs.Common.{◌≡◌, inl, inr, ℕ, ◌+◌, ◌<◌, ◌≤◌, min, List, [], ◌∷◌, ◌++◌, length, take, drop, get_or, refl, sym, ◌∙◌, ap, arith, length-take}
 use Rattle.std.proofs.lemmas.Bool.{cases_lt}
 use Rattle.std.proofs.lemmas.List.{take_all, drop_all, take_more, drop-append-le}
-use Rattle.ts_disk.specs.CrashImage.{State, at_rest, written}
+use Rattle.ts_disk.specs.CrashImage.{State, at_rest, file_after_write}
 use Rattle.ts_disk.specs.MemDisk.{after, state_after, pieces_of}
-use Rattle.ts_disk.specs.declared.acts.Act.{Act}
-use Rattle.ts_disk.specs.declared.acts.Act.TheVariants.{Write, Sync}
-use Rattle.ts_disk.specs.declared.acts.Piece.{Piece}
+use Rattle.ts_disk.specs.declared.disk_acts.Act.{Act}
+use Rattle.ts_disk.specs.declared.disk_acts.Act.TheVariants.{Write, Sync}
+use Rattle.ts_disk.specs.declared.disk_acts.Piece.{Piece}
 use Rattle.ts_disk.proofs.ActLaws.{state_push}
 
 -- the first i acts have been done again, and the last sync among them was number `since`
@@ -34,7 +34,7 @@ module _ (first : List ℕ) (acts : List Act) (i since : ℕ) (synced now : List
     in_acts = omega arith;
   }
 
-  pub replayed_write : (piece : Piece) → get_or acts i Sync ≡ Write piece → (next : List ℕ) → next ≡ written now piece.at piece.bytes → Replaying first acts (i + 1) since synced next
+  pub replayed_write : (piece : Piece) → get_or acts i Sync ≡ Write piece → (next : List ℕ) → next ≡ file_after_write now piece.at piece.bytes → Replaying first acts (i + 1) since synced next
   replayed_write piece is next wrote =
       let one_more : take (i + 1) acts ≡ take i acts ++ Write piece ∷ [] = take_more acts i Sync more ∙ ap (λ (a : Act). take i acts ++ a ∷ []) is in
       let longer : pieces_of (drop since (take (i + 1) acts)) ≡ pieces_of (drop since (take i acts)) ++ piece ∷ [] =
@@ -51,12 +51,12 @@ module _ (first : List ℕ) (acts : List Act) (i since : ℕ) (synced now : List
       }
 
 -- a write that begins behind the end is one at the end
-pub written-min : (file : List ℕ) (at : ℕ) (piece : List ℕ) → written file (min (length file) at) piece ≡ written file at piece
+pub written-min : (file : List ℕ) (at : ℕ) (piece : List ℕ) → file_after_write file (min (length file) at) piece ≡ file_after_write file at piece
 written-min file at piece = elim (cases_lt (length file) at) [
   | inl past ↦
       let place : min (length file) at ≡ length file = omega arith in
-      ap (λ (n : ℕ). written file n piece) place
+      ap (λ (n : ℕ). file_after_write file n piece) place
       ∙ (λ k. take_all (length file) file (omega arith) k ++ piece ++ drop_all (length file + length piece) file (omega arith) k)
       ∙ sym (λ k. take_all at file (omega arith) k ++ piece ++ drop_all (at + length piece) file (omega arith) k)
-  | inr inside ↦ let place : min (length file) at ≡ at = omega arith in ap (λ (n : ℕ). written file n piece) place
+  | inr inside ↦ let place : min (length file) at ≡ at = omega arith in ap (λ (n : ℕ). file_after_write file n piece) place
 ]

@@ -1,6 +1,6 @@
 -- What reads of a disk give.
 use Rattle.std.proofs.Common.{◌≡◌, ℕ, ◌≤◌, List, Option, None, Some, Result, Ok, Err, IsSome, IsSomeAnd, IfSome, length, refl, sym, subst}
-use Rattle.ts_disk.specs.CrashImage.{Torn, written}
+use Rattle.ts_disk.specs.CrashImage.{Torn, file_after_write}
 use Rattle.ts_disk.specs.Disk.{Writes}
 use Rattle.ts_disk.proofs.Images.{torn_written}
 
@@ -26,8 +26,8 @@ the_told (Some a) some = (a, refl)
 pub torn_after : {T E : Type 0} (before now : Option (List ℕ)) (at : ℕ) (piece file : List ℕ) (result : Result T E)
     → before ≡ Some file → IfSome before (λ whole. at ≤ length whole) → Writes before at piece result now → IsSomeAnd now (Torn at (length piece) file)
 torn_after {T = T} {E = E} before now at piece file (Ok v) told within writes =
-    let wrote : now ≡ Some (written file at piece) = subst (λ (o : Option (List ℕ)). Writes {T = T} {E = E} o at piece (Ok v) now) told writes in
+    let wrote : now ≡ Some (file_after_write file at piece) = subst (λ (o : Option (List ℕ)). Writes {T = T} {E = E} o at piece (Ok v) now) told writes in
     let le : at ≤ length file = subst (λ (o : Option (List ℕ)). IfSome o (λ whole. at ≤ length whole)) told within in
-    some_is now (written file at piece) (Torn at (length piece) file) wrote (torn_written file at piece le)
+    some_is now (file_after_write file at piece) (Torn at (length piece) file) wrote (torn_written file at piece le)
 torn_after {T = T} {E = E} before now at piece file (Err e) told within writes =
     subst (λ (o : Option (List ℕ)). Writes {T = T} {E = E} o at piece (Err e) now) told writes

@@ -2,13 +2,13 @@
 -- bytes, the length may be any number from the old to the new one, and bytes outside stay.
 use Rattle.std.specs.Prelude.{◌≡◌, ◌⊎◌, ℕ, ◌+◌, ◌<◌, ◌≤◌, Bool, false, ◌&&◌, nat_lt, nat_le, max, List, [], ◌++◌, length, take, drop, slice_index}
 use Rattle.std.specs.List.{list_any}
-use Rattle.ts_disk.specs.declared.acts.Piece.{Piece}
+use Rattle.ts_disk.specs.declared.disk_acts.Piece.{Piece}
 
 -- ---- one step of a disk
 
 -- a file after a write of these bytes at this place
-abbrev pub written : List ℕ → ℕ → List ℕ → List ℕ
-written file at piece = take at file ++ piece ++ drop (at + length piece) file
+abbrev pub file_after_write : List ℕ → ℕ → List ℕ → List ℕ
+file_after_write file at piece = take at file ++ piece ++ drop (at + length piece) file
 
 -- after a write of n bytes that a crash cuts short: any bytes in the range and past the old end, the same elsewhere
 pub record Torn (at n : ℕ) (old new : List ℕ) : Type 0 where

@@ -1,7 +1,7 @@
 -- What the calls of a disk do to the bytes that it tells, and what stays.
 use Rattle.std.specs.Prelude.{◌≡◌, ℕ, ◌≤◌, List, Option, None, Some, IsSomeAnd, IfSome, Result, MatchResult, length, take, drop}
 use Rattle.ts_schema.specs.Faults.{Rose}
-use Rattle.ts_disk.specs.CrashImage.{Torn, written}
+use Rattle.ts_disk.specs.CrashImage.{Torn, file_after_write}
 
 -- the count of faults stays where a call succeeds, and rises where it fails
 abbrev pub Counted : {T E : Type 0} → ℕ → ℕ → Result T E → Type 0
@@ -24,7 +24,7 @@ IsRange told at bytes = IfSome told (λ file. bytes ≡ take (length bytes) (dro
 abbrev pub Writes : {T E : Type 0} → Option (List ℕ) → ℕ → List ℕ → Result T E → Option (List ℕ) → Type 0
 Writes None at piece result new = new ≡ None
 Writes (Some file) at piece result new =
-    MatchResult result (λ _. new ≡ Some (written file at piece)) (λ _. IsSomeAnd new (Torn at (length piece) file))
+    MatchResult result (λ _. new ≡ Some (file_after_write file at piece)) (λ _. IsSomeAnd new (Torn at (length piece) file))
 
 -- the bytes, the moment, and what a crash may leave or might have left, stay as they were
 pub record Keeps {D : Type 0} (bytes : D → Option (List ℕ)) (may_leave : D → List ℕ → Type 0) (moment : D → ℕ)

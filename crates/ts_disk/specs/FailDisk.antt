@@ -1,7 +1,7 @@
 -- A disk in memory some of whose calls fail.
 use Rattle.std.specs.Prelude.{◌≡◌, ℕ, Bool, true, false, ◌&&◌, ◌==◌, nat_lt, if◌then◌else◌, List, Option, Result, IsErr, is_ok}
 use Rattle.ts_schema.specs.Counts.{one_more}
-use Rattle.ts_disk.specs.MemDisk.{Recorded, WasImage, known, leaves, moment}
+use Rattle.ts_disk.specs.MemDisk.{Recorded, WasImage, known_bytes, leaves, moment}
 use Rattle.ts_disk.specs.declared.fail_disks.DiskCall.{DiskCall}
 use Rattle.ts_disk.specs.declared.fail_disks.DiskCall.TheVariants.{Len, Read, Write, Sync}
 use Rattle.ts_disk.specs.declared.fail_disks.Plan.{Plan}
@@ -17,7 +17,7 @@ pub record Failing : Type 0 where
 
 -- the bytes, the images and the moment are those of the disk that is held
 abbrev pub known_of : Failing → Option (List ℕ)
-known_of disk = known disk.disk
+known_of disk = known_bytes disk.disk
 
 abbrev pub leaves_of : Failing → List ℕ → Type 0
 leaves_of disk = leaves disk.disk

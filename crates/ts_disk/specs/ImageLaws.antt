@@ -4,27 +4,27 @@ use Rattle.std.proofs.lemmas.Bool.Decides.{nat_tests}
 use Rattle.std.proofs.lemmas.List.{take_all, get_or_append_left, get_or-append_right, get_or-take, get_or-drop}
 use Rattle.std.specs.List.{list_any}
 use Rattle.std.proofs.lemmas.List.Folds.{list_any-append}
-use Rattle.ts_disk.specs.CrashImage.{State, IsImage, covers, at_rest, written}
+use Rattle.ts_disk.specs.CrashImage.{State, IsImage, covers, at_rest, file_after_write}
 use Rattle.ts_disk.specs.MemDisk.{Recorded, WasImage, after, state_after, content, leaves, moment}
-use Rattle.ts_disk.specs.declared.acts.Act.{Act}
-use Rattle.ts_disk.specs.declared.acts.Act.TheVariants.{Write, Sync}
-use Rattle.ts_disk.specs.declared.acts.Piece.{Piece}
+use Rattle.ts_disk.specs.declared.disk_acts.Act.{Act}
+use Rattle.ts_disk.specs.declared.disk_acts.Act.TheVariants.{Write, Sync}
+use Rattle.ts_disk.specs.declared.disk_acts.Piece.{Piece}
 
 -- ---- lists
 
 pub length-written : (file : List ℕ) (at : ℕ) (piece : List ℕ)
-    → length (written file at piece) ≡ min at (length file) + length piece + (length file - (at + length piece))
+    → length (file_after_write file at piece) ≡ min at (length file) + length piece + (length file - (at + length piece))
 length-written file at piece =
     omega
     (arith, length-append (take at file ++ piece) (drop (at + length piece) file), length-append (take at file) piece, length-take at file, length-drop (at + length piece) file)
 
-pub length-written-le : (file : List ℕ) (at : ℕ) (piece : List ℕ) → length file ≤ length (written file at piece)
+pub length-written-le : (file : List ℕ) (at : ℕ) (piece : List ℕ) → length file ≤ length (file_after_write file at piece)
 length-written-le file at piece = omega (arith, length-written file at piece)
 
 -- bytes outside of a write stay
 pub get_or-written :
     (file : List ℕ) (at : ℕ) (piece : List ℕ) (i : ℕ) → i < length file → (i < at) ⊎ (at + length piece ≤ i)
-    → get_or (written file at piece) i 0 ≡ get_or file i 0
+    → get_or (file_after_write file at piece) i 0 ≡ get_or file i 0
 get_or-written file at piece i in_file (inl low) =
     let front = take at file in
     let short : i < length front = omega (arith, length-take at file) in

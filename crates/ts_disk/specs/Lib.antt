@@ -3,4 +3,4 @@ pub mod Disk
 pub mod FailDisk
 pub mod ImageLaws
 pub mod MemDisk
-pub mod Picks
+pub mod PickedImages

@@ -1,10 +1,10 @@
 -- A disk in memory, as all that was done to it.
 use Rattle.std.specs.Prelude.{◌≡◌, ℕ, ◌≤◌, List, [], ◌∷◌, ◌++◌, length, take, Option, Some, Result, MatchResult, ⊤}
 use Rattle.ts_schema.specs.Counts.{one_more}
-use Rattle.ts_disk.specs.CrashImage.{State, IsImage, at_rest, written}
-use Rattle.ts_disk.specs.declared.acts.Piece.{Piece}
-use Rattle.ts_disk.specs.declared.acts.Act.{Act}
-use Rattle.ts_disk.specs.declared.acts.Act.TheVariants.{Write, Sync}
+use Rattle.ts_disk.specs.CrashImage.{State, IsImage, at_rest, file_after_write}
+use Rattle.ts_disk.specs.declared.disk_acts.Piece.{Piece}
+use Rattle.ts_disk.specs.declared.disk_acts.Act.{Act}
+use Rattle.ts_disk.specs.declared.disk_acts.Act.TheVariants.{Write, Sync}
 
 -- the bytes that it had at first, what was done since, and how many calls failed
 pub record Recorded : Type 0 where
@@ -15,7 +15,7 @@ pub record Recorded : Type 0 where
 -- the state after one act
 abbrev pub after : State → Act → State
 after s (Write piece) =
-    record { synced = s.synced; writes = s.writes ++ piece ∷ []; now = written s.now piece.at piece.bytes }
+    record { synced = s.synced; writes = s.writes ++ piece ∷ []; now = file_after_write s.now piece.at piece.bytes }
 after s Sync = at_rest s.now
 
 abbrev pub state_after : State → List Act → State
@@ -35,8 +35,8 @@ abbrev pub content : Recorded → List ℕ
 content disk = (state_of disk).now
 
 -- they are known
-abbrev pub known : Recorded → Option (List ℕ)
-known disk = Some (content disk)
+abbrev pub known_bytes : Recorded → Option (List ℕ)
+known_bytes disk = Some (content disk)
 
 -- what a crash may leave is what the model says
 abbrev pub leaves : Recorded → List ℕ → Type 0

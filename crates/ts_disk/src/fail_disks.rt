@@ -7,7 +7,7 @@ ghost use Rattle.ts_disk.specs.MemDisk.{PerformsAct, Asks};
 ghost use Rattle.ts_disk.specs.declared.disks.TheConstants.{MOST_BYTES};
 ghost use Rattle.ts_disk.specs.FailDisk.{same_kind, known_of, leaves_of, moment_of, was_image_of, made_after, is_failing, Runs};
 ghost use Rattle.ts_disk.specs.ImageLaws.{counts_now, only_now, shows_an_image};
-ghost use Rattle.ts_disk.specs.declared.acts.Act.TheVariants.{Write, Sync};
+ghost use Rattle.ts_disk.specs.declared.disk_acts.Act.TheVariants.{Write, Sync};
 
 use crate::disks::{Disk, Failed};
 use crate::mem_disks::MemDisk;

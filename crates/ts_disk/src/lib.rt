@@ -2,15 +2,15 @@
 //! its faults; in memory, in memory with calls that fail, and over a real file.
 #![tactic(auto)]
 
-mod acts;
+mod crash_images;
+mod disk_acts;
 mod disks;
 mod edits;
 mod fail_disks;
 mod file_disks;
 mod mem_disks;
-mod picks;
 
-pub use acts::{Act, Piece};
+pub use disk_acts::{Act, Piece};
 pub use disks::{Disk, Failed, MOST_BYTES};
 pub use fail_disks::{DiskCall, FailDisk, Plan};
 pub use file_disks::FileDisk;

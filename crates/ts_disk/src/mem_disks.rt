@@ -1,17 +1,17 @@
 //! A disk in memory.
 ghost use Rattle.std.specs.Prelude.{◌≡◌, ◌+◌, ◌<◌, ◌≤◌, true, if◌then◌else◌, [], ◌∷◌, ◌++◌, length, OnOk, OnErr, IfOk, IfSome, IsOk};
-ghost use Rattle.ts_disk.specs.CrashImage.{written, Torn, Follows, LeavesNoMore, Only, Elapses, IsImage};
+ghost use Rattle.ts_disk.specs.CrashImage.{file_after_write, Torn, Follows, LeavesNoMore, Only, Elapses, IsImage};
 ghost use Rattle.ts_disk.specs.Disk.{Counted, HasLength, HasRange, IsRange, Writes, Keeps};
 ghost use Rattle.ts_schema.specs.Counts.{one_more};
-ghost use Rattle.ts_disk.specs.MemDisk.{state_of, content, known, leaves, moment, WasImage, PerformsAct, Asks, written_at};
-ghost use Rattle.ts_disk.specs.Picks.{picked};
+ghost use Rattle.ts_disk.specs.MemDisk.{state_of, content, known_bytes, leaves, moment, WasImage, PerformsAct, Asks, written_at};
+ghost use Rattle.ts_disk.specs.PickedImages.{image_picked};
 ghost use Rattle.ts_disk.specs.ImageLaws.{counts_now, only_now, shows_an_image};
-ghost use Rattle.ts_disk.specs.declared.acts.Act.TheVariants.{Write, Sync};
+ghost use Rattle.ts_disk.specs.declared.disk_acts.Act.TheVariants.{Write, Sync};
 
-use crate::acts::{Act, Piece};
+use crate::crash_images::pick_image;
+use crate::disk_acts::{Act, Piece};
 use crate::disks::{Disk, Failed, MOST_BYTES};
 use crate::edits::write_over;
-use crate::picks::pick_image;
 use std::alloc::Global;
 use std::marker::Model;
 use ts_schema::{NoMemory, Seq};
@@ -78,8 +78,8 @@ impl MemDisk {
     /// bytes of that sync, and a gap is filled with zeros. Where bit 63 is 1 the last write that is kept
     /// has only its first half, rounded up.
     pub fn crash(&self, pick: u64, out: &mut Vec<u8>) -> Result<(), NoMemory>
-        ensures picked { OnOk result (out.new.items ≡ out.old.items ++ picked pick (state_of self.now)) }
-        ensures image { IsImage (state_of self.now) (picked pick (state_of self.now)) }
+        ensures picked { OnOk result (out.new.items ≡ out.old.items ++ image_picked pick (state_of self.now)) }
+        ensures image { IsImage (state_of self.now) (image_picked pick (state_of self.now)) }
         ensures kept { OnErr result (out.new.items ≡ out.old.items) }
     {
         let image = pick_image(self.alloc, &self.first, &self.acts, pick)?;
@@ -162,7 +162,7 @@ fn note_write(
     piece: &[u8],
 ) -> Result<(), NoMemory>
     requires range { at ≤ length bytes.old.items }
-    ensures bytes { OnOk result (bytes.new.items ≡ written bytes.old.items at piece.now) }
+    ensures bytes { OnOk result (bytes.new.items ≡ file_after_write bytes.old.items at piece.now) }
     ensures acts { OnOk result (acts.new.items ≡ acts.old.items ++ Write (record { at = at; bytes = piece.now }) ∷ []) }
     ensures bytes_kept { OnErr result (bytes.new.items ≡ bytes.old.items) }
     ensures acts_kept { OnErr result (acts.new.items ≡ acts.old.items) }
@@ -175,7 +175,7 @@ fn note_write(
 }
 
 impl Disk for MemDisk {
-    ghost bytes = { known };
+    ghost bytes = { known_bytes };
 
     ghost may_leave = { leaves };
 
@@ -196,9 +196,9 @@ impl Disk for MemDisk {
     }
 
     fn len(&mut self) -> Result<u64, Failed>
-        ensures length { IfOk result (λ n. HasLength (known self.old) n) }
+        ensures length { IfOk result (λ n. HasLength (known_bytes self.old) n) }
         ensures most { IfOk result (λ n. n ≤ MOST_BYTES) }
-        ensures kept { Keeps known leaves moment WasImage self.old self.new }
+        ensures kept { Keeps known_bytes leaves moment WasImage self.old self.new }
         ensures counted { Counted self.old.faults self.new.faults result }
         ensures exact { Asks self.old result self.new }
         ensures long { OnErr result (MOST_BYTES < length (content self.old)) }
@@ -213,9 +213,9 @@ impl Disk for MemDisk {
 
     fn read_at(&mut self, at: u64, into: &mut [u8]) -> Result<(), Failed>
         requires most { at + length into.old ≤ MOST_BYTES }
-        requires range { HasRange (known self.old) (at + length into.old) }
-        ensures bytes { OnOk result (IsRange (known self.old) at into.new) }
-        ensures kept { Keeps known leaves moment WasImage self.old self.new }
+        requires range { HasRange (known_bytes self.old) (at + length into.old) }
+        ensures bytes { OnOk result (IsRange (known_bytes self.old) at into.new) }
+        ensures kept { Keeps known_bytes leaves moment WasImage self.old self.new }
         ensures counted { Counted self.old.faults self.new.faults result }
         ensures exact { self.new ≡ self.old }
         ensures done { IsOk result }
@@ -227,8 +227,8 @@ impl Disk for MemDisk {
 
     fn write_at(&mut self, at: u64, piece: &[u8]) -> Result<(), Failed>
         requires most { at ≤ MOST_BYTES }
-        requires range { HasRange (known self.old) at }
-        ensures written { Writes (known self.old) at piece.now result (known self.new) }
+        requires range { HasRange (known_bytes self.old) at }
+        ensures written { Writes (known_bytes self.old) at piece.now result (known_bytes self.new) }
         ensures most { OnOk result (at + length piece.now ≤ MOST_BYTES) }
         ensures crash { Follows (Torn at (length piece.now)) (leaves self.old) (leaves self.new) }
         ensures time { Elapses (moment self.old) (moment self.new) (WasImage self.old) (WasImage self.new)
@@ -240,8 +240,8 @@ impl Disk for MemDisk {
     }
 
     fn sync(&mut self) -> Result<(), Failed>
-        ensures same { known self.new ≡ known self.old }
-        ensures durable { OnOk result (IfSome (known self.old) (λ file. Only file (leaves self.new))) }
+        ensures same { known_bytes self.new ≡ known_bytes self.old }
+        ensures durable { OnOk result (IfSome (known_bytes self.old) (λ file. Only file (leaves self.new))) }
         ensures crash { LeavesNoMore (leaves self.old) (leaves self.new) }
         ensures time { Elapses (moment self.old) (moment self.new) (WasImage self.old) (WasImage self.new)
             (leaves self.new) }

@@ -143,11 +143,11 @@ impl Lines {
         ensures follows { Follows self.new (S.ended source.new) (S.left source.new) }
         ensures counted { Counted (S.faults source.old) (S.faults source.new) (is_read_fault result) }
     {
-        while self.held().len() <= LINE_LIMIT {
+        while self.buffered().len() <= LINE_LIMIT {
             if self.is_over() {
                 return self.stop(LineEnd::InputLong);
             }
-            let searched = self.held().len();
+            let searched = self.buffered().len();
             match self.ask(source) {
                 Got::Bytes(0) => return self.give_last(),
                 Got::Bytes(_) => match self.first_end(searched) {
@@ -178,7 +178,7 @@ impl Lines {
         ensures counted { Counted (S.faults source.old) (S.faults source.new) (is_read_fault result) }
     {
         while !self.is_over() {
-            let skipped = self.held().len();
+            let skipped = self.buffered().len();
             self.advance(0, skipped);
             match self.ask(source) {
                 Got::Bytes(0) => {
@@ -238,7 +238,7 @@ impl Lines {
         ensures not_failed { is_read_fault result ≡ false }
         ensures bounded { length self.new.held ≤ HELD_LIMIT }
     {
-        let last = self.held().len();
+        let last = self.buffered().len();
         self.advance(last, last);
         self.note_end();
         if last == 0 {
@@ -275,7 +275,7 @@ impl Lines {
     }
 
     /// The bytes taken and not yet given.
-    fn held(&self) -> &[u8]
+    fn buffered(&self) -> &[u8]
         ensures { result.now ≡ self.now.held }
     {
         &self.bytes[self.start..]
@@ -286,7 +286,7 @@ impl Lines {
         ensures over { result ≡ nat_lt self.now.allowed (length self.now.held) }
         ensures by_one { length self.now.held ≤ self.now.allowed + 1 }
     {
-        self.held().len() > self.allowed
+        self.buffered().len() > self.allowed
     }
 
     /// The place of the first line end within the limit of the input, where none stands among the first
@@ -299,7 +299,7 @@ impl Lines {
             (IsFirstEnd (take self.now.allowed self.now.held)) }
         ensures small { IfSome result (λ n. n < INPUT_LIMIT) }
     {
-        let held = self.held();
+        let held = self.buffered();
         first_end_after(&held[..self.allowed.min(held.len())], searched)
     }
 

@@ -14,7 +14,7 @@ use Rattle.ts_model.specs.declared.rosters.Roster.{Roster}
 use Rattle.ts_model.specs.declared.tables.Hyper.{Hyper as HyperInfo}
 use Rattle.ts_model.specs.declared.tables.TableInfo.{TableInfo}
 use Rattle.ts_model.specs.Roster.{roster, table_of, hyper_of}
-use Rattle.ts_model.specs.Reads.{spans_meet, clipped, chunk_within, rows_near, inserted}
+use Rattle.ts_model.specs.Reads.{spans_meet, clip, chunk_within, rows_near, rows_inserted}
 use Rattle.ts_model.specs.Sound.{hyper_fits}
 use Rattle.ts_model.specs.Laws.{is_hyper_sound, ClippingKeepsNear, ChunksAreWithin}
 use Rattle.ts_model.proofs.CountLaws.{count_cons}
@@ -23,11 +23,11 @@ use Rattle.ts_model.proofs.FitLaws.{all_implied, rows_are_times}
 use Rattle.ts_model.proofs.SoundLaws.{rosters_are_sound}
 use Rattle.ts_schema.proofs.Cases.{int_le-true, le-int_le, int_lt-true, same_test}
 
-clipped_meets : (low high : ℤ) (chunk span : Span) → low ≤ℤ chunk.lo → chunk.hi ≤ℤ high → spans_meet chunk (clipped low high span) ≡ spans_meet chunk span
+clipped_meets : (low high : ℤ) (chunk span : Span) → low ≤ℤ chunk.lo → chunk.hi ≤ℤ high → spans_meet chunk (clip low high span) ≡ spans_meet chunk span
 clipped_meets low high chunk span from to =
-    same_test (spans_meet chunk (clipped low high span)) (spans_meet chunk span)
+    same_test (spans_meet chunk (clip low high span)) (spans_meet chunk span)
     (λ e.
-    let m = meet_parts chunk (clipped low high span) e in
+    let m = meet_parts chunk (clip low high span) e in
     let before : chunk.lo <ℤ int_min high span.hi = m.before in
     let after : int_max low span.lo <ℤ chunk.hi = m.after in
     let some_chunk : chunk.lo <ℤ chunk.hi = m.some_a in
@@ -39,7 +39,7 @@ clipped_meets low high chunk span from to =
     let after : span.lo <ℤ chunk.hi = m.after in
     let some_chunk : chunk.lo <ℤ chunk.hi = m.some_a in
     let some : span.lo <ℤ span.hi = m.some_b in
-    meet_from chunk (clipped low high span) (record { before = omega (arith, ints, clamps); after = omega (arith, ints, clamps); some_a = some_chunk; some_b = omega (arith, ints, clamps) }))
+    meet_from chunk (clip low high span) (record { before = omega (arith, ints, clamps); after = omega (arith, ints, clamps); some_a = some_chunk; some_b = omega (arith, ints, clamps) }))
 
 pub clipping_keeps_near : ClippingKeepsNear
 clipping_keeps_near low high interval [] span e = refl
@@ -48,9 +48,9 @@ clipping_keeps_near low high interval (row ∷ stored) span e =
     let within = and_parts _ _ parts.0 in
     let chunk = chunk_of interval row.at in
     let near : Span → Row → Bool = λ s x. list_any (spans_meet (chunk_of interval x.at)) (s ∷ []) in
-    let same_here : near (clipped low high span) row ≡ near span row = ap (λ t. t || false) (clipped_meets low high chunk span (int_le-true low chunk.lo within.0) (int_le-true chunk.hi high within.1)) in
-    count_cons (near (clipped low high span)) row stored
-    ∙ ap (λ t. cond t 1 0 + rows_near interval stored (clipped low high span ∷ [])) same_here
+    let same_here : near (clip low high span) row ≡ near span row = ap (λ t. t || false) (clipped_meets low high chunk span (int_le-true low chunk.lo within.0) (int_le-true chunk.hi high within.1)) in
+    count_cons (near (clip low high span)) row stored
+    ∙ ap (λ t. cond t 1 0 + rows_near interval stored (clip low high span ∷ [])) same_here
     ∙ ap (λ m. cond (near span row) 1 0 + m) (clipping_keeps_near low high interval stored span parts.1)
     ∙ sym (count_cons (near span) row stored)
 
@@ -96,4 +96,4 @@ long_table r t hyper fits e = of_table (table_of r t) refl e
 pub chunks_are_within : ChunksAreWithin
 chunks_are_within t hyper h ok there =
     let long = long_table (roster h) t hyper (λ info e. (and_parts _ (is_hyper_sound info info.hyper) ((rosters_are_sound h ok).tables t info e)).1) there in
-    all_implied (λ row. is_time row.at) (chunk_within (min_time -ℤ max_interval) (max_time +ℤ max_interval) hyper.interval) (λ row time. chunk_near hyper.interval row.at long.positive long.bounded time) (inserted t h) (rows_are_times.inserted t h ok)
+    all_implied (λ row. is_time row.at) (chunk_within (min_time -ℤ max_interval) (max_time +ℤ max_interval) hyper.interval) (λ row time. chunk_near hyper.interval row.at long.positive long.bounded time) (rows_inserted t h) (rows_are_times.inserted t h ok)

@@ -24,7 +24,7 @@ use Rattle.ts_model.specs.declared.views.Fold.{Fold}
 use Rattle.ts_model.specs.declared.views.ViewDef.{ViewDef}
 use Rattle.ts_model.specs.History.{History, start, resumed, ◌▸◌, position, root, prefix}
 use Rattle.ts_model.specs.Roster.{IsOf, roster, view_of}
-use Rattle.ts_model.specs.Saved.{saved, saved_last, is_dirty}
+use Rattle.ts_model.specs.Saved.{saved_view, saved_last, is_dirty}
 use Rattle.ts_model.specs.Rows.{rows, rows_at}
 use Rattle.ts_model.specs.Scratch.{bucket_rows}
 use Rattle.ts_model.specs.Refreshes.{span_of_cut, is_covered, was_refreshed, touched, top_in, top_of, watermark}
@@ -83,7 +83,7 @@ none_built n def h cut snap b r width bucket ok e mark before =
     ] refl e
 
 -- an image keeps no row at or above the mark in a bucket that isn't dirty
-none_kept : (n : ℕ) (def : ViewDef) (i : Image) (b : ℤ) (r : ℕ) → IsWidth def.fold.width → is_bucket def.fold.width b ≡ true → KeptFacts def i (saved n i) → saved_last n i b ≡ Some r → touched n def (resumed i) b r ≡ false → is_below b (saved n i).mark ≡ false → bucket_rows def.fold b (rows def.table (resumed i)) ≡ []
+none_kept : (n : ℕ) (def : ViewDef) (i : Image) (b : ℤ) (r : ℕ) → IsWidth def.fold.width → is_bucket def.fold.width b ≡ true → KeptFacts def i (saved_view n i) → saved_last n i b ≡ Some r → touched n def (resumed i) b r ≡ false → is_below b (saved_view n i).mark ≡ false → bucket_rows def.fold b (rows def.table (resumed i)) ≡ []
 none_kept n def i b r width bucket facts e apart mark =
     let below : nat_lt r i.pos ≡ true = lt-ltb r i.pos (facts.lasts b r e).below in
     let clean : is_dirty n i b ≡ false = elim (is_dirty n i b) as (λ t. is_above r (cond t (Some i.pos) None) ≡ false → t ≡ false) [ true ↦ λ f. absurd (true≢false (sym below ∙ f)) | false ↦ λ _. refl ] apart in

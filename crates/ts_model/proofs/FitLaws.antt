@@ -31,7 +31,7 @@ use Rattle.ts_model.specs.Saved.{appended_over}
 use Rattle.ts_model.specs.Valid.{all_stand, hold_rows, image_roster}
 use Rattle.ts_model.specs.Groups.{RowFits, RowsFit}
 use Rattle.ts_model.specs.Answers.{columns_are_there, can_ask}
-use Rattle.ts_model.specs.Reads.{inserted}
+use Rattle.ts_model.specs.Reads.{rows_inserted}
 use Rattle.ts_model.specs.Limits.{most_columns}
 use Rattle.ts_model.specs.Sound.{are_names, agg_fits, test_fits, fold_fits, output_count, values_fit, row_fits, rows_fit, op_fits, view_fits, sound}
 use Rattle.ts_model.specs.Allowed.{all_consistent, consistent}
@@ -93,10 +93,10 @@ module _ (p : Row → Bool) where
       let more = moved_hold t ops (after_op t op xs) parts.1 one.1 in
       (all_joined (taken_by t op xs) (all_taken t ops (after_op t op xs)) one.0 more.0, more.1)
 
-  pub rows_hold : (t : ℕ) (h : History) → list_all p (inserted t h) ≡ true → list_all p (rows t h) ≡ true
+  pub rows_hold : (t : ℕ) (h : History) → list_all p (rows_inserted t h) ≡ true → list_all p (rows t h) ≡ true
   rows_hold t start e = refl
   rows_hold t (resumed i) e = all_placed (appended_over t i.rows) [] e refl
-  rows_hold t (h ▸ Commit ops) e = let parts = all_parted (inserted t h) (all_appended t ops) e in (moved_hold t ops (rows t h) parts.1 (rows_hold t h parts.0)).1
+  rows_hold t (h ▸ Commit ops) e = let parts = all_parted (rows_inserted t h) (all_appended t ops) e in (moved_hold t ops (rows t h) parts.1 (rows_hold t h parts.0)).1
   rows_hold t (h ▸ x) e = rows_hold t h e
 
 pub all_implied : (p q : Row → Bool) → ((row : Row) → p row ≡ true → q row ≡ true) → (xs : List Row) → list_all p xs ≡ true → list_all q xs ≡ true
@@ -148,19 +148,19 @@ commit_fits t h ops e =
     let parts = and_parts (nat_lt 0 (length ops) && list_all (op_fits (roster h)) ops) _ is_sound.0 in
     appended_fit (roster h) t ops (and_parts (nat_lt 0 (length ops)) _ parts.0).1
 
-pub inserted_fit : (t : ℕ) (h : History) → all_consistent h ≡ true → list_all (fits_table (roster h) t) (inserted t h) ≡ true
+pub inserted_fit : (t : ℕ) (h : History) → all_consistent h ≡ true → list_all (fits_table (roster h) t) (rows_inserted t h) ≡ true
 inserted_fit t start ok = refl
 inserted_fit t (resumed i) ok = over_fit (image_roster i) 0 t i.rows (valid_is i ok).rows
 inserted_fit t (h ▸ Commit ops) ok =
     let parts = and_parts (all_consistent h) (consistent h (Commit ops)) ok in
-    all_joined (fits_table (roster h) t) (inserted t h) (all_appended t ops) (inserted_fit t h parts.0) (commit_fits t h ops parts.1)
-inserted_fit t (h ▸ x) ok = fits_stays_in (roster h) (roster (h ▸ x)) (relations_further (roster h) x) t (inserted t h) (inserted_fit t h (and_parts (all_consistent h) _ ok).0)
+    all_joined (fits_table (roster h) t) (rows_inserted t h) (all_appended t ops) (inserted_fit t h parts.0) (commit_fits t h ops parts.1)
+inserted_fit t (h ▸ x) ok = fits_stays_in (roster h) (roster (h ▸ x)) (relations_further (roster h) x) t (rows_inserted t h) (inserted_fit t h (and_parts (all_consistent h) _ ok).0)
 
 pub rows_at_fit : (t : ℕ) (h : History) (s : ℕ) → all_consistent h ≡ true → list_all (fits_table (roster h) t) (rows_at t h s) ≡ true
 rows_at_fit t h s ok =
     let g = prefix h s in
     let before = begins_prefix h s in
-    rows_hold (fits_table (roster h) t) t g (fits_stays_in (roster g) (roster h) (relations_stay g h before) t (inserted t g) (inserted_fit t g (consistent_begins before ok)))
+    rows_hold (fits_table (roster h) t) t g (fits_stays_in (roster g) (roster h) (relations_stay g h before) t (rows_inserted t g) (inserted_fit t g (consistent_begins before ok)))
 
 pub rows_fit_tables : RowsFitTables
 rows_fit_tables = record { inserted = inserted_fit; rows = rows_at_fit }
@@ -180,7 +180,7 @@ all_times r t xs e = all_implied (fits_table r t) (λ row. is_time row.at) (λ r
 
 pub rows_are_times : RowsAreTimes
 rows_are_times = record {
-  inserted = λ t h ok. all_times (roster h) t (inserted t h) (inserted_fit t h ok);
+  inserted = λ t h ok. all_times (roster h) t (rows_inserted t h) (inserted_fit t h ok);
   rows = λ t h s ok. all_times (roster h) t (rows_at t h s) (rows_at_fit t h s ok);
 }
 
@@ -270,7 +270,7 @@ view_asks n def h ok there = asks_of_table def (table_of (roster h) def.table) (
 
 pub rows_have_columns : RowsHaveColumns
 rows_have_columns = record {
-  inserted = λ t fold h ok asks. all_read (roster h) t fold (inserted t h) asks (inserted_fit t h ok);
+  inserted = λ t fold h ok asks. all_read (roster h) t fold (rows_inserted t h) asks (inserted_fit t h ok);
   rows = λ t fold h s ok asks. all_read (roster h) t fold (rows_at t h s) asks (rows_at_fit t h s ok);
   views = view_asks;
 }

@@ -13,7 +13,7 @@ use Rattle.ts_model.specs.History.{History, start, resumed, ◌▸◌, base_posi
 use Rattle.ts_model.specs.Rows.{rows, rows_at}
 use Rattle.ts_model.specs.Saved.{is_dirty, saved_groups}
 use Rattle.ts_model.specs.Scratch.{cell, bucket_rows, key_lists, with_keys, result_row, scratch_of, scratch}
-use Rattle.ts_model.specs.Groups.{column, group_at, groups_in, shown_each, cells_of, stood, groups_at, scratch_at}
+use Rattle.ts_model.specs.Groups.{column, group_at, groups_in, shown_each, cells_of, groups_at_last, groups_at, scratch_at}
 use Rattle.ts_model.proofs.HistoryLaws.{base_prefix}
 
 shown_each-summaries : (rows : List Row) (aggs : List Agg) → shown_each aggs (map (λ agg. summary (column rows agg)) aggs) ≡ map (cell rows) aggs
@@ -32,7 +32,7 @@ pub cells_are_scratch : (fold : Fold) (rows : List Row) (b : ℤ) → map (cells
 cells_are_scratch fold rows b = bucket_cells fold b (bucket_rows fold b rows) (key_lists fold (bucket_rows fold b rows))
 
 -- at or above the base, what stood in a bucket are the groups of the rows there
-pub stood_is : (n : ℕ) (def : ViewDef) (g : History) (s : ℕ) (b : ℤ) → base_position g ≤ s → stood n def g s b ≡ groups_in def.fold (rows def.table g) b
+pub stood_is : (n : ℕ) (def : ViewDef) (g : History) (s : ℕ) (b : ℤ) → base_position g ≤ s → groups_at_last n def g s b ≡ groups_in def.fold (rows def.table g) b
 stood_is n def start s b l = refl
 stood_is n def (resumed i) s b l = cond-false _ (saved_groups n i b) (groups_in def.fold (rows def.table (resumed i)) b) (and_left (nat_lt s i.pos) (is_dirty n i b) (le-ltb s i.pos l))
 stood_is n def (g ▸ e) s b l = refl

@@ -31,7 +31,7 @@ use Rattle.ts_model.specs.declared.outcomes.CutDone.TheVariants.{Cut as CutMade}
 use Rattle.ts_model.specs.Sound.{sound, span_fits}
 use Rattle.ts_model.specs.Pending.{is_waiting, pending}
 use Rattle.ts_model.specs.Windows.{whole_or, window_up_to, window, last_end}
-use Rattle.ts_model.specs.Calls.{making, numbered, committed, Act, refuses, returns, makes, refusal, new_relation, cut_over, cut_of_view, cutting, finish_of, Answered}
+use Rattle.ts_model.specs.Calls.{act_of_event, act_with_number, commit_result, Act, refuses, returns, makes, refusal, new_relation, cut_over, cut_of_view, act_of_cut, finish_of, Answered}
 use Rattle.ts_model.specs.Numbers.{name_taken, too_many, history_full}
 use Rattle.ts_model.specs.States.{State}
 use Rattle.ts_model.specs.Laws.{SoundCut, MakesAllowed, CallsMakeAllowed}
@@ -42,7 +42,7 @@ use Rattle.ts_model.proofs.MarkLaws.{window_ends}
 use Rattle.ts_schema.proofs.Cases.{le-int_le}
 
 -- an event that is made is allowed
-made_allowed : {A : Type 0} (h : History) (e : Event) (a : A) → sound h e ≡ true → timely_at h e ≡ true → MakesAllowed h (making h e a)
+made_allowed : {A : Type 0} (h : History) (e : Event) (a : A) → sound h e ≡ true → timely_at h e ≡ true → MakesAllowed h (act_of_event h e a)
 made_allowed h e a is_sound is_timely =
     elim (has_room h) as (λ t. has_room h ≡ t → MakesAllowed h (cond t (makes e a) (refuses (refusal history_full h 0)))) [
       | true ↦ λ room. and_from _ _ is_sound (and_from _ _ is_timely room)
@@ -50,15 +50,15 @@ made_allowed h e a is_sound is_timely =
     ] refl
 
 -- a new relation is allowed where its name is free and there is room for it
-relation_allowed : (h : History) (taken : Bool) (many : ℕ) (e : Event) → (taken ≡ false → nat_lt many most_relations ≡ true → MakesAllowed h (numbered h e)) → MakesAllowed h (new_relation h taken many e)
+relation_allowed : (h : History) (taken : Bool) (many : ℕ) (e : Event) → (taken ≡ false → nat_lt many most_relations ≡ true → MakesAllowed h (act_with_number h e)) → MakesAllowed h (new_relation h taken many e)
 relation_allowed h true many e ok = tt
 relation_allowed h false many e ok =
-    elim (nat_lt many most_relations) as (λ t. nat_lt many most_relations ≡ t → MakesAllowed h (cond t (numbered h e) (refuses (refusal too_many h (suc most_relations))))) [
+    elim (nat_lt many most_relations) as (λ t. nat_lt many most_relations ≡ t → MakesAllowed h (cond t (act_with_number h e) (refuses (refusal too_many h (suc most_relations))))) [
       | true ↦ λ room. ok refl room
       | false ↦ λ _. tt
     ] refl
 
-hyper_allowed : (h : History) (e : Event) (was : Bool) → (was ≡ false → MakesAllowed h (numbered h e)) → MakesAllowed h (cond was (refuses (refusal name_taken h 0)) (numbered h e))
+hyper_allowed : (h : History) (e : Event) (was : Bool) → (was ≡ false → MakesAllowed h (act_with_number h e)) → MakesAllowed h (cond was (refuses (refusal name_taken h 0)) (act_with_number h e))
 hyper_allowed h e true ok = tt
 hyper_allowed h e false ok = ok refl
 
@@ -148,7 +148,7 @@ over_allowed n h (Whole span) e = made_allowed h (Cut n span) (CutMade (suc (pos
 over_allowed n h NoBucket e = tt
 over_allowed n h Nothing e = tt
 
-cut_allowed : (n : ℕ) (lo hi : Option ℤ) (h : History) → all_consistent h ≡ true → ForSome hi (λ t. IsTrue (is_time t)) → MakesAllowed h (cutting n lo hi h)
+cut_allowed : (n : ℕ) (lo hi : Option ℤ) (h : History) → all_consistent h ≡ true → ForSome hi (λ t. IsTrue (is_time t)) → MakesAllowed h (act_of_cut n lo hi h)
 cut_allowed n lo hi h ok time = of_view (view_of (roster h) n) refl
   where
     of_view : (o : Option ViewDef) → view_of (roster h) n ≡ o → MakesAllowed h (cut_of_view n lo hi h o)
@@ -168,7 +168,7 @@ calls_make_allowed = record {
   hypers = λ t hyper h e. hyper_allowed h (Hyper t hyper) (is_some (hyper_of (roster h) t)) (λ free. made_allowed h (Hyper t hyper) (suc (position h)) e (not_some (hyper_of (roster h) t) free));
   views = λ def h e. relation_allowed h (is_taken (roster h) def.name) (length (roster h).views) (View def) (λ free room. made_allowed h (View def) (suc (position h)) e (and_from _ _ (not_from_false _ free) room));
   modes = λ n only h e. made_allowed h (Mode n only) (suc (position h)) e refl;
-  commits = λ ops h e. made_allowed h (Commit ops) (committed ops h) e refl;
+  commits = λ ops h e. made_allowed h (Commit ops) (commit_result ops h) e refl;
   cuts = cut_allowed;
   windows = window_fits;
   finishes = λ cut snap h e. finish_allowed cut snap h (pending h cut) refl e;

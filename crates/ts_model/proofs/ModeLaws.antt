@@ -7,7 +7,7 @@ use Rattle.ts_model.specs.declared.events.Event.TheVariants.{Commit, Built}
 use Rattle.ts_model.specs.declared.views.ViewDef.{ViewDef}
 use Rattle.ts_model.specs.History.{History, start, resumed, ◌▸◌, position, prefix}
 use Rattle.ts_model.specs.Roster.{set_only}
-use Rattle.ts_model.specs.Groups.{stood}
+use Rattle.ts_model.specs.Groups.{groups_at_last}
 use Rattle.ts_model.specs.Refreshes.{span_of_cut, touches, last, last_touch, top_of, watermark, is_invalid, invalid}
 use Rattle.ts_model.specs.RefreshLaws.{ModePlaysNoPart}
 
@@ -30,7 +30,7 @@ invalid_at n def only h b (Some s) = ap (is_above s) (touch_alike n def only h b
 invalid_alike : (n : ℕ) (def : ViewDef) (only : Bool) (h : History) (b : ℤ) → invalid n (set_only only def) h b ≡ invalid n def h b
 invalid_alike n def only h b = invalid_at n def only h b (last n h b)
 
-stood_alike : (n : ℕ) (def : ViewDef) (only : Bool) (g : History) (s : ℕ) (b : ℤ) → stood n (set_only only def) g s b ≡ stood n def g s b
+stood_alike : (n : ℕ) (def : ViewDef) (only : Bool) (g : History) (s : ℕ) (b : ℤ) → groups_at_last n (set_only only def) g s b ≡ groups_at_last n def g s b
 stood_alike n def only start s b = refl
 stood_alike n def only (resumed i) s b = refl
 stood_alike n def only (g ▸ e) s b = refl

@@ -18,11 +18,11 @@ use Rattle.ts_model.specs.declared.images.Image.{Image}
 use Rattle.ts_model.specs.declared.views.ViewDef.{ViewDef}
 use Rattle.ts_model.specs.declared.views.Fold.{Fold}
 use Rattle.ts_model.specs.History.{History, start, resumed, ◌▸◌, position, base_position, Begins, same, further}
-use Rattle.ts_model.specs.Saved.{saved, saved_last, is_dirty, saved_groups}
+use Rattle.ts_model.specs.Saved.{saved_view, saved_last, is_dirty, saved_groups}
 use Rattle.ts_model.specs.Roster.{IsOf, roster, view_of}
 use Rattle.ts_model.specs.Rows.{rows, rows_at}
 use Rattle.ts_model.specs.Scratch.{bucket_rows, group_rows, scratch}
-use Rattle.ts_model.specs.Groups.{bucket_groups, groups_in, cells_of, stood, scratch_at}
+use Rattle.ts_model.specs.Groups.{bucket_groups, groups_in, cells_of, groups_at_last, scratch_at}
 use Rattle.ts_model.specs.Refreshes.{span_of_cut, last, is_covered, top_in, top_at, top_of, watermark, is_over, threshold}
 use Rattle.ts_bucket.specs.WholeSpans.{is_below}
 use Rattle.ts_model.specs.Allowed.{consistent, all_consistent}
@@ -42,7 +42,7 @@ scratch_at_end n def h s b l = scratch_at_is n def h s b (omega (arith, base_bel
 
 -- more events change no aggregation of an earlier position
 pub scratch_at_begins : (n : ℕ) (def : ViewDef) {g h : History} (s : ℕ) (b : ℤ) → Begins g h → s ≤ position g → scratch_at n def h s b ≡ scratch_at n def g s b
-scratch_at_begins n def s b q l = ap (λ k. map (cells_of def.fold) (stood n def k s b)) (prefix_stays s q l)
+scratch_at_begins n def s b q l = ap (λ k. map (cells_of def.fold) (groups_at_last n def k s b)) (prefix_stays s q l)
 
 pub scratch_at_further : (n : ℕ) (def : ViewDef) (h : History) (e : Event) (s : ℕ) (b : ℤ) → s ≤ position h → scratch_at n def (h ▸ e) s b ≡ scratch_at n def h s b
 scratch_at_further n def h e s b l = scratch_at_begins n def s b (further same) l
@@ -140,7 +140,7 @@ nothing_above_built n def h cut snap b s width bucket ok e mark before =
     (later_is (last n h b) (cond (is_covered b (span_of_cut n h cut)) (Some snap) None) s e)
 
 -- an image keeps nothing at or above the mark
-nothing_kept : (n : ℕ) (def : ViewDef) (i : Image) (b : ℤ) (s : ℕ) → IsWidth def.fold.width → is_bucket def.fold.width b ≡ true → KeptFacts def i (saved n i) → saved_last n i b ≡ Some s → is_below b (saved n i).mark ≡ false → scratch_at n def (resumed i) s b ≡ []
+nothing_kept : (n : ℕ) (def : ViewDef) (i : Image) (b : ℤ) (s : ℕ) → IsWidth def.fold.width → is_bucket def.fold.width b ≡ true → KeptFacts def i (saved_view n i) → saved_last n i b ≡ Some s → is_below b (saved_view n i).mark ≡ false → scratch_at n def (resumed i) s b ≡ []
 nothing_kept n def i b s width bucket facts e mark =
     let below : nat_lt s i.pos ≡ true = lt-ltb s i.pos (facts.lasts b s e).below in
     elim (is_dirty n i b) as (λ t. is_dirty n i b ≡ t → map (cells_of def.fold) (cond (nat_lt s i.pos && t) (saved_groups n i b) (groups_in def.fold (rows def.table (resumed i)) b)) ≡ []) [

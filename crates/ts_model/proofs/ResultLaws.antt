@@ -6,7 +6,7 @@ use Rattle.ts_num.specs.Aggregates.{shown_or_null}
 use Rattle.ts_num.specs.declared.values.Datum.{Datum}
 use Rattle.ts_num.specs.declared.values.Datum.TheVariants.{Null}
 use Rattle.partial_agg.specs.declared.groups.Group.{Group}
-use Rattle.partial_agg.specs.Summaries.{Summary, shown, value_of}
+use Rattle.partial_agg.specs.Summaries.{Summary, datum_of, value_of}
 use Rattle.ts_model.specs.declared.views.Agg.{Agg}
 use Rattle.ts_model.specs.Chosen.{cell_or_null, chosen_cells, group_shown}
 use Rattle.ts_model.specs.Groups.{shown_each}
@@ -40,7 +40,7 @@ value_behind first keys others (suc p) more =
 
 -- ---- aggregates
 
-pub value_of_part : (aggs : List Agg) (parts : List Summary) (at : ℕ) (agg : Agg) (part : Summary) → at < length aggs → at < length parts → cell_at (shown_each aggs parts) at ≡ value_of (shown (get_or aggs at agg).fun (get_or parts at part))
+pub value_of_part : (aggs : List Agg) (parts : List Summary) (at : ℕ) (agg : Agg) (part : Summary) → at < length aggs → at < length parts → cell_at (shown_each aggs parts) at ≡ value_of (datum_of (get_or aggs at agg).fun (get_or parts at part))
 value_of_part [] parts at agg part l m = absurd (omega arith)
 value_of_part (a ∷ aggs) [] at agg part l m = absurd (omega arith)
 value_of_part (a ∷ aggs) (p ∷ parts) zero agg part l m = refl
@@ -84,7 +84,7 @@ cell_behind first keys others (suc p) more =
     cell_behind_keys keys others p (omega arith)
     ∙ ap (λ n. cell_or_null others (n - length keys)) (let e : p ≡ suc p - 1 = omega arith in e)
 
-pub cell_of_part : (aggs : List Agg) (parts : List Summary) (at : ℕ) (agg : Agg) (part : Summary) → at < length aggs → at < length parts → cell_or_null (shown_each aggs parts) at ≡ shown (get_or aggs at agg).fun (get_or parts at part)
+pub cell_of_part : (aggs : List Agg) (parts : List Summary) (at : ℕ) (agg : Agg) (part : Summary) → at < length aggs → at < length parts → cell_or_null (shown_each aggs parts) at ≡ datum_of (get_or aggs at agg).fun (get_or parts at part)
 cell_of_part [] parts at agg part l m = absurd (omega arith)
 cell_of_part (a ∷ aggs) [] at agg part l m = absurd (omega arith)
 cell_of_part (a ∷ aggs) (p ∷ parts) zero agg part l m = refl

@@ -24,7 +24,7 @@ use Rattle.ts_model.specs.History.{History, start, resumed, ◌▸◌, position,
 use Rattle.ts_model.specs.Rows.{with_rows, after_op, after_ops, rows, rows_at}
 use Rattle.ts_model.specs.Effect.{appended_by, taken_by, all_appended, all_taken, hull_with, hull_of, hull_of_ops}
 use Rattle.ts_model.specs.Scratch.{bucket_rows, group_rows}
-use Rattle.ts_model.specs.Groups.{bucket_groups, groups_in, cells_of, stood, groups_at}
+use Rattle.ts_model.specs.Groups.{bucket_groups, groups_in, cells_of, groups_at_last, groups_at}
 use Rattle.ts_model.specs.Saved.{is_dirty, saved_groups}
 use Rattle.ts_model.specs.Refreshes.{is_met, touches, last_touch, last_touch_at, touched}
 use Rattle.ts_model.specs.Laws.{UntouchedKeepsRows, UntouchedKeepsGroups, UntouchedKeeps, UntouchedBetween, SpansKeepGroups}
@@ -123,7 +123,7 @@ untouched_rows n def (h ▸ Commit ops) b s e = untouched_commit n def h ops b s
 untouched_rows n def (h ▸ x) b s e = either_way (λ g. bucket_rows def.fold b (rows def.table g)) (nat_lt (position h) s) (h ▸ x) (prefix h s) (untouched_rows n def h b s e)
 
 -- what stood in a bucket that wasn't touched after a position are the groups of its rows
-pub stood_untouched : (n : ℕ) (def : ViewDef) (g : History) (s : ℕ) (b : ℤ) → touched n def g b s ≡ false → stood n def g s b ≡ groups_in def.fold (rows def.table g) b
+pub stood_untouched : (n : ℕ) (def : ViewDef) (g : History) (s : ℕ) (b : ℤ) → touched n def g b s ≡ false → groups_at_last n def g s b ≡ groups_in def.fold (rows def.table g) b
 stood_untouched n def start s b e = refl
 stood_untouched n def (resumed i) s b e =
     elim (is_dirty n i b) as (λ t. is_above s (cond t (Some i.pos) None) ≡ false → cond (nat_lt s i.pos && t) (saved_groups n i b) (groups_in def.fold (rows def.table (resumed i)) b) ≡ groups_in def.fold (rows def.table (resumed i)) b) [

@@ -27,7 +27,7 @@ use Rattle.ts_model.specs.declared.refreshes.Waiting.{Waiting as WaitingRefresh}
 use Rattle.ts_model.specs.declared.rosters.Roster.{Roster}
 use Rattle.ts_model.specs.declared.views.Fold.{Fold}
 use Rattle.ts_model.specs.declared.views.ViewDef.{ViewDef}
-use Rattle.ts_model.specs.Saved.{saved, last_hi, span_among, pending_among, nothing_saved, pos_in, groups_among, group_of, appended_over}
+use Rattle.ts_model.specs.Saved.{saved_view, last_hi, span_among, pending_among, nothing_saved, pos_in, groups_among, group_of, appended_over}
 use Rattle.ts_model.specs.Roster.{IsOf, no_relations, view_of}
 use Rattle.ts_model.specs.Rows.{in_order}
 use Rattle.ts_model.specs.declared.refreshes.Pending.{Pending}
@@ -72,7 +72,7 @@ kept_at P p rows_of (def ∷ defs) [] n none some e = absurd (true≢false (sym 
 kept_at P p rows_of (def ∷ defs) (v ∷ vs) zero none some e = some def v (and_parts (view_kept p def (rows_of def.table) v) _ e).0
 kept_at P p rows_of (def ∷ defs) (v ∷ vs) (suc n) none some e = kept_at P p rows_of defs vs n none some (and_parts (view_kept p def (rows_of def.table) v) _ e).1
 
-pub kept_of : (n : ℕ) (i : Image) (P : Option ViewDef → SavedView → Type 0) → valid i ≡ true → P None nothing_saved → ((def : ViewDef) (v : SavedView) → view_kept i.pos def (image_rows i def.table) v ≡ true → P (Some def) v) → P (view_of (image_roster i) n) (saved n i)
+pub kept_of : (n : ℕ) (i : Image) (P : Option ViewDef → SavedView → Type 0) → valid i ≡ true → P None nothing_saved → ((def : ViewDef) (v : SavedView) → view_kept i.pos def (image_rows i def.table) v ≡ true → P (Some def) v) → P (view_of (image_roster i) n) (saved_view n i)
 kept_of n i P ok none some = kept_at P i.pos (image_rows i) (image_roster i).views i.views n none some (valid_is i ok).views
 
 -- there is a mark, and x is at or below it
@@ -133,7 +133,7 @@ kept_lasts p def rows v e b s f =
     lasts_at def p v.lasts b s (and_parts (list_all (λ l. span_fits l.span (Some def) && nat_lt l.pos p) v.lasts) _ ranges.0).0 f
 
 -- each last refresh is below the image
-pub lasts_below : (n : ℕ) (i : Image) → valid i ≡ true → (b : ℤ) (s : ℕ) → pos_in (saved n i).lasts b ≡ Some s → s < i.pos
+pub lasts_below : (n : ℕ) (i : Image) → valid i ≡ true → (b : ℤ) (s : ℕ) → pos_in (saved_view n i).lasts b ≡ Some s → s < i.pos
 lasts_below n i ok =
     kept_of n i (λ o v. (b : ℤ) (s : ℕ) → pos_in v.lasts b ≡ Some s → s < i.pos) ok
     (λ b s e. absurd (cc))
@@ -213,7 +213,7 @@ facts_from def found i v same_fold kept =
       rows_below = λ b width bucket last clean above. no_rows def.fold v (image_rows i def.table) b width bucket last clean above rows_marked.1;
     }
 
-pub kept_facts : (n : ℕ) (def : ViewDef) (i : Image) → valid i ≡ true → IsOf def (view_of (image_roster i) n) → KeptFacts def i (saved n i)
+pub kept_facts : (n : ℕ) (def : ViewDef) (i : Image) → valid i ≡ true → IsOf def (view_of (image_roster i) n) → KeptFacts def i (saved_view n i)
 kept_facts n def i ok is =
     kept_of n i (λ o v. IsOf def o → KeptFacts def i v) ok
     (λ _. no_facts def i)
@@ -295,5 +295,5 @@ known_among i k q known e =
 
 -- ---- an aggregate that isn't there
 
-pub absent_kept : (n : ℕ) (i : Image) → valid i ≡ true → view_of (image_roster i) n ≡ None → saved n i ≡ nothing_saved
+pub absent_kept : (n : ℕ) (i : Image) → valid i ≡ true → view_of (image_roster i) n ≡ None → saved_view n i ≡ nothing_saved
 absent_kept n i ok none = kept_of n i (λ o v. o ≡ None → v ≡ nothing_saved) ok (λ _. refl) (λ def v kept e. absurd (cc)) none

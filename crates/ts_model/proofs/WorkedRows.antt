@@ -29,7 +29,7 @@ use Rattle.ts_model.specs.Windows.{window}
 use Rattle.ts_model.specs.Pending.{pending, waiting}
 use Rattle.ts_model.specs.Bytes.{event_bytes}
 use Rattle.ts_model.specs.Reads.{reads}
-use Rattle.ts_model.specs.Calls.{committed}
+use Rattle.ts_model.specs.Calls.{commit_result}
 
 -- ---- a table m with the columns time, dev and v, in chunks of 100, and an aggregate c that counts rows and sums v by tens
 
@@ -242,10 +242,10 @@ before_drop = three_rows ▸ Cut 0 (span_from_first 230) ▸ Built 5 5
 abbrev dropped : History
 dropped = before_drop ▸ dropped_event
 
-drop_effect : committed (Delete 0 (record { col = 0; cmp = Lt; num = pos 200 } ∷ []) ∷ []) before_drop ≡ record { pos = 7; inserted = 0; removed = 2 }
+drop_effect : commit_result (Delete 0 (record { col = 0; cmp = Lt; num = pos 200 } ∷ []) ∷ []) before_drop ≡ record { pos = 7; inserted = 0; removed = 2 }
 drop_effect = refl
 
-drop_again_effect : committed (Delete 0 (record { col = 0; cmp = Lt; num = pos 200 } ∷ []) ∷ []) dropped ≡ record { pos = 8; inserted = 0; removed = 0 }
+drop_again_effect : commit_result (Delete 0 (record { col = 0; cmp = Lt; num = pos 200 } ∷ []) ∷ []) dropped ≡ record { pos = 8; inserted = 0; removed = 0 }
 drop_again_effect = refl
 
 -- the aggregate keeps what was refreshed, and names it stale

@@ -42,18 +42,18 @@ refusal code h mark = record { code = code; pos = position h; mark = mark }
 
 -- an event is made, with what is said of it, unless the history is at its end. Each call makes its event through this
 -- word
-abbrev pub making : {A : Type 0} → History → Event → A → Act A
-making h e a = cond (has_room h) (makes e a) (refuses (refusal history_full h 0))
+abbrev pub act_of_event : {A : Type 0} → History → Event → A → Act A
+act_of_event h e a = cond (has_room h) (makes e a) (refuses (refusal history_full h 0))
 
 -- an event, and its number
-abbrev pub numbered : History → Event → Act ℕ
-numbered h e = making h e (suc (position h))
+abbrev pub act_with_number : History → Event → Act ℕ
+act_with_number h e = act_of_event h e (suc (position h))
 
 -- a relation is made unless its name is taken, or there are as many of its kind as there may be
 abbrev pub new_relation : History → Bool → ℕ → Event → Act ℕ
 new_relation h taken many e =
     cond taken (refuses (refusal name_taken h 0))
-    (cond (nat_lt many most_relations) (numbered h e) (refuses (refusal too_many h (suc most_relations))))
+    (cond (nat_lt many most_relations) (act_with_number h e) (refuses (refusal too_many h (suc most_relations))))
 
 abbrev pub making_table : TableDef → History → Act ℕ
 making_table def h = new_relation h (is_taken (roster h) def.name) (length (roster h).tables) (Table def)
@@ -64,25 +64,25 @@ making_view def h = new_relation h (is_taken (roster h) def.name) (length (roste
 -- a table is made a hypertable unless it is one
 abbrev pub making_hyper : ℕ → HyperInfo → History → Act ℕ
 making_hyper t hyper h =
-    cond (is_some (hyper_of (roster h) t)) (refuses (refusal name_taken h 0)) (numbered h (Hyper t hyper))
+    cond (is_some (hyper_of (roster h) t)) (refuses (refusal name_taken h 0)) (act_with_number h (Hyper t hyper))
 
 abbrev pub setting_mode : ℕ → Bool → History → Act ℕ
-setting_mode n only h = numbered h (Mode n only)
+setting_mode n only h = act_with_number h (Mode n only)
 
 -- what a commit of these operations does over all tables
-abbrev pub committed : List Op → History → Committed
-committed ops h = record {
+abbrev pub commit_result : List Op → History → Committed
+commit_result ops h = record {
   pos = suc (position h);
   inserted = appended_count (length (roster h).tables) ops;
   removed = taken_count (length (roster h).tables) ops (λ t. rows t h);
 }
 
-abbrev pub committing : List Op → History → Act Committed
-committing ops h = making h (Commit ops) (committed ops h)
+abbrev pub act_of_commit : List Op → History → Act Committed
+act_of_commit ops h = act_of_event h (Commit ops) (commit_result ops h)
 
 -- a refresh is cut over the whole buckets of its window; without one it is refused, or there is nothing to do
 abbrev pub cut_over : ℕ → History → Window → Act CutDone
-cut_over n h (Whole span) = making h (Cut n span) (CutMade (suc (position h)) span)
+cut_over n h (Whole span) = act_of_event h (Cut n span) (CutMade (suc (position h)) span)
 cut_over n h NoBucket = refuses (refusal no_bucket h 0)
 cut_over n h Nothing = returns (NothingDone (position h))
 
@@ -90,17 +90,17 @@ abbrev pub cut_of_view : ℕ → Option ℤ → Option ℤ → History → Optio
 cut_of_view n lo hi h None = returns (NothingDone (position h))
 cut_of_view n lo hi h (Some def) = cut_over n h (window n def h lo hi)
 
-abbrev pub cutting : ℕ → Option ℤ → Option ℤ → History → Act CutDone
-cutting n lo hi h = cut_of_view n lo hi h (view_of (roster h) n)
+abbrev pub act_of_cut : ℕ → Option ℤ → Option ℤ → History → Act CutDone
+act_of_cut n lo hi h = cut_of_view n lo hi h (view_of (roster h) n)
 
 -- a refresh is finished where it waits; else it is refused, with its finish where there was one
 abbrev pub finish_of : ℕ → ℕ → History → Pending → Act ℕ
-finish_of cut snap h (Waiting n) = numbered h (Built cut snap)
+finish_of cut snap h (Waiting n) = act_with_number h (Built cut snap)
 finish_of cut snap h (Finished f) = refuses (refusal no_refresh h f)
 finish_of cut snap h Unknown = refuses (refusal no_refresh h 0)
 
-abbrev pub finishing : ℕ → ℕ → History → Act ℕ
-finishing cut snap h = finish_of cut snap h (pending h cut)
+abbrev pub act_of_finish : ℕ → ℕ → History → Act ℕ
+act_of_finish cut snap h = finish_of cut snap h (pending h cut)
 
 -- ---- what a call answers and leaves
 

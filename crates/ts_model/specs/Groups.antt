@@ -8,7 +8,7 @@ use Rattle.ts_schema.specs.declared.rows.Row.{Row}
 use Rattle.ts_schema.specs.Rows.{field_of}
 use Rattle.ts_bucket.specs.Bucket.{is_time}
 use Rattle.partial_agg.specs.declared.groups.Group.{Group}
-use Rattle.partial_agg.specs.Summaries.{Summary, summary, shown}
+use Rattle.partial_agg.specs.Summaries.{Summary, summary, datum_of}
 use Rattle.ts_model.specs.declared.views.Agg.{Agg}
 use Rattle.ts_model.specs.declared.views.Fold.{Fold}
 use Rattle.ts_model.specs.declared.views.ViewDef.{ViewDef}
@@ -49,7 +49,7 @@ groups_of fold rows = flat_map (groups_in fold rows) (occurring_buckets fold row
 abbrev pub shown_each : List Agg → List Summary → List Datum
 shown_each [] parts = []
 shown_each (agg ∷ aggs) [] = []
-shown_each (agg ∷ aggs) (part ∷ parts) = shown agg.fun part ∷ shown_each aggs parts
+shown_each (agg ∷ aggs) (part ∷ parts) = datum_of agg.fun part ∷ shown_each aggs parts
 
 -- the result row of a group: the bucket, the keys, and each of these aggregates
 abbrev pub cells_by : List Agg → Group → List Datum
@@ -75,14 +75,14 @@ RowsFit fold rows = AllByRecursion (RowFits fold) rows
 
 -- what stood in a bucket at position s, as groups, where a history was last at that position or begins above it. Below
 -- an image, it is what the image has saved of a dirty bucket, and in another what stands there
-abbrev pub stood : ℕ → ViewDef → History → ℕ → ℤ → List Group
-stood n def (resumed i) s b =
+abbrev pub groups_at_last : ℕ → ViewDef → History → ℕ → ℤ → List Group
+groups_at_last n def (resumed i) s b =
     cond (nat_lt s i.pos && is_dirty n i b) (saved_groups n i b) (groups_in def.fold (rows def.table (resumed i)) b)
-stood n def h s b = groups_in def.fold (rows def.table h) b
+groups_at_last n def h s b = groups_in def.fold (rows def.table h) b
 
 -- what stood in a bucket at position s of a history
 abbrev pub groups_at : ℕ → ViewDef → History → ℕ → ℤ → List Group
-groups_at n def h s b = stood n def (prefix h s) s b
+groups_at n def h s b = groups_at_last n def (prefix h s) s b
 
 -- what these groups show
 abbrev pub scratch_at : ℕ → ViewDef → History → ℕ → ℤ → List (List Datum)

@@ -22,7 +22,7 @@ use Rattle.ts_model.specs.declared.events.Event.{Event}
 use Rattle.ts_model.specs.declared.events.Event.TheVariants.{Table, Hyper as HyperMade, View, Mode, Commit, Cut, Built}
 use Rattle.ts_model.specs.declared.events.Op.{Op}
 use Rattle.ts_model.specs.declared.tables.TableDef.{TableDef}
-use Rattle.ts_model.specs.Calls.{Act, refuses, returns, makes, making_table, making_hyper, making_view, setting_mode, committing, cutting, finishing}
+use Rattle.ts_model.specs.Calls.{Act, refuses, returns, makes, making_table, making_hyper, making_view, setting_mode, act_of_commit, act_of_cut, act_of_finish}
 use Rattle.ts_model.specs.declared.queries.Query.{Query}
 use Rattle.ts_model.specs.declared.queries.Query.TheVariants.{Buckets}
 use Rattle.ts_model.specs.declared.rosters.Roster.{Roster}
@@ -35,7 +35,7 @@ use Rattle.ts_model.specs.Groups.{RowsFit, groups_in, groups_at, scratch_at}
 use Rattle.ts_model.specs.Refreshes.{last_touch_at, touched, last, watermark, threshold}
 use Rattle.ts_model.specs.Roster.{no_relations, roster, table_of, hyper_of, of_table, view_of, table_named, view_named, set_only}
 use Rattle.ts_model.specs.Answers.{answer, buckets_in, can_ask, ranges}
-use Rattle.ts_model.specs.Reads.{clipped, chunk_within, inserted, rows_near}
+use Rattle.ts_model.specs.Reads.{clip, chunk_within, rows_inserted, rows_near}
 use Rattle.ts_model.specs.declared.refreshes.Window.{Window}
 use Rattle.ts_model.specs.declared.refreshes.Window.TheVariants.{Whole, NoBucket, Nothing}
 use Rattle.ts_model.specs.Windows.{last_end, window}
@@ -161,20 +161,20 @@ fits_table r t row = of_table (λ def hyper. row_fits def hyper row) (table_of r
 -- each row that was ever inserted into a table of a consistent history fits the table, and so does each that it has at
 -- a position
 pub record RowsFitTables : Type 0 where
-  pub inserted : (t : ℕ) (h : History) → all_consistent h ≡ true → list_all (fits_table (roster h) t) (inserted t h) ≡ true
+  pub inserted : (t : ℕ) (h : History) → all_consistent h ≡ true → list_all (fits_table (roster h) t) (rows_inserted t h) ≡ true
   pub rows :
       (t : ℕ) (h : History) (s : ℕ) → all_consistent h ≡ true → list_all (fits_table (roster h) t) (rows_at t h s) ≡ true
 
 -- so each has a time
 pub record RowsAreTimes : Type 0 where
-  pub inserted : (t : ℕ) (h : History) → all_consistent h ≡ true → list_all (λ row. is_time row.at) (inserted t h) ≡ true
+  pub inserted : (t : ℕ) (h : History) → all_consistent h ≡ true → list_all (λ row. is_time row.at) (rows_inserted t h) ≡ true
   pub rows :
       (t : ℕ) (h : History) (s : ℕ) → all_consistent h ≡ true → list_all (λ row. is_time row.at) (rows_at t h s) ≡ true
 
 -- and the columns of each fold that may be asked of the table, which the fold of each of its aggregates may
 pub record RowsHaveColumns : Type 0 where
   pub inserted : (t : ℕ) (fold : Fold) (h : History) → all_consistent h ≡ true → can_ask (roster h) (Buckets t fold) ≡ true
-      → RowsFit fold (inserted t h)
+      → RowsFit fold (rows_inserted t h)
   pub rows :
       (t : ℕ) (fold : Fold) (h : History) (s : ℕ) → all_consistent h ≡ true → can_ask (roster h) (Buckets t fold) ≡ true
       → RowsFit fold (rows_at t h s)
@@ -225,12 +225,12 @@ pub record CallsMakeAllowed : Type 0 where
   pub views : (def : ViewDef) (h : History) → sound h (View def) ≡ true → MakesAllowed h (making_view def h)
   pub modes :
       (n : ℕ) (only : Bool) (h : History) → sound h (Mode n only) ≡ true → MakesAllowed h (setting_mode n only h)
-  pub commits : (ops : List Op) (h : History) → sound h (Commit ops) ≡ true → MakesAllowed h (committing ops h)
+  pub commits : (ops : List Op) (h : History) → sound h (Commit ops) ≡ true → MakesAllowed h (act_of_commit ops h)
   pub cuts : (n : ℕ) (lo hi : Option ℤ) (h : History) → all_consistent h ≡ true → ForSome hi (λ t. IsTrue (is_time t))
-      → MakesAllowed h (cutting n lo hi h)
+      → MakesAllowed h (act_of_cut n lo hi h)
   pub windows : (n : ℕ) (def : ViewDef) (h : History) (lo hi : Option ℤ) → all_consistent h ≡ true
       → view_of (roster h) n ≡ Some def → ForSome hi (λ t. IsTrue (is_time t)) → SoundCut n h (window n def h lo hi)
-  pub finishes : (cut snap : ℕ) (h : History) → sound h (Built cut snap) ≡ true → MakesAllowed h (finishing cut snap h)
+  pub finishes : (cut snap : ℕ) (h : History) → sound h (Built cut snap) ≡ true → MakesAllowed h (act_of_finish cut snap h)
 
 -- the ranges of the buckets in a span are the maximal ranges of those that pass
 abbrev pub RangesAreMaximal : Type 0
@@ -287,13 +287,13 @@ abbrev pub ClippingKeepsNear : Type 0
 ClippingKeepsNear =
     (low high interval : ℤ) (stored : List Row) (span : Span)
     → list_all (chunk_within low high interval) stored ≡ true
-    → rows_near interval stored (clipped low high span ∷ []) ≡ rows_near interval stored (span ∷ [])
+    → rows_near interval stored (clip low high span ∷ []) ≡ rows_near interval stored (span ∷ [])
 
 -- the chunks of all rows that were ever inserted lie at most the longest interval outside the range of times
 abbrev pub ChunksAreWithin : Type 0
 ChunksAreWithin =
     (t : ℕ) (hyper : Hyper) (h : History) → all_consistent h ≡ true → hyper_of (roster h) t ≡ Some hyper
-    → list_all (chunk_within (min_time -ℤ max_interval) (max_time +ℤ max_interval) hyper.interval) (inserted t h) ≡ true
+    → list_all (chunk_within (min_time -ℤ max_interval) (max_time +ℤ max_interval) hyper.interval) (rows_inserted t h) ≡ true
 
 -- each count and each number of a sound event of a consistent history fits its field in a journal
 abbrev pub CountsFit : Type 0

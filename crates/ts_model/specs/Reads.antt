@@ -22,19 +22,19 @@ use Rattle.ts_model.specs.declared.refreshes.Pending.{Pending}
 use Rattle.ts_model.specs.declared.refreshes.Pending.TheVariants.{Waiting}
 
 -- the rows that were ever inserted into table t, whether removed later or not
-abbrev pub inserted : ℕ → History → List Row
-inserted t start = []
-inserted t (resumed i) = appended_over t i.rows
-inserted t (h ▸ Commit ops) = inserted t h ++ all_appended t ops
-inserted t (h ▸ e) = inserted t h
+abbrev pub rows_inserted : ℕ → History → List Row
+rows_inserted t start = []
+rows_inserted t (resumed i) = appended_over t i.rows
+rows_inserted t (h ▸ Commit ops) = rows_inserted t h ++ all_appended t ops
+rows_inserted t (h ▸ e) = rows_inserted t h
 
 -- two spans have a number in common
 abbrev pub spans_meet : Span → Span → Bool
 spans_meet a b = int_lt a.lo b.hi && int_lt b.lo a.hi && int_lt a.lo a.hi && int_lt b.lo b.hi
 
 -- what a span has between two bounds
-abbrev pub clipped : ℤ → ℤ → Span → Span
-clipped low high span = record { lo = int_max low span.lo; hi = int_min high span.hi }
+abbrev pub clip : ℤ → ℤ → Span → Span
+clip low high span = record { lo = int_max low span.lo; hi = int_min high span.hi }
 
 -- the chunk of a row lies between two bounds
 abbrev pub chunk_within : ℤ → ℤ → ℤ → Row → Bool
@@ -60,12 +60,12 @@ abbrev pub reads_of_view : ℕ → History → Span → Option ViewDef → ℕ
 reads_of_view n h starts None = 0
 reads_of_view n h starts (Some def) =
     cond def.only 0
-    (rows_near_in (hyper_of (roster h) def.table) (inserted def.table h) (map (bucket_span def.fold.width) (live_buckets n def h starts)))
+    (rows_near_in (hyper_of (roster h) def.table) (rows_inserted def.table h) (map (bucket_span def.fold.width) (live_buckets n def h starts)))
 
 -- the reads of a query; one on a hypertable reads all its rows
 abbrev pub reads : Query → History → ℕ
-reads (Rows t tests) h = length (inserted t h)
-reads (Buckets t fold) h = length (inserted t h)
+reads (Rows t tests) h = length (rows_inserted t h)
+reads (Buckets t fold) h = length (rows_inserted t h)
 reads (Aggregate n starts) h = reads_of_view n h starts (view_of (roster h) n)
 
 -- the invalid buckets of a span, as ranges
@@ -78,7 +78,7 @@ abbrev pub reads_of_snapshot : ℕ → History → Option ViewDef → Option Spa
 reads_of_snapshot n h None span = 0
 reads_of_snapshot n h (Some def) None = 0
 reads_of_snapshot n h (Some def) (Some span) =
-    sum_by (λ range. rows_near_in (hyper_of (roster h) def.table) (inserted def.table h) (range ∷ []))
+    sum_by (λ range. rows_near_in (hyper_of (roster h) def.table) (rows_inserted def.table h) (range ∷ []))
     (dirty_ranges n def h span)
 
 -- the same, for the refresh with a number, which is that of its cut

@@ -21,7 +21,7 @@ use Rattle.ts_model.specs.declared.images.SavedView.{SavedView}
 use Rattle.ts_model.specs.declared.refreshes.Waiting.{Waiting as WaitingRefresh}
 use Rattle.ts_model.specs.declared.rosters.Roster.{Roster}
 use Rattle.ts_model.specs.History.{History, start, resumed, ◌▸◌, position, prefix}
-use Rattle.ts_model.specs.Saved.{saved, saved_last, is_dirty, span_among, last_hi}
+use Rattle.ts_model.specs.Saved.{saved_view, saved_last, is_dirty, span_among, last_hi}
 use Rattle.ts_model.specs.Roster.{roster, view_of}
 use Rattle.ts_model.specs.Rows.{rows, rows_at}
 use Rattle.ts_model.specs.Effect.{hull_of_ops}
@@ -121,7 +121,7 @@ top_of def h s (Some span) = top_at def h s span
 -- snapshot
 abbrev pub watermark : ℕ → ViewDef → History → Option ℤ
 watermark n def start = None
-watermark n def (resumed i) = (saved n i).mark
+watermark n def (resumed i) = (saved_view n i).mark
 watermark n def (h ▸ Built cut snap) = greater (watermark n def h) (top_of def h snap (span_of_cut n h cut))
 watermark n def (h ▸ e) = watermark n def h
 

@@ -64,8 +64,8 @@ abbrev pub nothing_saved : SavedView
 nothing_saved = record { lasts = []; dirty = []; groups = []; mark = None }
 
 -- what an image keeps of aggregate n
-abbrev pub saved : ℕ → Image → SavedView
-saved n i = unwrap_or (slice_get i.views n) nothing_saved
+abbrev pub saved_view : ℕ → Image → SavedView
+saved_view n i = unwrap_or (slice_get i.views n) nothing_saved
 
 -- the position of the range that holds b
 abbrev pub pos_in : List SavedLast → ℤ → Option ℕ
@@ -74,11 +74,11 @@ pos_in (l ∷ ls) b = cond (in_span l.span b) (Some l.pos) (pos_in ls b)
 
 -- the last refresh of a bucket
 abbrev pub saved_last : ℕ → Image → ℤ → Option ℕ
-saved_last n i b = pos_in (saved n i).lasts b
+saved_last n i b = pos_in (saved_view n i).lasts b
 
 -- a bucket was touched after its last refresh
 abbrev pub is_dirty : ℕ → Image → ℤ → Bool
-is_dirty n i b = lies_in (saved n i).dirty b
+is_dirty n i b = lies_in (saved_view n i).dirty b
 
 -- what is kept of a column, as a summary; and a saved group as a group
 abbrev pub summary_of : Sums → Summary
@@ -93,7 +93,7 @@ groups_among gs b = map group_of (filter (λ g. int_eq g.start b) gs)
 
 -- what the last refresh of a dirty bucket has left
 abbrev pub saved_groups : ℕ → Image → ℤ → List Group
-saved_groups n i b = groups_among (saved n i).groups b
+saved_groups n i b = groups_among (saved_view n i).groups b
 
 -- the greatest end of these ranges
 abbrev pub last_hi : List SavedLast → Option ℤ

@@ -25,7 +25,7 @@ pub trait Backend {
     ghost use Rattle.ts_model.specs.Roster.{roster, view_of};
     ghost use Rattle.ts_model.specs.Sound.{sound};
     ghost use Rattle.ts_model.specs.States.{State, stop_of};
-    ghost use Rattle.ts_model.specs.Calls.{Called, Looked, Snapped, making_table, making_hyper, making_view, setting_mode, committing, cutting, finishing};
+    ghost use Rattle.ts_model.specs.Calls.{Called, Looked, Snapped, making_table, making_hyper, making_view, setting_mode, act_of_commit, act_of_cut, act_of_finish};
 
     /// A snapshot.
     type Shot: Shown + Drop;
@@ -73,7 +73,7 @@ pub trait Backend {
     /// Lets operations take effect, in order.
     fn commit(&mut self, ops: Seq<Op>) -> Outcome<Committed>
         requires { IsTrue (sound (state self.old).history (Commit ops)) }
-        ensures called { Called alone (state self.old) (committing ops) result (state self.new) }
+        ensures called { Called alone (state self.old) (act_of_commit ops) result (state self.new) }
         ensures kin { kin self.new ≡ kin self.old };
 
     /// Begins a refresh of the whole buckets of the window from `lo` on and below `hi`. Without `lo` it starts at the
@@ -85,7 +85,7 @@ pub trait Backend {
         requires view { IsSome (view_of (roster (state self.old).history) view) }
         requires low { ForSome lo (λ t. IsTrue (is_time t)) }
         requires high { ForSome hi (λ t. IsTrue (is_time t)) }
-        ensures called { Called alone (state self.old) (cutting view lo hi) result (state self.new) }
+        ensures called { Called alone (state self.old) (act_of_cut view lo hi) result (state self.new) }
         ensures kin { kin self.new ≡ kin self.old };
 
     /// Finishes the refresh that the job was made for. It is refused as `E19` where it was finished. The
@@ -93,7 +93,7 @@ pub trait Backend {
     fn finish(&mut self, job: <Self::Shot as Shown>::Job) -> Outcome<u64>
         requires { Self.Shot.fits job (state self.old).history }
         ensures called { Called alone (state self.old)
-            (finishing (Self.Shot.cut_of job) (Self.Shot.snap_of job)) result (state self.new) }
+            (act_of_finish (Self.Shot.cut_of job) (Self.Shot.snap_of job)) result (state self.new) }
         ensures kin { kin self.new ≡ kin self.old };
 
     /// The position at which the history seen ends.

@@ -70,7 +70,7 @@ impl<'a> GroupRow<'a> {
             return Datum::Int(i128::from(self.start));
         }
         match self.keys.get(place - 1) {
-            Some(key) => shown(*key),
+            Some(key) => number_or_null(*key),
             None => part_cell(self.aggs, self.parts, place - 1 - self.keys.len()),
         }
     }
@@ -106,13 +106,13 @@ pub fn put_values(values: &[Option<i64>], cells: &mut Vec<Datum>) -> Result<(), 
     ensures appended { IfOk result (λ _. cells.new.items ≡ cells.old.items ++ map shown_or_null values.now) }
 {
     for value in values {
-        cells.push(shown(*value))?;
+        cells.push(number_or_null(*value))?;
     }
     Ok(())
 }
 
 /// A number, or NULL.
-fn shown(value: Option<i64>) -> Datum
+fn number_or_null(value: Option<i64>) -> Datum
     ensures { result ≡ shown_or_null value }
 {
     match value {

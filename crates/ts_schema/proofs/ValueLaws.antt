@@ -6,43 +6,43 @@ use Rattle.std.specs.Ordering.{nat_cmp}
 use Rattle.std.specs.Cmp.Lexicographic.{slice_cmp}
 use Rattle.std.specs.declared.cmp.Ordering.{Ordering}
 use Rattle.std.specs.declared.cmp.Ordering.TheVariants.{Less, Greater}
-use Rattle.ts_schema.specs.Values.{marked, unless_marked}
+use Rattle.ts_schema.specs.Values.{marked_values, unless_marked}
 
-pub length_marked : (marks : List Bool) (numbers : List ℤ) → length (marked marks numbers) ≡ length numbers
+pub length_marked : (marks : List Bool) (numbers : List ℤ) → length (marked_values marks numbers) ≡ length numbers
 length_marked [] [] = refl
 length_marked (m ∷ marks) [] = refl
 length_marked [] (n ∷ numbers) = ap suc (length_marked [] numbers)
 length_marked (m ∷ marks) (n ∷ numbers) = ap suc (length_marked marks numbers)
 
 -- a number at the end, behind all marks
-pub number_pushed : (marks : List Bool) (numbers : List ℤ) (n : ℤ) → length marks ≤ length numbers → marked marks (numbers ++ n ∷ []) ≡ marked marks numbers ++ Some n ∷ []
+pub number_pushed : (marks : List Bool) (numbers : List ℤ) (n : ℤ) → length marks ≤ length numbers → marked_values marks (numbers ++ n ∷ []) ≡ marked_values marks numbers ++ Some n ∷ []
 number_pushed [] [] n few = refl
 number_pushed (m ∷ marks) [] n few = absurd (omega (arith, few))
 number_pushed [] (k ∷ numbers) n few = ap (λ vs. Some k ∷ vs) (number_pushed [] numbers n (omega arith))
 number_pushed (m ∷ marks) (k ∷ numbers) n few = ap (λ vs. unless_marked m k ∷ vs) (number_pushed marks numbers n (omega (arith, few)))
 
 -- NULL at the end, where each number has a mark
-pub null_pushed : (marks : List Bool) (numbers : List ℤ) (n : ℤ) → length marks ≡ length numbers → marked (marks ++ true ∷ []) (numbers ++ n ∷ []) ≡ marked marks numbers ++ None ∷ []
+pub null_pushed : (marks : List Bool) (numbers : List ℤ) (n : ℤ) → length marks ≡ length numbers → marked_values (marks ++ true ∷ []) (numbers ++ n ∷ []) ≡ marked_values marks numbers ++ None ∷ []
 null_pushed [] [] n same = refl
 null_pushed (m ∷ marks) [] n same = absurd (omega (arith, same))
 null_pushed [] (k ∷ numbers) n same = absurd (omega (arith, same))
 null_pushed (m ∷ marks) (k ∷ numbers) n same = ap (λ vs. unless_marked m k ∷ vs) (null_pushed marks numbers n (omega (arith, same)))
 
 -- marks that mark nothing change nothing
-more_marks : (k : ℕ) (marks : List Bool) (numbers : List ℤ) → marked (marks ++ replicate k false) numbers ≡ marked marks numbers
+more_marks : (k : ℕ) (marks : List Bool) (numbers : List ℤ) → marked_values (marks ++ replicate k false) numbers ≡ marked_values marks numbers
 more_marks k [] [] = refl
 more_marks k (m ∷ marks) [] = refl
 more_marks zero [] (n ∷ numbers) = refl
 more_marks (suc k) [] (n ∷ numbers) = ap (λ vs. Some n ∷ vs) (more_marks k [] numbers)
 more_marks k (m ∷ marks) (n ∷ numbers) = ap (λ vs. unless_marked m n ∷ vs) (more_marks k marks numbers)
 
-marks_filled : (marks : List Bool) (numbers : List ℤ) → length marks ≤ length numbers → marked (take (length numbers) marks ++ replicate (length numbers - length marks) false) numbers ≡ marked marks numbers
+marks_filled : (marks : List Bool) (numbers : List ℤ) → length marks ≤ length numbers → marked_values (take (length numbers) marks ++ replicate (length numbers - length marks) false) numbers ≡ marked_values marks numbers
 marks_filled marks numbers few =
-    ap (λ ms. marked (ms ++ replicate (length numbers - length marks) false) numbers) (take_all (length numbers) marks few)
+    ap (λ ms. marked_values (ms ++ replicate (length numbers - length marks) false) numbers) (take_all (length numbers) marks few)
     ∙ more_marks (length numbers - length marks) marks numbers
 
 -- the value at a place
-pub marked_at : (marks : List Bool) (numbers : List ℤ) (i : ℕ) (n : ℤ) → i < length numbers → get_or (marked marks numbers) i None ≡ unless_marked (get_or marks i false) (get_or numbers i n)
+pub marked_at : (marks : List Bool) (numbers : List ℤ) (i : ℕ) (n : ℤ) → i < length numbers → get_or (marked_values marks numbers) i None ≡ unless_marked (get_or marks i false) (get_or numbers i n)
 marked_at [] [] i n within = absurd (omega (arith, within))
 marked_at (m ∷ marks) [] i n within = absurd (omega (arith, within))
 marked_at [] (k ∷ numbers) zero n within = refl
@@ -60,8 +60,8 @@ module _ (marks filled : List Bool) (numbers : List ℤ) (n k : ℕ) (count : n 
   as_filled : filled ≡ take (length numbers) marks ++ replicate (length numbers - length marks) false
   as_filled = rw (sym count, sym had) is
 
-  pub still_marked : length marks ≤ length numbers → marked filled numbers ≡ marked marks numbers
-  still_marked few = ap (λ ms. marked ms numbers) as_filled ∙ marks_filled marks numbers few
+  pub still_marked : length marks ≤ length numbers → marked_values filled numbers ≡ marked_values marks numbers
+  still_marked few = ap (λ ms. marked_values ms numbers) as_filled ∙ marks_filled marks numbers few
 
   length_filled : length marks ≤ length numbers → length filled ≡ length numbers
   length_filled few =
@@ -70,9 +70,9 @@ module _ (marks filled : List Bool) (numbers : List ℤ) (n k : ℕ) (count : n 
       let back = length-replicate (length numbers - length marks) false in
       omega (arith, whole, front, back, few)
 
-  pub null_put : (room more : List Bool) (longer : List ℤ) (z : ℤ) → length marks ≤ length numbers → room ≡ filled → more ≡ room ++ true ∷ [] → longer ≡ numbers ++ z ∷ [] → marked more longer ≡ marked marks numbers ++ None ∷ []
+  pub null_put : (room more : List Bool) (longer : List ℤ) (z : ℤ) → length marks ≤ length numbers → room ≡ filled → more ≡ room ++ true ∷ [] → longer ≡ numbers ++ z ∷ [] → marked_values more longer ≡ marked_values marks numbers ++ None ∷ []
   null_put room more longer z few same put long =
-      ap₂ marked (put ∙ ap (λ ms. ms ++ true ∷ []) same) long
+      ap₂ marked_values (put ∙ ap (λ ms. ms ++ true ∷ []) same) long
       ∙ null_pushed filled numbers z (length_filled few)
       ∙ ap (λ vs. vs ++ None ∷ []) (still_marked few)
 

@@ -7,7 +7,7 @@ unless_marked false n = Some n
 unless_marked true n = None
 
 -- numbers by their marks, place by place; those behind the last mark aren't marked
-abbrev pub marked : List Bool → List ℤ → List (Option ℤ)
-marked marks [] = []
-marked [] (n ∷ numbers) = Some n ∷ marked [] numbers
-marked (m ∷ marks) (n ∷ numbers) = unless_marked m n ∷ marked marks numbers
+abbrev pub marked_values : List Bool → List ℤ → List (Option ℤ)
+marked_values marks [] = []
+marked_values [] (n ∷ numbers) = Some n ∷ marked_values [] numbers
+marked_values (m ∷ marks) (n ∷ numbers) = unless_marked m n ∷ marked_values marks numbers

@@ -4,7 +4,7 @@ ghost use Rattle.std.specs.Arc.{arc_value};
 ghost use Rattle.std.specs.Ordering.{int_eq};
 ghost use Rattle.std.specs.Option.{option_eq};
 ghost use Rattle.std.specs.Cmp.Lexicographic.{pointwise};
-ghost use Rattle.ts_schema.specs.Values.{marked, unless_marked};
+ghost use Rattle.ts_schema.specs.Values.{marked_values, unless_marked};
 
 use crate::memory::NoMemory;
 use crate::shared::place;
@@ -24,11 +24,11 @@ pub struct ValueBlock {
 
 impl Model for ValueBlock {
     ghost use Rattle.std.specs.Prelude.{◌≤◌, List, Option, ℤ, length};
-    ghost use Rattle.ts_schema.specs.Values.{marked};
+    ghost use Rattle.ts_schema.specs.Values.{marked_values};
 
     ghost Value = { List (Option ℤ) };
 
-    ghost view = { λ b. marked b.nulls.items b.numbers.items };
+    ghost view = { λ b. marked_values b.nulls.items b.numbers.items };
 
     ghost invariant = { λ b. length b.nulls.items ≤ length b.numbers.items };
 }
@@ -117,7 +117,7 @@ impl ValueBlock {
 #[inline(always)]
 fn value_at(numbers: &[i64], nulls: &[bool], i: usize) -> Option<i64>
     requires { i < length numbers.now }
-    ensures { result ≡ slice_index_or (marked nulls.now numbers.now) i None }
+    ensures { result ≡ slice_index_or (marked_values nulls.now numbers.now) i None }
 {
     unless_marked(is_marked(nulls, i), numbers[i])
 }

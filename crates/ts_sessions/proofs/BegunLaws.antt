@@ -3,7 +3,7 @@ use Rattle.std.proofs.Common.{ℕ, suc, ◌≤◌, List, [], ◌∷◌, ◌++◌
 use Rattle.std.specs.Prelude.{Result}
 use Rattle.ts_model.specs.declared.events.Event.{Event}
 use Rattle.ts_model.specs.declared.events.Op.{Op}
-use Rattle.ts_model.specs.Calls.{cutting, making_hyper, making_table, making_view, setting_mode}
+use Rattle.ts_model.specs.Calls.{act_of_cut, making_hyper, making_table, making_view, setting_mode}
 use Rattle.ts_model.specs.History.{History, position, prefix}
 use Rattle.ts_model.specs.Roster.{roster, view_of}
 use Rattle.ts_model.proofs.HistoryLaws.{begins_prefix, position_begins}
@@ -16,13 +16,13 @@ use Rattle.stmt_check.specs.declared.actions.Action.TheVariants as actions
 use Rattle.stmt_check.specs.Check.{action_of, refusal_of}
 use Rattle.result_text.specs.declared.replies.Said.TheVariants as said
 use Rattle.ts_sessions.specs.Actors.{BlocksBegin}
-use Rattle.ts_sessions.specs.Begun.{GivenBlocksBegin}
+use Rattle.ts_sessions.specs.CutRefreshes.{GivenBlocksBegin}
 use Rattle.ts_sessions.specs.Gives.{Gives}
 use Rattle.ts_sessions.specs.LineLaws.{ReadsWithin}
 use Rattle.ts_sessions.specs.Places.{Block, none, writing, reading, Places, Turn, enters}
 use Rattle.ts_sessions.specs.Procedures.{Procedure, sees, adds, ends, looks}
 use Rattle.ts_sessions.specs.Replies.{reply_to, replies}
-use Rattle.ts_sessions.specs.Step.{acts, after_cut, after_view, block_refusal, changes, closes, cut_turn, kind_of, least_start, named_first, named_here, read_at, refresh_meant, reported, step, as_read, passes_block, performs}
+use Rattle.ts_sessions.specs.Step.{acts, after_cut, after_view, block_refusal, changes, closes, cut_turn, kind_of, least_start, named_first, named_here, read_at, refresh_meant, turn_of_line, step, as_read, passes_block, performs}
 use Rattle.ts_sessions.proofs.NamedLaws.{named_holds, performs_holds, read_holds, unless_holds}
 use Rattle.ts_sessions.proofs.WalkLaws.{goes_walks}
 use Rattle.ts_sessions.proofs.TurnBlocks.{EndsBy, InTurn, by_commits, by_cut, by_cut_turn, by_finishes, by_reported, by_snaps, by_view, call_by, one_by, walks_by}
@@ -65,13 +65,13 @@ module _ (n : ℕ) where
     by_closes h (reading at) = tt
 
     by_acts : (bytes : ℕ) (h : History) (a : Action) → position h ≤ n → EndsBy InBegun n (acts p bytes h a)
-    by_acts bytes h (actions.Table def) le = one_by InBegun n h (making_table def h) (reported p said.Table) (by_reported Begun n p within said.Table)
-    by_acts bytes h (actions.Hyper t hyper) le = one_by InBegun n h (making_hyper t hyper h) (reported p said.Hypertable) (by_reported Begun n p within said.Hypertable)
+    by_acts bytes h (actions.Table def) le = one_by InBegun n h (making_table def h) (turn_of_line p said.Table) (by_reported Begun n p within said.Table)
+    by_acts bytes h (actions.Hyper t hyper) le = one_by InBegun n h (making_hyper t hyper h) (turn_of_line p said.Hypertable) (by_reported Begun n p within said.Hypertable)
     by_acts bytes h (actions.View def filled) le = let k = length (roster h).views in call_by InBegun n h (making_view def h) (after_view p k def filled) (by_view Begun n p within k def filled)
-    by_acts bytes h (actions.Mode k only) le = one_by InBegun n h (setting_mode k only h) (reported p said.Mode) (by_reported Begun n p within said.Mode)
+    by_acts bytes h (actions.Mode k only) le = one_by InBegun n h (setting_mode k only h) (turn_of_line p said.Mode) (by_reported Begun n p within said.Mode)
     by_acts bytes h (actions.Change op) le = by_changes bytes h op p.block
-    by_acts bytes h (actions.Refresh k lo hi) le = let min = least_start (view_of (roster h) k) in call_by InBegun n h (cutting k lo hi h) (after_cut p min) (by_cut Begun n p within min)
-    by_acts bytes h (actions.Cut k lo hi) le = let min = least_start (view_of (roster h) k) in one_by InBegun n h (cutting k lo hi h) (cut_turn p min) (by_cut_turn Begun n p within min)
+    by_acts bytes h (actions.Refresh k lo hi) le = let min = least_start (view_of (roster h) k) in call_by InBegun n h (act_of_cut k lo hi h) (after_cut p min) (by_cut Begun n p within min)
+    by_acts bytes h (actions.Cut k lo hi) le = let min = least_start (view_of (roster h) k) in one_by InBegun n h (act_of_cut k lo hi h) (cut_turn p min) (by_cut_turn Begun n p within min)
     by_acts bytes h (actions.Snap cut) le = by_snaps Begun n p within h (refresh_meant p cut)
     by_acts bytes h (actions.Finish cut) le = by_finishes Begun n p within h (refresh_meant p cut)
     by_acts bytes h actions.Begin le = tt

@@ -8,10 +8,10 @@ use Rattle.ts_model.specs.declared.outcomes.Refusal.{Refusal}
 use Rattle.ts_model.specs.History.{History, position}
 use Rattle.ts_model.specs.States.{State}
 use Rattle.ts_model.specs.Calls.{Act, refuses, returns, makes, Answered, Called}
-use Rattle.ts_sessions.specs.declared.tries.Tried.{Tried}
+use Rattle.ts_sessions.specs.declared.call_outcomes.Attempt.{Attempt}
 use Rattle.ts_sessions.specs.Procedures.{tries, tries_at}
-use Rattle.ts_sessions.specs.Sessions.{Tries, came, has_failed}
-use Rattle.ts_sessions.specs.Tried.{IsTried, stopped_at}
+use Rattle.ts_sessions.specs.Sessions.{Tries, result_of, has_failed}
+use Rattle.ts_sessions.specs.CallOutcomes.{IsTried, stopped_at}
 use Rattle.ts_sessions.specs.Walks.{Walks, Breaks}
 use Rattle.ts_sessions.proofs.StateLaws.{kept}
 
@@ -37,19 +37,19 @@ tries_broken alone (refuses r) found new w = kept found new w
 tries_broken alone (returns b) found new w = kept found new w
 tries_broken alone (makes e b) found new w = inl (kept found new w)
 
-pub answered_tries : {A : Type 0} (alone : Bool) (act : Act A) (found : State) (outcome : Outcome A) (new : State) (result : Result (Tried A) NoMemory) → Answered act found outcome new → IsTried (position new.history) outcome result → Tries alone found (tries_at found.history act) result new
-answered_tries alone act found (outcomes.Done a) new (Ok t) w i = subst (λ x. Walks alone (has_failed x) found (tries_at found.history act) new (came x)) (sym i) (tries_done alone act found a new w)
+pub answered_tries : {A : Type 0} (alone : Bool) (act : Act A) (found : State) (outcome : Outcome A) (new : State) (result : Result (Attempt A) NoMemory) → Answered act found outcome new → IsTried (position new.history) outcome result → Tries alone found (tries_at found.history act) result new
+answered_tries alone act found (outcomes.Done a) new (Ok t) w i = subst (λ x. Walks alone (has_failed x) found (tries_at found.history act) new (result_of x)) (sym i) (tries_done alone act found a new w)
 answered_tries alone act found (outcomes.Done a) new (Err e) w i = absurd i
-answered_tries alone act found (outcomes.Refused r) new (Ok t) w i = subst (λ x. Walks alone (has_failed x) found (tries_at found.history act) new (came x)) (sym i) (tries_refused alone act found r new w)
+answered_tries alone act found (outcomes.Refused r) new (Ok t) w i = subst (λ x. Walks alone (has_failed x) found (tries_at found.history act) new (result_of x)) (sym i) (tries_refused alone act found r new w)
 answered_tries alone act found (outcomes.Refused r) new (Err e) w i = absurd i
-answered_tries alone act found outcomes.DiskFault new (Ok t) w i = subst (λ x. Walks alone (has_failed x) found (tries_at found.history act) new (came x)) (sym i) (tries_failed alone act found new w)
+answered_tries alone act found outcomes.DiskFault new (Ok t) w i = subst (λ x. Walks alone (has_failed x) found (tries_at found.history act) new (result_of x)) (sym i) (tries_failed alone act found new w)
 answered_tries alone act found outcomes.DiskFault new (Err e) w i = absurd i
 answered_tries alone act found outcomes.NoMemory new (Ok t) w i = absurd i
 answered_tries alone act found outcomes.NoMemory new (Err e) w i = tries_broken alone act found new w
 
 -- ---- over the call
 
-pub called_tries : {A : Type 0} (alone : Bool) (old : State) (act : History → Act A) (outcome : Outcome A) (new : State) (result : Result (Tried A) NoMemory) → Called alone old act outcome new → IsTried (position new.history) outcome result → Tries alone old (tries act) result new
+pub called_tries : {A : Type 0} (alone : Bool) (old : State) (act : History → Act A) (outcome : Outcome A) (new : State) (result : Result (Attempt A) NoMemory) → Called alone old act outcome new → IsTried (position new.history) outcome result → Tries alone old (tries act) result new
 called_tries alone old act outcome new (Ok t) c i = record { mid = c.found; first = inr c.finds; rest = answered_tries alone (act c.found.history) c.found outcome new (Ok t) c.answered i }
 called_tries alone old act outcome new (Err e) c i = record { mid = c.found; first = inr c.finds; rest = answered_tries alone (act c.found.history) c.found outcome new (Err e) c.answered i }
 

@@ -23,29 +23,29 @@ use Rattle.ts_sessions.specs.declared.changes.Completion.{Completion}
 use Rattle.ts_sessions.specs.declared.calls.CallOutcome.{CallOutcome}
 use Rattle.ts_sessions.specs.declared.calls.CallOutcome.TheVariants as outcomes
 use Rattle.ts_sessions.specs.declared.calls.Meeting.{Meeting}
-use Rattle.ts_sessions.specs.declared.deeds.Advanced.{Advanced}
+use Rattle.ts_sessions.specs.declared.deeds.DeedOutcome.{DeedOutcome}
 use Rattle.ts_sessions.specs.declared.deeds.AfterLook.{AfterLook}
 use Rattle.ts_sessions.specs.declared.deeds.Deed.{Deed}
 use Rattle.ts_sessions.specs.declared.deeds.Deed.TheVariants as deeds
-use Rattle.ts_sessions.specs.declared.deeds.Finishing.{Finishing}
-use Rattle.ts_sessions.specs.declared.deeds.Finishing.TheVariants as finishing
+use Rattle.ts_sessions.specs.declared.deeds.FinishSource.{FinishSource}
+use Rattle.ts_sessions.specs.declared.deeds.FinishSource.TheVariants as finishing
 use Rattle.ts_sessions.specs.declared.deeds.Next.{Next}
 use Rattle.ts_sessions.specs.declared.deeds.Next.TheVariants as nexts
 use Rattle.ts_sessions.specs.declared.events.NewView.{NewView}
 use Rattle.ts_sessions.specs.declared.follows.Followed.{Followed}
-use Rattle.ts_sessions.specs.declared.refreshes.Asked.{Asked}
-use Rattle.ts_sessions.specs.declared.tries.Tried.{Tried}
-use Rattle.ts_sessions.specs.declared.tries.Tried.TheVariants as tried
-use Rattle.ts_sessions.specs.Deeds.{Advances, CarriesOut, CountsFrom, DeedFits, Goes, IsAsked, Leads, IsLostBy, IsLostNext, Joins, MadeFits, NextFits, at_in, cut_in, led, led_lines, look_left, rest, rest_next, said_once, spent, spent_by, spent_next, view_leaves}
+use Rattle.ts_sessions.specs.declared.refreshes.RefreshRequest.{RefreshRequest}
+use Rattle.ts_sessions.specs.declared.call_outcomes.Attempt.{Attempt}
+use Rattle.ts_sessions.specs.declared.call_outcomes.Attempt.TheVariants as tried
+use Rattle.ts_sessions.specs.Deeds.{Advances, CarriesOut, CountsFrom, DeedFits, Goes, IsAsked, Leads, IsLostBy, IsLostNext, Joins, MadeFits, NextFits, at_in, cut_in, with_line, led_lines, look_left, rest, rest_next, said_once, spent, spent_by, spent_next, view_leaves}
 use Rattle.ts_sessions.specs.Calls.{AnswersDeed, IsFollowed, Meets, MeetsTo, left_after}
 use Rattle.ts_sessions.specs.Places.{Places, Turn}
 use Rattle.ts_sessions.specs.Procedures.{Procedure, ending_as, ends, followed_by, looks, sees, tries_at}
-use Rattle.ts_sessions.specs.Sessions.{Brings, ChangeHolds, EndsAt, Tries, came, changed, has_failed, turn_of}
+use Rattle.ts_sessions.specs.Sessions.{Brings, ChangeHolds, EndsAt, Tries, result_of, places_after, has_failed, turn_of}
 use Rattle.ts_sessions.specs.Sound.{IsThere, number_at, view_number}
 use Rattle.ts_sessions.specs.Step.{after_cut, after_line, after_view, cuts_refresh, finishes_refresh, view_made}
 use Rattle.ts_sessions.specs.Held.{GoesOn}
 use Rattle.ts_sessions.specs.Holding.{lost_stays}
-use Rattle.ts_sessions.specs.Tried.{IsTried}
+use Rattle.ts_sessions.specs.CallOutcomes.{IsTried}
 use Rattle.ts_sessions.specs.Walks.{Walks, Breaks, Sees}
 use Rattle.ts_sessions.proofs.CallWalks.{answered_tries}
 use Rattle.ts_sessions.proofs.HoldLaws.{goes_ends}
@@ -64,7 +64,7 @@ walk_leads alone failed old first mid a next w = record {
   breaks = λ new v. break_together alone failed old first mid a next new w v;
 }
 
-pub broken_off : {T J : Type 0} (alone : Bool) (old : State) (p : Places) (read : ℕ) (deed : Deed T J) (result : Result (Advanced T J) NoMemory) (new : State) (before after : ℕ) → IsErr result → Breaks alone old (rest p read old.history deed) new → before ≤ after → Advances alone old p read deed result new before after
+pub broken_off : {T J : Type 0} (alone : Bool) (old : State) (p : Places) (read : ℕ) (deed : Deed T J) (result : Result (DeedOutcome T J) NoMemory) (new : State) (before after : ℕ) → IsErr result → Breaks alone old (rest p read old.history deed) new → before ≤ after → Advances alone old p read deed result new before after
 broken_off alone old p read deed (Ok a) new before after i b rose = absurd (true≢false (sym i))
 broken_off alone old p read deed (Err e) new before after i b rose = (b, rose)
 
@@ -80,14 +80,14 @@ tried_broken {A} {T} {J} shown alone old deed like first k result new i e same b
     call_broken shown alone old deed result new i (λ p read. subst (λ (d : Deed T J). Breaks alone old (rest p read old.history d) new) (sym e) (subst (λ x. Breaks alone old x new) (sym (same p read)) (breaks_first alone old first (k p read) new b)))
 
 -- a call that may make an event
-pub tried_meets : {A T J : Type 0} (shown : Shown T J) (alone : Bool) (old : State) (deed like : Deed T J) (first : Procedure (Result A Refusal)) (k : Places → ℕ → Result A Refusal → Procedure (Turn Places)) (t : Tried A) (r : Result A Refusal) (failed : Bool) (outcome : CallOutcome T) (new : State) → deed ≡ like → ((p : Places) (read : ℕ) → rest p read old.history like ≡ followed_by first (k p read)) → ((p : Places) (read : ℕ) → left_after p read new.history outcome ≡ k p read r) → Tries alone old first (Ok t) new → failed ≡ has_failed t → r ≡ came t → AnswersDeed shown new.history like outcome → Meets shown alone old deed (record { outcome = outcome; failed = failed }) new
+pub tried_meets : {A T J : Type 0} (shown : Shown T J) (alone : Bool) (old : State) (deed like : Deed T J) (first : Procedure (Result A Refusal)) (k : Places → ℕ → Result A Refusal → Procedure (Turn Places)) (t : Attempt A) (r : Result A Refusal) (failed : Bool) (outcome : CallOutcome T) (new : State) → deed ≡ like → ((p : Places) (read : ℕ) → rest p read old.history like ≡ followed_by first (k p read)) → ((p : Places) (read : ℕ) → left_after p read new.history outcome ≡ k p read r) → Tries alone old first (Ok t) new → failed ≡ has_failed t → r ≡ result_of t → AnswersDeed shown new.history like outcome → Meets shown alone old deed (record { outcome = outcome; failed = failed }) new
 tried_meets {A} {T} {J} shown alone old deed like first k t r failed outcome new e same leaves w f j answers =
     subst (λ (d : Deed T J). Meets shown alone old d (record { outcome = outcome; failed = failed }) new) (sym e)
     (record {
       leads = λ p read.
           subst (λ x. Leads alone x old (rest p read old.history like) new (left_after p read new.history outcome)) (sym f)
           (subst (λ x. Leads alone (has_failed t) old x new (left_after p read new.history outcome)) (sym (same p read))
-          (subst (λ x. Leads alone (has_failed t) old (followed_by first (k p read)) new x) (sym (leaves p read ∙ ap (k p read) j)) (walk_leads alone (has_failed t) old first new (came t) (k p read) w)));
+          (subst (λ x. Leads alone (has_failed t) old (followed_by first (k p read)) new x) (sym (leaves p read ∙ ap (k p read) j)) (walk_leads alone (has_failed t) old first new (result_of t) (k p read) w)));
       answers = answers;
     })
 
@@ -102,14 +102,14 @@ met_goes shown alone old p read deed m f mid before after k w = record {
 }
 
 -- the finish of a job that fits
-pub job_tries : {T J : Type 0} (shown : Shown T J) (alone : Bool) (old : State) (deed : Deed T J) (job : J) (f : Finishing) (result : Result (Tried ℕ) NoMemory) (new : State) → DeedFits shown deed old → deed ≡ deeds.Finish job f → Tries alone old (finishes_refresh (shown.cut_of job) (shown.snap_of job)) result new → Tries alone old (finishes_refresh (cut_in f) (at_in f)) result new
+pub job_tries : {T J : Type 0} (shown : Shown T J) (alone : Bool) (old : State) (deed : Deed T J) (job : J) (f : FinishSource) (result : Result (Attempt ℕ) NoMemory) (new : State) → DeedFits shown deed old → deed ≡ deeds.Finish job f → Tries alone old (finishes_refresh (shown.cut_of job) (shown.snap_of job)) result new → Tries alone old (finishes_refresh (cut_in f) (at_in f)) result new
 job_tries shown alone old deed job f result new fits e w =
     let k = subst (λ d. DeedFits shown d old) e fits in
     subst (λ c. Tries alone old (finishes_refresh c (at_in f)) result new) k.1 (subst (λ n. Tries alone old (finishes_refresh (shown.cut_of job) n) result new) k.2 w)
 
 -- ---- rows that were read
 
-unspent_by : (f : Finishing) → spent_by 0 f ≡ 0
+unspent_by : (f : FinishSource) → spent_by 0 f ≡ 0
 unspent_by (finishing.Begun begun at) = refl
 unspent_by (finishing.Held cut at) = refl
 
@@ -127,24 +127,24 @@ abbrev pub led_turn : Option Said → Turn Places → Turn Places
 led_turn None y = y
 led_turn (Some line) y = after_line line y
 
-led_walks : (line : Option Said) (alone failed : Bool) (old : State) (procedure : Procedure (Turn Places)) (new : State) (y : Turn Places) → Walks alone failed old procedure new y → Walks alone failed old (led line procedure) new (led_turn line y)
+led_walks : (line : Option Said) (alone failed : Bool) (old : State) (procedure : Procedure (Turn Places)) (new : State) (y : Turn Places) → Walks alone failed old procedure new y → Walks alone failed old (with_line line procedure) new (led_turn line y)
 led_walks None alone failed old procedure new y w = w
 led_walks (Some line) alone failed old procedure new y w = walks_as (after_line line) alone failed old procedure new y w
 
-led_breaks : (line : Option Said) (alone : Bool) (old : State) (procedure : Procedure (Turn Places)) (new : State) → Breaks alone old procedure new → Breaks alone old (led line procedure) new
+led_breaks : (line : Option Said) (alone : Bool) (old : State) (procedure : Procedure (Turn Places)) (new : State) → Breaks alone old procedure new → Breaks alone old (with_line line procedure) new
 led_breaks None alone old procedure new b = b
 led_breaks (Some line) alone old procedure new b = breaks_first alone old procedure (λ a. ends (after_line line a)) new b
 
 pub joined_turn : {T J : Type 0} (line : Option Said) (p : Places) (read : ℕ) (t u : Completion T J) → u.said ≡ led_lines line t.said → u.change ≡ t.change → led_turn line (turn_of p read t) ≡ turn_of p read u
-joined_turn None p read t u s c = sym (ap (λ q. record { places = changed q p; said = u.said; reads = read }) c ∙ ap (λ q. record { places = changed t.change p; said = q; reads = read }) s)
-joined_turn (Some line) p read t u s c = sym (ap (λ q. record { places = changed q p; said = u.said; reads = read }) c ∙ ap (λ q. record { places = changed t.change p; said = q; reads = read }) s)
+joined_turn None p read t u s c = sym (ap (λ q. record { places = places_after q p; said = u.said; reads = read }) c ∙ ap (λ q. record { places = places_after t.change p; said = q; reads = read }) s)
+joined_turn (Some line) p read t u s c = sym (ap (λ q. record { places = places_after q p; said = u.said; reads = read }) c ∙ ap (λ q. record { places = places_after t.change p; said = q; reads = read }) s)
 
 -- what follows a deed came to its end
-after_walk : {T J : Type 0} (alone : Bool) (old : State) (procedure : Procedure (Turn Places)) (p : Places) (total : ℕ) (a : Advanced T J) (t : Completion T J) (mid : State) (left : Procedure (Turn Places)) (result : Result (Completion T J) NoMemory) (new : State) → Leads alone a.failed old procedure mid (led a.said left) → Walks alone t.failed mid left new (turn_of p total t) → Joins a.said a.failed t result → EndsAt alone old procedure p total result new
+after_walk : {T J : Type 0} (alone : Bool) (old : State) (procedure : Procedure (Turn Places)) (p : Places) (total : ℕ) (a : DeedOutcome T J) (t : Completion T J) (mid : State) (left : Procedure (Turn Places)) (result : Result (Completion T J) NoMemory) (new : State) → Leads alone a.failed old procedure mid (with_line a.said left) → Walks alone t.failed mid left new (turn_of p total t) → Joins a.said a.failed t result → EndsAt alone old procedure p total result new
 after_walk alone old procedure p total a t mid left (Ok u) new w v j =
     subst (λ z. Walks alone z old procedure new (turn_of p total u)) (sym j.2)
     (w.walks t.failed new (turn_of p total u)
-    (subst (λ z. Walks alone t.failed mid (led a.said left) new z) (joined_turn a.said p total t u j.0 j.1) (led_walks a.said alone t.failed mid left new (turn_of p total t) v)))
+    (subst (λ z. Walks alone t.failed mid (with_line a.said left) new z) (joined_turn a.said p total t u j.0 j.1) (led_walks a.said alone t.failed mid left new (turn_of p total t) v)))
 after_walk alone old procedure p total a t mid left (Err e) new w v j =
     w.breaks new (led_breaks a.said alone mid left new (walks_break alone t.failed mid left new (turn_of p total t) v))
 
@@ -157,7 +157,7 @@ pub ended : {T J : Type 0} (alone : Bool) (s : State) (p : Places) (read : ℕ) 
 ended alone s p read next t n e f = subst (λ q. CarriesOut alone s p read q (Ok t) s n n) (sym e) (record { total = read; ends = (f, refl, refl); counted = λ from had. had; rose = omega arith })
 
 -- a statement that went on after a deed
-pub went_on : {T J : Type 0} (alone : Bool) (old : State) (p : Places) (read : ℕ) (next : Next T J) (deed : Deed T J) (a : Advanced T J) (mid : State) (t : Completion T J) (result : Result (Completion T J) NoMemory) (new : State) (before between after : ℕ) → next ≡ nexts.Deed deed → Goes alone old p read deed a mid before between → ((had : ℕ) → CarriesOut alone mid p had a.next (Ok t) new between after) → Joins a.said a.failed t result → CarriesOut alone old p read next result new before after
+pub went_on : {T J : Type 0} (alone : Bool) (old : State) (p : Places) (read : ℕ) (next : Next T J) (deed : Deed T J) (a : DeedOutcome T J) (mid : State) (t : Completion T J) (result : Result (Completion T J) NoMemory) (new : State) (before between after : ℕ) → next ≡ nexts.Deed deed → Goes alone old p read deed a mid before between → ((had : ℕ) → CarriesOut alone mid p had a.next (Ok t) new between after) → Joins a.said a.failed t result → CarriesOut alone old p read next result new before after
 went_on alone old p read next deed a mid t result new before between after e w z j =
     let later = z w.read_then in
     let up : between ≤ after = later.rose in
@@ -175,7 +175,7 @@ broken_here alone old p read next deed e (Ok t) new before after is i w = absurd
 broken_here alone old p read next deed e (Err x) new before after is i w =
     subst (λ q. CarriesOut alone old p read q (Err x) new before after) (sym is) (record { total = 0; ends = w.0; counted = tt; rose = w.1 })
 
-pub broken_later : {T J : Type 0} (alone : Bool) (old : State) (p : Places) (read : ℕ) (next : Next T J) (deed : Deed T J) (a : Advanced T J) (mid : State) (e : NoMemory) (result : Result (Completion T J) NoMemory) (new : State) (before between after : ℕ) → next ≡ nexts.Deed deed → IsErr result → Goes alone old p read deed a mid before between → ((had : ℕ) → CarriesOut alone mid p had a.next (Err e) new between after) → CarriesOut alone old p read next result new before after
+pub broken_later : {T J : Type 0} (alone : Bool) (old : State) (p : Places) (read : ℕ) (next : Next T J) (deed : Deed T J) (a : DeedOutcome T J) (mid : State) (e : NoMemory) (result : Result (Completion T J) NoMemory) (new : State) (before between after : ℕ) → next ≡ nexts.Deed deed → IsErr result → Goes alone old p read deed a mid before between → ((had : ℕ) → CarriesOut alone mid p had a.next (Err e) new between after) → CarriesOut alone old p read next result new before after
 broken_later alone old p read next deed a mid e (Ok t) new before between after is i w z = absurd (true≢false (sym i))
 broken_later alone old p read next deed a mid e (Err x) new before between after is i w z =
     let later = z w.read_then in
@@ -217,7 +217,7 @@ found_leads alone failed old found f mid left i w = record {
   breaks = λ new b. record { mid = found; first = inr i; rest = w.breaks new b };
 }
 
-made_same : (def : ViewDef) (filled : Bool) (found : State) (outcome : Outcome ℕ) (pos : ℕ) (t : Tried ℕ) (mid : State) (name : List ℕ) (min : ℤ) (p : Places) → Answered (making_view def found.history) found outcome mid → IsTried pos outcome (Ok t) → name ≡ def.name → min ≡ first_of def.fold.width → after_view p (length (roster found.history).views) def filled (came t) ≡ view_leaves p (number_at mid.history name) min filled (came t)
+made_same : (def : ViewDef) (filled : Bool) (found : State) (outcome : Outcome ℕ) (pos : ℕ) (t : Attempt ℕ) (mid : State) (name : List ℕ) (min : ℤ) (p : Places) → Answered (making_view def found.history) found outcome mid → IsTried pos outcome (Ok t) → name ≡ def.name → min ≡ first_of def.fold.width → after_view p (length (roster found.history).views) def filled (result_of t) ≡ view_leaves p (number_at mid.history name) min filled (result_of t)
 made_same def filled found outcome pos (tried.Done k) mid name min p w i e f =
     let n = length (roster found.history).views in
     let made = was_made def found k mid (subst (λ o. Answered (making_view def found.history) found o mid) (done_outcome pos outcome k i) w) in
@@ -226,21 +226,21 @@ made_same def filled found outcome pos (tried.Done k) mid name min p w i e f =
 made_same def filled found outcome pos (tried.Refused r) mid name min p w i e f = refl
 made_same def filled found outcome pos (tried.Failed r) mid name min p w i e f = refl
 
-pub view_leads : (alone : Bool) (old : State) (def : ViewDef) (filled : Bool) (outcome : Outcome ℕ) (pos : ℕ) (t : Tried ℕ) (mid : State) (name : List ℕ) (min : ℤ) (p : Places) → Called alone old (making_view def) outcome mid → pos ≡ position mid.history → IsTried pos outcome (Ok t) → name ≡ def.name → min ≡ first_of def.fold.width → Leads alone (has_failed t) old (looks (λ g. followed_by (tries_at g (making_view def g)) (after_view p (length (roster g).views) def filled))) mid (view_leaves p (number_at mid.history name) min filled (came t))
+pub view_leads : (alone : Bool) (old : State) (def : ViewDef) (filled : Bool) (outcome : Outcome ℕ) (pos : ℕ) (t : Attempt ℕ) (mid : State) (name : List ℕ) (min : ℤ) (p : Places) → Called alone old (making_view def) outcome mid → pos ≡ position mid.history → IsTried pos outcome (Ok t) → name ≡ def.name → min ≡ first_of def.fold.width → Leads alone (has_failed t) old (looks (λ g. followed_by (tries_at g (making_view def g)) (after_view p (length (roster g).views) def filled))) mid (view_leaves p (number_at mid.history name) min filled (result_of t))
 view_leads alone old def filled outcome pos t mid name min p c e i n m =
     let h = c.found.history in
     let w = answered_tries alone (making_view def h) c.found outcome mid (Ok t) c.answered (subst (λ x. IsTried x outcome (Ok t)) e i) in
     subst (λ q. Leads alone (has_failed t) old (looks (λ g. followed_by (tries_at g (making_view def g)) (after_view p (length (roster g).views) def filled))) mid q) (made_same def filled c.found outcome pos t mid name min p c.answered i n m)
     (found_leads alone (has_failed t) old c.found (λ g. followed_by (tries_at g (making_view def g)) (after_view p (length (roster g).views) def filled)) mid _ c.finds
-    (walk_leads alone (has_failed t) c.found (tries_at h (making_view def h)) mid (came t) (after_view p (length (roster h).views) def filled) w))
+    (walk_leads alone (has_failed t) c.found (tries_at h (making_view def h)) mid (result_of t) (after_view p (length (roster h).views) def filled) w))
 
-pub view_fits : (alone : Bool) (old : State) (def : ViewDef) (outcome : Outcome ℕ) (pos : ℕ) (t : Tried ℕ) (mid : State) (name : List ℕ) → Called alone old (making_view def) outcome mid → IsTried pos outcome (Ok t) → name ≡ def.name → MadeFits (came t) mid.history name
+pub view_fits : (alone : Bool) (old : State) (def : ViewDef) (outcome : Outcome ℕ) (pos : ℕ) (t : Attempt ℕ) (mid : State) (name : List ℕ) → Called alone old (making_view def) outcome mid → IsTried pos outcome (Ok t) → name ≡ def.name → MadeFits (result_of t) mid.history name
 view_fits alone old def outcome pos (tried.Done k) mid name c i e = let w = made_is_named alone old def outcome pos (tried.Done k) k mid name c i refl e in (w.named, w.there)
 view_fits alone old def outcome pos (tried.Refused r) mid name c i e = tt
 view_fits alone old def outcome pos (tried.Failed r) mid name c i e = tt
 
 -- an aggregate that is made
-pub view_meets : {T J : Type 0} (shown : Shown T J) (alone : Bool) (old : State) (deed : Deed T J) (def : ViewDef) (filled : Bool) (outcome : Outcome ℕ) (pos : ℕ) (t : Tried ℕ) (r : Result ℕ Refusal) (failed : Bool) (new : NewView) (mid : State) → deed ≡ deeds.View def filled → Called alone old (making_view def) outcome mid → pos ≡ position mid.history → IsTried pos outcome (Ok t) → failed ≡ has_failed t → r ≡ came t → new.name ≡ def.name → new.width ≡ def.fold.width → Meets shown alone old deed (record { outcome = outcomes.View new filled r; failed = failed }) mid
+pub view_meets : {T J : Type 0} (shown : Shown T J) (alone : Bool) (old : State) (deed : Deed T J) (def : ViewDef) (filled : Bool) (outcome : Outcome ℕ) (pos : ℕ) (t : Attempt ℕ) (r : Result ℕ Refusal) (failed : Bool) (new : NewView) (mid : State) → deed ≡ deeds.View def filled → Called alone old (making_view def) outcome mid → pos ≡ position mid.history → IsTried pos outcome (Ok t) → failed ≡ has_failed t → r ≡ result_of t → new.name ≡ def.name → new.width ≡ def.fold.width → Meets shown alone old deed (record { outcome = outcomes.View new filled r; failed = failed }) mid
 view_meets {T} {J} shown alone old deed def filled outcome pos t r failed new mid e c at i f j name width =
     subst (λ (d : Deed T J). Meets shown alone old d (record { outcome = outcomes.View new filled r; failed = failed }) mid) (sym e)
     (record {
@@ -257,7 +257,7 @@ view_meets {T} {J} shown alone old deed def filled outcome pos t r failed new mi
     })
 
 -- the number of an aggregate that was made
-pub found_meets : {T J : Type 0} (shown : Shown T J) (alone : Bool) (old : State) (deed : Deed T J) (new : NewView) (made : ℕ) (asked : Asked) (Reports : History → Type 0) (mid : State) → deed ≡ deeds.Fill new made → IsThere old.history new.name → Looked alone old Reports mid → asked ≡ record { view = number_at old.history new.name; lo = None; hi = None; min = first_of new.width } → Meets shown alone old deed (record { outcome = outcomes.Found asked made; failed = false }) mid
+pub found_meets : {T J : Type 0} (shown : Shown T J) (alone : Bool) (old : State) (deed : Deed T J) (new : NewView) (made : ℕ) (asked : RefreshRequest) (Reports : History → Type 0) (mid : State) → deed ≡ deeds.Fill new made → IsThere old.history new.name → Looked alone old Reports mid → asked ≡ record { view = number_at old.history new.name; lo = None; hi = None; min = first_of new.width } → Meets shown alone old deed (record { outcome = outcomes.Found asked made; failed = false }) mid
 found_meets {T} {J} shown alone old deed new made asked Reports mid e there looked is =
     let n = number_at old.history new.name in
     let min = first_of new.width in

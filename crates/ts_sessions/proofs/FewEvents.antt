@@ -9,7 +9,7 @@ use Rattle.ts_model.specs.declared.outcomes.CutDone.{CutDone}
 use Rattle.ts_model.specs.declared.outcomes.CutDone.TheVariants.{Cut as CutMade, Nothing as NothingDone}
 use Rattle.ts_model.specs.declared.outcomes.Refusal.{Refusal}
 use Rattle.ts_model.specs.declared.views.ViewDef.{ViewDef}
-use Rattle.ts_model.specs.Calls.{Act, refuses as refuses_call, returns, makes, committing, cutting, finishing, making_hyper, making_table, making_view, setting_mode}
+use Rattle.ts_model.specs.Calls.{Act, refuses as refuses_call, returns, makes, act_of_commit, act_of_cut, act_of_finish, making_hyper, making_table, making_view, setting_mode}
 use Rattle.ts_model.specs.History.{History, position}
 use Rattle.ts_model.specs.Roster.{roster, view_of}
 use Rattle.ts_model.specs.States.{State}
@@ -26,7 +26,7 @@ use Rattle.ts_sessions.specs.LineLaws.{AtMost, LinesMakeFewEvents, OnlyCommitsMa
 use Rattle.ts_sessions.specs.Made.{made_in}
 use Rattle.ts_sessions.specs.Places.{Block, none, writing, reading, Places, Turn, enters, held_for}
 use Rattle.ts_sessions.specs.Procedures.{Procedure, sees, adds, ends, followed_by, ending_as, tries_at, looks}
-use Rattle.ts_sessions.specs.Step.{Taken, acts, after_cut, after_line, after_snapshot, after_view, block_refusal, changes, closes, commits, committed, cut_turn, finish_turn, finishes, finishes_held, kind_of, least_start, named, named_first, named_here, read_at, refresh_meant, refreshed, refreshes, reported, step, taken, view_made, as_read, passes_block, performs}
+use Rattle.ts_sessions.specs.Step.{Taken, acts, after_cut, after_line, after_snapshot, after_view, block_refusal, changes, closes, commits, turn_of_commit, cut_turn, finish_turn, finishes, finishes_held, kind_of, least_start, turn_of_names, named_first, named_here, read_at, refresh_meant, turn_of_refresh, refreshes, turn_of_line, step, snapshot_taken, view_made, as_read, passes_block, performs}
 use Rattle.ts_sessions.specs.Steady.{IsEnded}
 use Rattle.ts_sessions.specs.Walks.{Walks, Sees}
 use Rattle.ts_sessions.proofs.MadeLaws.{step_made}
@@ -84,16 +84,16 @@ to_three procedure t = more 2 procedure (more 1 procedure t)
 -- ---- refreshes
 
 few_snapshot : (p : Places) (c : ℕ) (span : Span) (min : ℤ) (t : Result Taken Refusal) → AtMost 1 (after_snapshot p c span min t)
-few_snapshot p c span min (Ok t) = λ h. one h (finishing c t.at h) (refreshed p c span min t)
+few_snapshot p c span min (Ok t) = λ h. one h (act_of_finish c t.at h) (turn_of_refresh p c span min t)
 few_snapshot p c span min (Err r) = tt
 
 few_cut : (p : Places) (min : ℤ) (r : Result CutDone Refusal) → AtMost 1 (after_cut p min r)
-few_cut p min (Ok (CutMade c span)) = λ h. few_snapshot _ c span min (taken c h)
+few_cut p min (Ok (CutMade c span)) = λ h. few_snapshot _ c span min (snapshot_taken c h)
 few_cut p min (Ok (NothingDone at)) = tt
 few_cut p min (Err r) = tt
 
-few_refresh : (p : Places) (n : ℕ) (lo hi : Option ℤ) (min : ℤ) (h : History) → AtMost 2 (followed_by (tries_at h (cutting n lo hi h)) (after_cut p min))
-few_refresh p n lo hi min h = most_call 1 h (cutting n lo hi h) (after_cut p min) (few_cut p min)
+few_refresh : (p : Places) (n : ℕ) (lo hi : Option ℤ) (min : ℤ) (h : History) → AtMost 2 (followed_by (tries_at h (act_of_cut n lo hi h)) (after_cut p min))
+few_refresh p n lo hi min h = most_call 1 h (act_of_cut n lo hi h) (after_cut p min) (few_cut p min)
 
 few_filled : (p : Places) (n : ℕ) (min : ℤ) (k : ℕ) (filled : Bool) → AtMost 2 (view_made p n min k filled)
 few_filled p n min k false = tt
@@ -106,7 +106,7 @@ few_view p n def filled (Err r) = tt
 -- ---- actions
 
 few_commits : (p after : Places) (h : History) (ops : List Op) → AtMost 3 (commits p after h ops)
-few_commits p after h ops = to_three (commits p after h ops) (one h (committing ops h) (committed p after))
+few_commits p after h ops = to_three (commits p after h ops) (one h (act_of_commit ops h) (turn_of_commit p after))
 
 few_changes : (p : Places) (bytes : ℕ) (h : History) (op : Op) (b : Block) → AtMost 3 (changes p bytes h op b)
 few_changes p bytes h op none = few_commits p p h (op ∷ [])
@@ -121,20 +121,20 @@ few_closes p h (reading at) = tt
 
 few_held : (p : Places) (h : History) (c : ℕ) (o : Option ℕ) → AtMost 3 (finishes_held p h c o)
 few_held p h c None = tt
-few_held p h c (Some at) = to_three (finishes_held p h c (Some at)) (one h (finishing c at h) (finish_turn p c at))
+few_held p h c (Some at) = to_three (finishes_held p h c (Some at)) (one h (act_of_finish c at h) (finish_turn p c at))
 
 few_finishes : (p : Places) (h : History) (o : Option ℕ) → AtMost 3 (finishes p h o)
 few_finishes p h None = tt
 few_finishes p h (Some c) = few_held p h c (held_for c p.held)
 
 few_acts : (p : Places) (bytes : ℕ) (h : History) (a : Action) → AtMost 3 (acts p bytes h a)
-few_acts p bytes h (actions.Table def) = to_three (acts p bytes h (actions.Table def)) (one h (making_table def h) (reported p said.Table))
-few_acts p bytes h (actions.Hyper t hyper) = to_three (acts p bytes h (actions.Hyper t hyper)) (one h (making_hyper t hyper h) (reported p said.Hypertable))
+few_acts p bytes h (actions.Table def) = to_three (acts p bytes h (actions.Table def)) (one h (making_table def h) (turn_of_line p said.Table))
+few_acts p bytes h (actions.Hyper t hyper) = to_three (acts p bytes h (actions.Hyper t hyper)) (one h (making_hyper t hyper h) (turn_of_line p said.Hypertable))
 few_acts p bytes h (actions.View def filled) = let n = length (roster h).views in most_call 2 h (making_view def h) (after_view p n def filled) (few_view p n def filled)
-few_acts p bytes h (actions.Mode n only) = to_three (acts p bytes h (actions.Mode n only)) (one h (setting_mode n only h) (reported p said.Mode))
+few_acts p bytes h (actions.Mode n only) = to_three (acts p bytes h (actions.Mode n only)) (one h (setting_mode n only h) (turn_of_line p said.Mode))
 few_acts p bytes h (actions.Change op) = few_changes p bytes h op p.block
 few_acts p bytes h (actions.Refresh n lo hi) = more 2 (acts p bytes h (actions.Refresh n lo hi)) (few_refresh p n lo hi (least_start (view_of (roster h) n)) h)
-few_acts p bytes h (actions.Cut n lo hi) = to_three (acts p bytes h (actions.Cut n lo hi)) (one h (cutting n lo hi h) (cut_turn p (least_start (view_of (roster h) n))))
+few_acts p bytes h (actions.Cut n lo hi) = to_three (acts p bytes h (actions.Cut n lo hi)) (one h (act_of_cut n lo hi h) (cut_turn p (least_start (view_of (roster h) n))))
 few_acts p bytes h (actions.Snap cut) = tt
 few_acts p bytes h (actions.Finish cut) = few_finishes p h (refresh_meant p cut)
 few_acts p bytes h actions.Begin = tt
@@ -175,7 +175,7 @@ ended_few (ends a) i = tt
 
 -- a statement that waits, gives up, or asks only ends
 ended_here : (p : Places) (ops : List Op) (n bytes : ℕ) (stmt : Stmt) → ((h : History) → IsEnded (acts (enters (writing ops n) p) bytes h (action_of (roster h) stmt))) → AtMost 0 (named_here (enters (writing ops n) p) bytes stmt)
-ended_here p ops n bytes stmt i = λ h. let q = enters (writing ops n) p in ended_few (named q bytes stmt h) (ended_named q bytes stmt h (i h))
+ended_here p ops n bytes stmt i = λ h. let q = enters (writing ops n) p in ended_few (turn_of_names q bytes stmt h) (ended_named q bytes stmt h (i h))
 
 pub only_commits_make_events : OnlyCommitsMakeEvents
 only_commits_make_events p ops n bytes (stmts.Table name cols) c = tt

@@ -32,12 +32,12 @@ use Rattle.ts_sessions.specs.declared.deeds.AfterLook.TheVariants as looks_for
 use Rattle.ts_sessions.specs.declared.deeds.Deed.TheVariants as deeds
 use Rattle.ts_sessions.specs.declared.deeds.Next.{Next}
 use Rattle.ts_sessions.specs.declared.deeds.Next.TheVariants as nexts
-use Rattle.ts_sessions.specs.Deeds.{CarriesOut, CountsFrom, Leads, NextFits, Opens, OpensTo, StandsFor, closing, holding, opening, rest_next, said_once, spent_next, taken_next}
+use Rattle.ts_sessions.specs.Deeds.{CarriesOut, CountsFrom, Leads, NextFits, Opens, OpensTo, StandsFor, end_of_block, hold_of, begin_write_block, rest_next, said_once, spent_next, taken_next}
 use Rattle.ts_sessions.specs.Places.{Block, none, writing, reading, Places, Turn, enters, queue_count, refuses, turns}
 use Rattle.ts_sessions.specs.Procedures.{Procedure, sees, looks, ends}
 use Rattle.ts_sessions.specs.Held.{HoldsBlock, block_of, most_queued}
 use Rattle.ts_sessions.specs.Sessions.{Counts, Ends, EndsAt, turn_of}
-use Rattle.ts_sessions.specs.Step.{answers, block_refusal, closes, commits, given_up, in_form, kind_of, makes_event, named, named_first, named_here, performs, prints, read_at, refresh_meant, shown_in, snaps}
+use Rattle.ts_sessions.specs.Step.{answers, block_refusal, closes, commits, given_up, in_form, kind_of, makes_event, turn_of_names, named_first, named_here, performs, prints, read_at, refresh_meant, shown_in, snaps}
 use Rattle.ts_sessions.specs.Walks.{Breaks, Sees}
 use Rattle.ts_sessions.proofs.NamedLaws.{looks_once}
 use Rattle.ts_sessions.proofs.BlockWalks.{begins_outside, snaps_outside}
@@ -70,17 +70,17 @@ saw_leads alone old mid shown f s = record {
 here_in : (p : Places) (bytes : ℕ) (stmt : Stmt) → makes_event (kind_of stmt) ≡ false → performs p bytes stmt ≡ named_here p bytes stmt
 here_in p bytes stmt e = ap (λ t. cond t (named_first p bytes stmt) (named_here p bytes stmt)) (looks_once p.block (kind_of stmt) e)
 
-pub performs_looks : (alone : Bool) (s : State) (p : Places) (bytes : ℕ) (stmt : Stmt) (g : History → Procedure (Turn Places)) → makes_event (kind_of stmt) ≡ false → ((h : History) → Begins s.history h → named p bytes stmt (read_at p.block h) ≡ g h) → Leads alone false s (performs p bytes stmt) s (looks g)
+pub performs_looks : (alone : Bool) (s : State) (p : Places) (bytes : ℕ) (stmt : Stmt) (g : History → Procedure (Turn Places)) → makes_event (kind_of stmt) ≡ false → ((h : History) → Begins s.history h → turn_of_names p bytes stmt (read_at p.block h) ≡ g h) → Leads alone false s (performs p bytes stmt) s (looks g)
 performs_looks alone s p bytes stmt g e same =
     subst (λ d. Leads alone false s d s (looks g)) (sym (here_in p bytes stmt e))
-    (looks_leads alone s (λ h. prints p.block (kind_of stmt) (refusal_of (position h) (roster h) stmt)) (λ h. named p bytes stmt (read_at p.block h)) g same)
+    (looks_leads alone s (λ h. prints p.block (kind_of stmt) (refusal_of (position h) (roster h) stmt)) (λ h. turn_of_names p bytes stmt (read_at p.block h)) g same)
 
 -- a statement that only ends
-pub performs_ends : (alone : Bool) (s : State) (p : Places) (bytes : ℕ) (stmt : Stmt) (y : Turn Places) → makes_event (kind_of stmt) ≡ false → named p bytes stmt (read_at p.block s.history) ≡ ends y → Leads alone false s (performs p bytes stmt) s (ends y)
+pub performs_ends : (alone : Bool) (s : State) (p : Places) (bytes : ℕ) (stmt : Stmt) (y : Turn Places) → makes_event (kind_of stmt) ≡ false → turn_of_names p bytes stmt (read_at p.block s.history) ≡ ends y → Leads alone false s (performs p bytes stmt) s (ends y)
 performs_ends alone s p bytes stmt y e i =
     subst (λ d. Leads alone false s d s (ends y)) (sym (here_in p bytes stmt e))
     (subst (λ d. Leads alone false s (named_here p bytes stmt) s d) i
-    (saw_leads alone s s (λ h. prints p.block (kind_of stmt) (refusal_of (position h) (roster h) stmt)) (λ h. named p bytes stmt (read_at p.block h)) (inl refl)))
+    (saw_leads alone s s (λ h. prints p.block (kind_of stmt) (refusal_of (position h) (roster h) stmt)) (λ h. turn_of_names p bytes stmt (read_at p.block h)) (inl refl)))
 
 -- ---- what comes first
 
@@ -147,7 +147,7 @@ pub first_opens : {T J : Type 0} (shown : Shown T J) (bytes : ℕ) (alone : Bool
 first_opens shown bytes alone s p stmt like result next n short e i k = subst (λ x. OpensTo shown bytes alone s (performs p bytes x) p result s n n) (sym e) (opens_if shown bytes alone s (performs p bytes like) p result next n short i (k.stands alone) k.fits)
 
 module _ {T J : Type 0} (shown : Shown T J) (bytes : ℕ) (s : State) (p : Places) where
-  pub begins_first : IsFirst shown bytes s p stmts.Begin opening
+  pub begins_first : IsFirst shown bytes s p stmts.Begin begin_write_block
   begins_first = record {
     stands = λ alone. performs_ends alone s p bytes stmts.Begin (turns (enters (writing [] 0) p) said.Begin) refl refl;
     fits = record { change = empty_holds shown.stands s.history; stands = refl };
@@ -156,7 +156,7 @@ module _ {T J : Type 0} (shown : Shown T J) (bytes : ℕ) (s : State) (p : Place
 
   pub reads_first : block_refusal p.block kinds.BeginsRead ≡ None → IsFirst shown bytes s p stmts.BeginRead (nexts.Deed (deeds.Look looks_for.BeginRead))
   reads_first pass = record {
-    stands = λ alone. performs_looks alone s p bytes stmts.BeginRead (λ h. ends (turns (enters (reading (position h)) p) (said.BeginRead (position h)))) refl (λ h on. ap (λ b. named p bytes stmts.BeginRead (read_at b h)) (begins_outside p.block pass));
+    stands = λ alone. performs_looks alone s p bytes stmts.BeginRead (λ h. ends (turns (enters (reading (position h)) p) (said.BeginRead (position h)))) refl (λ h on. ap (λ b. turn_of_names p bytes stmts.BeginRead (read_at b h)) (begins_outside p.block pass));
     fits = tt;
     taken = refl;
   }
@@ -168,29 +168,29 @@ module _ {T J : Type 0} (shown : Shown T J) (bytes : ℕ) (s : State) (p : Place
     taken = refl;
   }
 
-  pub snaps_first : (number : Option ℤ) → block_refusal p.block kinds.Snaps ≡ None → IsFirst shown bytes s p (stmts.Snap number) (nexts.Deed (holding (refresh_meant p number)))
+  pub snaps_first : (number : Option ℤ) → block_refusal p.block kinds.Snaps ≡ None → IsFirst shown bytes s p (stmts.Snap number) (nexts.Deed (hold_of (refresh_meant p number)))
   snaps_first number pass = of_meant (refresh_meant p number) refl
     where
-      of_meant : (m : Option ℕ) → refresh_meant p number ≡ m → IsFirst shown bytes s p (stmts.Snap number) (nexts.Deed (holding m))
+      of_meant : (m : Option ℕ) → refresh_meant p number ≡ m → IsFirst shown bytes s p (stmts.Snap number) (nexts.Deed (hold_of m))
       of_meant None e = record {
-        stands = λ alone. performs_looks alone s p bytes (stmts.Snap number) (λ h. ends (snaps p h None)) refl (λ h on. ap (λ b. named p bytes (stmts.Snap number) (read_at b h)) (snaps_outside p.block pass) ∙ ap (λ m. ends (snaps p h m)) e);
+        stands = λ alone. performs_looks alone s p bytes (stmts.Snap number) (λ h. ends (snaps p h None)) refl (λ h on. ap (λ b. turn_of_names p bytes (stmts.Snap number) (read_at b h)) (snaps_outside p.block pass) ∙ ap (λ m. ends (snaps p h m)) e);
         fits = tt;
         taken = refl;
       }
       of_meant (Some c) e = record {
-        stands = λ alone. performs_looks alone s p bytes (stmts.Snap number) (λ h. ends (snaps p h (Some c))) refl (λ h on. ap (λ b. named p bytes (stmts.Snap number) (read_at b h)) (snaps_outside p.block pass) ∙ ap (λ m. ends (snaps p h m)) e);
+        stands = λ alone. performs_looks alone s p bytes (stmts.Snap number) (λ h. ends (snaps p h (Some c))) refl (λ h on. ap (λ b. turn_of_names p bytes (stmts.Snap number) (read_at b h)) (snaps_outside p.block pass) ∙ ap (λ m. ends (snaps p h m)) e);
         fits = tt;
         taken = refl;
       }
 
   -- the end of a block, of which a session holds what it has to
-  pub closes_first : (o : Open T) → p.block ≡ block_of o → HoldsBlock shown.stands o s.history → IsFirst shown bytes s p stmts.Commit (closing p.block)
-  closes_first o e held = subst (λ b. IsFirst shown bytes s p stmts.Commit (closing b)) (sym e) (of_block o e held)
+  pub closes_first : (o : Open T) → p.block ≡ block_of o → HoldsBlock shown.stands o s.history → IsFirst shown bytes s p stmts.Commit (end_of_block p.block)
+  closes_first o e held = subst (λ b. IsFirst shown bytes s p stmts.Commit (end_of_block b)) (sym e) (of_block o e held)
     where
-      named_so : (b : Block) → p.block ≡ b → named p bytes stmts.Commit (read_at p.block s.history) ≡ closes p (read_at b s.history) b
+      named_so : (b : Block) → p.block ≡ b → turn_of_names p bytes stmts.Commit (read_at p.block s.history) ≡ closes p (read_at b s.history) b
       named_so b i = ap (λ x. closes p (read_at x s.history) x) i
 
-      of_queue : (ops : List Op) (n : ℕ) → p.block ≡ writing ops n → IsQueue s.history n ops → n ≤ most_queued → IsFirst shown bytes s p stmts.Commit (closing (writing ops n))
+      of_queue : (ops : List Op) (n : ℕ) → p.block ≡ writing ops n → IsQueue s.history n ops → n ≤ most_queued → IsFirst shown bytes s p stmts.Commit (end_of_block (writing ops n))
       of_queue [] n i q room = record {
         stands = λ alone. performs_ends alone s p bytes stmts.Commit (turns (enters none p) said.CommitEmpty) refl (named_so (writing [] n) i);
         fits = record { change = (tt, refl); stands = refl };
@@ -205,7 +205,7 @@ module _ {T J : Type 0} (shown : Shown T J) (bytes : ℕ) (s : State) (p : Place
             taken = refl;
           })
 
-      of_block : (o : Open T) → p.block ≡ block_of o → HoldsBlock shown.stands o s.history → IsFirst shown bytes s p stmts.Commit (closing (block_of o))
+      of_block : (o : Open T) → p.block ≡ block_of o → HoldsBlock shown.stands o s.history → IsFirst shown bytes s p stmts.Commit (end_of_block (block_of o))
       of_block opens.Nothing i k = record {
         stands = λ alone. performs_ends alone s p bytes stmts.Commit (turns (enters none p) said.End) refl (named_so none i);
         fits = record { change = (tt, refl); stands = refl };

@@ -18,14 +18,14 @@ use Rattle.ts_sessions.specs.declared.deeds.Deed.TheVariants as deeds
 use Rattle.ts_sessions.specs.declared.deeds.Next.{Next}
 use Rattle.ts_sessions.specs.declared.deeds.Next.TheVariants as nexts
 use Rattle.ts_sessions.specs.declared.follows.Followed.{Followed}
-use Rattle.ts_sessions.specs.declared.refreshes.Asked.{Asked}
-use Rattle.ts_sessions.specs.declared.refreshes.Snapped.{Snapped}
+use Rattle.ts_sessions.specs.declared.refreshes.RefreshRequest.{RefreshRequest}
+use Rattle.ts_sessions.specs.declared.refreshes.SnapOutcome.{SnapOutcome}
 use Rattle.ts_sessions.specs.Calls.{FollowsTo, IsFollowed, IsLooked, LooksTo, left_after, meets_left, quiet, spent_after}
 use Rattle.ts_sessions.specs.Deeds.{FollowsReading, IsAsked, look_left, look_meets, said_once}
 use Rattle.ts_sessions.specs.Places.{Places, Turn, turns}
 use Rattle.ts_sessions.specs.Procedures.{Procedure, ends}
-use Rattle.ts_sessions.specs.Sessions.{ChangeHolds, FitsSnapped, IsTakenAs, changed, read_by, taken_as}
-use Rattle.ts_sessions.specs.Step.{Taken, taken}
+use Rattle.ts_sessions.specs.Sessions.{ChangeHolds, FitsSnapped, IsTakenAs, places_after, read_by, taken_as}
+use Rattle.ts_sessions.specs.Step.{Taken, snapshot_taken}
 
 -- what follows a call, by the one function that says so
 quiet_follows_to : {T J : Type 0} (shown : Shown T J) (h : History) (like : CallOutcome T) (next : Result (Next T J) NoMemory) (needs : State → Type 0) (rows : ℕ → ℕ) (left_then : Places → ℕ → History → Procedure (Turn Places)) (n : ℕ) → IfOk next (λ x. FollowsReading shown x (meets_left like) needs rows left_then) → ((s : State) → s.history ≡ h → needs s) → ((p : Places) (read : ℕ) → left_then p read h ≡ left_after p read h like) → ((read : ℕ) → rows read ≡ spent_after read like) → FollowsTo shown h like (quiet next) n n
@@ -46,7 +46,7 @@ quiet_follows {T} {J} shown h outcome like next result needs rows left_then n e 
     (subst (λ (o : CallOutcome T). FollowsTo shown h o (quiet next) n n) (sym e) (quiet_follows_to shown h like next needs rows left_then n w has same spent))
 
 -- an aggregate that was found is refreshed
-pub found_follows : {T J : Type 0} (shown : Shown T J) (h : History) (outcome : CallOutcome T) (asked : Asked) (made n : ℕ) → outcome ≡ outcomes.Found asked made → IsAsked h asked → IsFollowed shown h outcome (record { said = Some (said.View made); next = nexts.Deed (deeds.Cut asked after_cuts.Refresh) }) n n
+pub found_follows : {T J : Type 0} (shown : Shown T J) (h : History) (outcome : CallOutcome T) (asked : RefreshRequest) (made n : ℕ) → outcome ≡ outcomes.Found asked made → IsAsked h asked → IsFollowed shown h outcome (record { said = Some (said.View made); next = nexts.Deed (deeds.Cut asked after_cuts.Refresh) }) n n
 found_follows {T} {J} shown h outcome asked made n e asks =
     subst (λ (o : CallOutcome T). IsFollowed {T = T} {J = J} shown h o (record { said = Some (said.View made); next = nexts.Deed (deeds.Cut asked after_cuts.Refresh) }) n n) (sym e)
     (record {
@@ -86,7 +86,7 @@ quiet_looks {T} {J} shown h outcome then shot next result before after short e i
 -- ---- looks
 
 -- one line is said
-said_looks : {T J : Type 0} (shown : Shown T J) (h : History) (then : AfterLook) (line : Said) (change : Change T J) (n : ℕ) → n < 2 ^ 64 → look_meets then ≡ 1 → ((p : Places) → ends (turns (changed change p) line) ≡ look_left p h then) → ((bytes : ℕ) → ChangeHolds shown bytes change h) → IsLooked shown h then (said_once line change) n n
+said_looks : {T J : Type 0} (shown : Shown T J) (h : History) (then : AfterLook) (line : Said) (change : Change T J) (n : ℕ) → n < 2 ^ 64 → look_meets then ≡ 1 → ((p : Places) → ends (turns (places_after change p) line) ≡ look_left p h then) → ((bytes : ℕ) → ChangeHolds shown bytes change h) → IsLooked shown h then (said_once line change) n n
 said_looks shown h then line change n short one same k = record {
   read = 0;
   rest_so = λ p. same p;
@@ -96,13 +96,13 @@ said_looks shown h then line change n short one same k = record {
   counted = omega (arith, short);
 }
 
-pub look_says : {T J : Type 0} (shown : Shown T J) (h : History) (then like : AfterLook) (result : Result (Next T J) NoMemory) (line : Said) (change : Change T J) (n : ℕ) → n < 2 ^ 64 → then ≡ like → look_meets like ≡ 1 → IfOk result (λ x. x ≡ said_once line change) → ((p : Places) → ends (turns (changed change p) line) ≡ look_left p h like) → ((bytes : ℕ) → ChangeHolds shown bytes change h) → LooksTo shown h then result n n
+pub look_says : {T J : Type 0} (shown : Shown T J) (h : History) (then like : AfterLook) (result : Result (Next T J) NoMemory) (line : Said) (change : Change T J) (n : ℕ) → n < 2 ^ 64 → then ≡ like → look_meets like ≡ 1 → IfOk result (λ x. x ≡ said_once line change) → ((p : Places) → ends (turns (places_after change p) line) ≡ look_left p h like) → ((bytes : ℕ) → ChangeHolds shown bytes change h) → LooksTo shown h then result n n
 look_says {T} {J} shown h then like (Ok x) line change n short e one is same k =
     subst (λ (a : AfterLook). IsLooked shown h a x n n) (sym e) (subst (λ (y : Next T J). IsLooked shown h like y n n) (sym is) (said_looks shown h like line change n short one same k))
 look_says shown h then like (Err x) line change n short e one is same k = let rose : n ≤ n = omega arith in rose
 
 -- a snapshot for a refresh
-pub look_snaps : {T J : Type 0} (shown : Shown T J) (h : History) (then like : AfterLook) (c : ℕ) (k : Places → Result Taken Refusal → Procedure (Turn Places)) (s : Snapped J) (result : Result (Next T J) NoMemory) (before after : ℕ) → before < 2 ^ 64 → then ≡ like → ((p : Places) → k p (taken c h) ≡ look_left p h like) → IfOk result (λ x. FollowsReading shown x (look_meets like) (λ t. FitsSnapped shown c t.history s) (λ read. read_by read s) (λ p read g. k p (taken_as read s))) → IsTakenAs h c s before after → FitsSnapped shown c h s → LooksTo shown h then result before after
+pub look_snaps : {T J : Type 0} (shown : Shown T J) (h : History) (then like : AfterLook) (c : ℕ) (k : Places → Result Taken Refusal → Procedure (Turn Places)) (s : SnapOutcome J) (result : Result (Next T J) NoMemory) (before after : ℕ) → before < 2 ^ 64 → then ≡ like → ((p : Places) → k p (snapshot_taken c h) ≡ look_left p h like) → IfOk result (λ x. FollowsReading shown x (look_meets like) (λ t. FitsSnapped shown c t.history s) (λ read. read_by read s) (λ p read g. k p (taken_as read s))) → IsTakenAs h c s before after → FitsSnapped shown c h s → LooksTo shown h then result before after
 look_snaps {T} {J} shown h then like c k s (Ok x) before after short e same follows t fits =
     subst (λ (a : AfterLook). IsLooked shown h a x before after) (sym e)
     (record {

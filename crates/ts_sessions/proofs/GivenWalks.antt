@@ -10,7 +10,7 @@ use Rattle.ts_model.specs.States.{State, Makes, stands_still, stop_of}
 use Rattle.ts_model.proofs.HistoryLaws.{position_begins, prefix_begins}
 use Rattle.ts_sessions.specs.Procedures.{Procedure, sees, adds, ends}
 use Rattle.ts_sessions.specs.Actors.{IsGivenOver}
-use Rattle.ts_sessions.specs.Gives.{Gives, StopsLater, numbers, printed}
+use Rattle.ts_sessions.specs.Gives.{Gives, StopsLater, numbers, printed_looks}
 use Rattle.ts_sessions.specs.Laws.{IsGiven}
 use Rattle.ts_sessions.specs.Steady.{IsEnded, Steady}
 use Rattle.ts_sessions.specs.Walks.{Walks, Sees}
@@ -47,7 +47,7 @@ record GivenSo {A : Type 0} (old new : State) (at : ℕ) (so_far : List (ℕ × 
   last : ℕ
   more : List (ℕ × Event)
   gives : Gives new.history (stop_of new) at so_far procedure looks last (so_far ++ more) y
-  seen : AllByRecursion (λ p. position old.history ≤ p) (printed looks)
+  seen : AllByRecursion (λ p. position old.history ≤ p) (printed_looks looks)
   made : new.made ≡ old.made ++ numbers more
   within : last ≤ position new.history
 
@@ -67,7 +67,7 @@ printed_so alone failed old mid at so_far shown f new y le first on e g =
       last = g.last;
       more = g.more;
       gives = (omega (arith, le, before), position_begins on, subst (λ h. shown h ≡ true) (sym here) e, subst (λ h. Gives new.history (stop_of new) (position mid.history) so_far (f h) g.looks g.last (so_far ++ g.more) y) (sym here) g.gives);
-      seen = (before, all_above (position old.history) (position mid.history) (printed g.looks) before g.seen);
+      seen = (before, all_above (position old.history) (position mid.history) (printed_looks g.looks) before g.seen);
       made = g.made ∙ ap (λ m. m ++ numbers g.more) (seen_made alone old mid first);
       within = g.within;
     }
@@ -100,7 +100,7 @@ made_so alone failed old mid at so_far e next stop new y here m on g =
       last = g.last;
       more = (suc at, e) ∷ g.more;
       gives = inr (ap (λ k. event_at new.history (suc k)) here ∙ last_event e longer, subst (λ es. Gives new.history (stop_of new) (suc at) (so_far ++ (suc at, e) ∷ []) next g.looks g.last es y) grown g.gives);
-      seen = all_above (position old.history) (position mid.history) (printed g.looks) before g.seen;
+      seen = all_above (position old.history) (position mid.history) (printed_looks g.looks) before g.seen;
       made = g.made ∙ ap (λ x. x ++ numbers g.more) (m.made ∙ ap (λ x. old.made ++ x) number) ∙ append_assoc old.made (suc at ∷ []) (numbers g.more);
       within = g.within;
     }
@@ -112,7 +112,7 @@ still_so old mid new at so_far e next stop y same_history same_made stopped g = 
   last = g.last;
   more = g.more;
   gives = inl (stopped, g.gives);
-  seen = subst (λ h. AllByRecursion (λ p. position h ≤ p) (printed g.looks)) same_history g.seen;
+  seen = subst (λ h. AllByRecursion (λ p. position h ≤ p) (printed_looks g.looks)) same_history g.seen;
   made = g.made ∙ ap (λ x. x ++ numbers g.more) same_made;
   within = g.within;
 }

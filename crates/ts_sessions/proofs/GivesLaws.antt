@@ -8,7 +8,7 @@ use Rattle.ts_model.specs.declared.events.Event.{Event}
 use Rattle.ts_model.specs.History.{History, start, resumed, ◌▸◌, event_at, base_position, position, prefix, Begins, same, further}
 use Rattle.ts_model.proofs.HistoryLaws.{base_begins, base_below, begins_prefix, begins_trans, position_begins, position_prefix, prefix_end, prefix_stays}
 use Rattle.ts_sessions.specs.Procedures.{Procedure, sees, adds, ends}
-use Rattle.ts_sessions.specs.Gives.{AreEvents, Gives, StopsAtEnd, StopsLater, last_of, numbers, printed}
+use Rattle.ts_sessions.specs.Gives.{AreEvents, Gives, StopsAtEnd, StopsLater, last_of, numbers, printed_looks}
 use Rattle.ts_sessions.specs.Laws.{SameReading}
 use Rattle.ts_sessions.specs.Steady.{IsEnded, Steady}
 
@@ -66,7 +66,7 @@ ended_gives all longer stop later at so_far (ends a) [] last given y i g = g
 ended_gives all longer stop later at so_far (ends a) (p ∷ ps) last given y i g = absurd g
 
 -- it looks no more
-ended_looks : {A : Type 0} (all : History) (stop : Option ℕ) (at : ℕ) (so_far : List (ℕ × Event)) (procedure : Procedure A) (looks : List (Option ℕ)) (last : ℕ) (given : List (ℕ × Event)) (y : A) → IsEnded procedure → Gives all stop at so_far procedure looks last given y → printed looks ≡ []
+ended_looks : {A : Type 0} (all : History) (stop : Option ℕ) (at : ℕ) (so_far : List (ℕ × Event)) (procedure : Procedure A) (looks : List (Option ℕ)) (last : ℕ) (given : List (ℕ × Event)) (y : A) → IsEnded procedure → Gives all stop at so_far procedure looks last given y → printed_looks looks ≡ []
 ended_looks all stop at so_far (sees shown f) looks last given y i g = absurd i
 ended_looks all stop at so_far (adds e next stopped) looks last given y i g = absurd i
 ended_looks all stop at so_far (ends a) [] last given y i g = refl
@@ -79,13 +79,13 @@ all_above p q [] le a = tt
 all_above p q (x ∷ ps) le a = (omega (arith, le, a.0), all_above p q ps le a.1)
 
 -- looks never fall
-pub looks_above : {A : Type 0} (all : History) (stop : Option ℕ) (at : ℕ) (so_far : List (ℕ × Event)) (procedure : Procedure A) (looks : List (Option ℕ)) (last : ℕ) (given : List (ℕ × Event)) (y : A) → Gives all stop at so_far procedure looks last given y → AllByRecursion (λ p. at ≤ p) (printed looks)
+pub looks_above : {A : Type 0} (all : History) (stop : Option ℕ) (at : ℕ) (so_far : List (ℕ × Event)) (procedure : Procedure A) (looks : List (Option ℕ)) (last : ℕ) (given : List (ℕ × Event)) (y : A) → Gives all stop at so_far procedure looks last given y → AllByRecursion (λ p. at ≤ p) (printed_looks looks)
 looks_above all stop at so_far (sees shown f) [] last given y g = absurd g
 looks_above all stop at so_far (sees shown f) (None ∷ ps) last given y g = looks_above all stop at so_far (f all) ps last given y g.1
-looks_above all stop at so_far (sees shown f) (Some p ∷ ps) last given y g = (g.0, all_above at p (printed ps) g.0 (looks_above all stop p so_far (f (prefix all p)) ps last given y g.3))
+looks_above all stop at so_far (sees shown f) (Some p ∷ ps) last given y g = (g.0, all_above at p (printed_looks ps) g.0 (looks_above all stop p so_far (f (prefix all p)) ps last given y g.3))
 looks_above all stop at so_far (adds e next stopped) ps last given y (inl g) = looks_above all stop at so_far stopped ps last given y g.1
 looks_above all stop at so_far (adds e next stopped) ps last given y (inr g) =
-    all_above at (suc at) (printed ps) (omega arith) (looks_above all stop (suc at) (so_far ++ (suc at, e) ∷ []) next ps last given y g.1)
+    all_above at (suc at) (printed_looks ps) (omega arith) (looks_above all stop (suc at) (so_far ++ (suc at, e) ∷ []) next ps last given y g.1)
 looks_above all stop at so_far (ends a) [] last given y g = tt
 looks_above all stop at so_far (ends a) (p ∷ ps) last given y g = absurd g
 
@@ -95,7 +95,7 @@ stopped_later : (stop later : Option ℕ) (at : ℕ) → StopsLater stop later �
 stopped_later None later at s e = absurd (true≢false (sym (ap is_some e)))
 stopped_later (Some p) later at s e = s ∙ e
 
-pub gives_longer : {A : Type 0} (fresh : Bool) (base all longer : History) (stop later : Option ℕ) (at : ℕ) (so_far : List (ℕ × Event)) (procedure : Procedure A) (looks : List (Option ℕ)) (last : ℕ) (given : List (ℕ × Event)) (y : A) → Steady fresh base procedure → Begins base all → AllByRecursion (λ p. position base ≤ p) (printed looks) → Begins all longer → StopsLater stop later → Gives all stop at so_far procedure looks last given y → Gives longer later at so_far procedure looks last given y
+pub gives_longer : {A : Type 0} (fresh : Bool) (base all longer : History) (stop later : Option ℕ) (at : ℕ) (so_far : List (ℕ × Event)) (procedure : Procedure A) (looks : List (Option ℕ)) (last : ℕ) (given : List (ℕ × Event)) (y : A) → Steady fresh base procedure → Begins base all → AllByRecursion (λ p. position base ≤ p) (printed_looks looks) → Begins all longer → StopsLater stop later → Gives all stop at so_far procedure looks last given y → Gives longer later at so_far procedure looks last given y
 gives_longer fresh base all longer stop later at so_far (sees shown f) [] last given y s b above on st g = absurd g
 gives_longer fresh base all longer stop later at so_far (sees shown f) (None ∷ ps) last given y s b above on st g =
     let rest = (s all b).1 g.0 in
@@ -104,7 +104,7 @@ gives_longer fresh base all longer stop later at so_far (sees shown f) (None ∷
 gives_longer fresh base all longer stop later at so_far (sees shown f) (Some p ∷ ps) last given y s b above on st g =
     let here : prefix longer p ≡ prefix all p = prefix_stays p on g.1 in
     let from : Begins base (prefix all p) = begins_within p b above.0 in
-    let above_here = all_above (position (prefix all p)) p (printed ps) (position_prefix all p (base_low b above.0) g.1) (looks_above all stop p so_far (f (prefix all p)) ps last given y g.3) in
+    let above_here = all_above (position (prefix all p)) p (printed_looks ps) (position_prefix all p (base_low b above.0) g.1) (looks_above all stop p so_far (f (prefix all p)) ps last given y g.3) in
     let rest = gives_longer true (prefix all p) all longer stop later p so_far (f (prefix all p)) ps last given y ((s (prefix all p) from).0 g.2) (begins_prefix all p) above_here on st g.3 in
     (g.0, omega (arith, g.1, position_begins on), subst (λ h. shown h ≡ true) (sym here) g.2, subst (λ h. Gives longer later p so_far (f h) ps last given y) (sym here) rest)
 gives_longer fresh base all longer stop later at so_far (adds e next stopped) ps last given y s b above on st (inl g) =
@@ -127,7 +127,7 @@ raised at (p ∷ ps) k le = refl
 
 -- the last position, where no event so far is above the present one
 record LastAt (from at : ℕ) (so_far : List (ℕ × Event)) (looks : List (Option ℕ)) (last : ℕ) (given : List (ℕ × Event)) : Type 0 where
-  last_is : last ≡ max (last_of at (printed looks)) (last_of from (numbers given))
+  last_is : last ≡ max (last_of at (printed_looks looks)) (last_of from (numbers given))
   rises : last_of from (numbers so_far) ≤ last_of from (numbers given)
 
 last_at : {A : Type 0} (all : History) (stop : Option ℕ) (from at : ℕ) (so_far : List (ℕ × Event)) (procedure : Procedure A) (looks : List (Option ℕ)) (last : ℕ) (given : List (ℕ × Event)) (y : A) → last_of from (numbers so_far) ≤ at → Gives all stop at so_far procedure looks last given y → LastAt from at so_far looks last given
@@ -143,14 +143,14 @@ last_at all stop from at so_far (adds e next stopped) ps last given y le (inr g)
     let more = so_far ++ (suc at, e) ∷ [] in
     let now : last_of from (numbers more) ≡ suc at = last_of_more from so_far (suc at) e in
     let rest = last_at all stop from (suc at) more next ps last given y (omega (arith, now)) g.1 in
-    record { last_is = rest.last_is ∙ raised at (printed ps) (last_of from (numbers given)) (omega (arith, now, rest.rises)); rises = omega (arith, le, now, rest.rises) }
+    record { last_is = rest.last_is ∙ raised at (printed_looks ps) (last_of from (numbers given)) (omega (arith, now, rest.rises)); rises = omega (arith, le, now, rest.rises) }
 last_at all stop from at so_far (ends a) [] last given y le g =
     let P : List (ℕ × Event) → Type 0 = λ es. LastAt from at so_far [] last es in
     let there : last ≡ at = g.0 in
     subst P (sym g.1) (record { last_is = omega (arith, there, le); rises = omega arith })
 last_at all stop from at so_far (ends a) (p ∷ ps) last given y le g = absurd g
 
-pub last_is_printed : {A : Type 0} (all : History) (stop : Option ℕ) (at : ℕ) (procedure : Procedure A) (looks : List (Option ℕ)) (last : ℕ) (given : List (ℕ × Event)) (y : A) → Gives all stop at [] procedure looks last given y → last ≡ max (last_of at (printed looks)) (last_of at (numbers given))
+pub last_is_printed : {A : Type 0} (all : History) (stop : Option ℕ) (at : ℕ) (procedure : Procedure A) (looks : List (Option ℕ)) (last : ℕ) (given : List (ℕ × Event)) (y : A) → Gives all stop at [] procedure looks last given y → last ≡ max (last_of at (printed_looks looks)) (last_of at (numbers given))
 last_is_printed all stop at procedure looks last given y g = (last_at all stop at at [] procedure looks last given y (omega arith) g).last_is
 
 -- ---- the events given
@@ -211,20 +211,20 @@ ended_same all stop at too so_far (ends a) [] [] last last_too given given_too y
 ended_same all stop at too so_far (ends a) [] (q ∷ qs) last last_too given given_too y z i g h = absurd h
 ended_same all stop at too so_far (ends a) (p ∷ ps) looks_too last last_too given given_too y z i g h = absurd g
 
-same_reading : {A : Type 0} (fresh : Bool) (base all : History) (stop : Option ℕ) (at too : ℕ) (so_far : List (ℕ × Event)) (procedure : Procedure A) (looks looks_too : List (Option ℕ)) (last last_too : ℕ) (given given_too : List (ℕ × Event)) (y z : A) → Steady fresh base procedure → Begins base all → AllByRecursion (λ p. position base ≤ p) (printed looks) → (fresh ≡ true → too ≡ at) → StopsAtEnd all stop → printed looks_too ≡ printed looks → Gives all stop at so_far procedure looks last given y → Gives all stop too so_far procedure looks_too last_too given_too z → SameReading y z given given_too
+same_reading : {A : Type 0} (fresh : Bool) (base all : History) (stop : Option ℕ) (at too : ℕ) (so_far : List (ℕ × Event)) (procedure : Procedure A) (looks looks_too : List (Option ℕ)) (last last_too : ℕ) (given given_too : List (ℕ × Event)) (y z : A) → Steady fresh base procedure → Begins base all → AllByRecursion (λ p. position base ≤ p) (printed_looks looks) → (fresh ≡ true → too ≡ at) → StopsAtEnd all stop → printed_looks looks_too ≡ printed_looks looks → Gives all stop at so_far procedure looks last given y → Gives all stop too so_far procedure looks_too last_too given_too z → SameReading y z given given_too
 same_reading fresh base all stop at too so_far (sees shown f) [] looks_too last last_too given given_too y z s b above same_at st e g h = absurd g
 same_reading fresh base all stop at too so_far (sees shown f) (p ∷ ps) [] last last_too given given_too y z s b above same_at st e g h = absurd h
 same_reading fresh base all stop at too so_far (sees shown f) (None ∷ ps) (None ∷ qs) last last_too given given_too y z s b above same_at st e g h =
     ended_same all stop at too so_far (f all) ps qs last last_too given given_too y z ((s all b).1 g.0).1 g.1 h.1
 same_reading fresh base all stop at too so_far (sees shown f) (None ∷ ps) (Some q ∷ qs) last last_too given given_too y z s b above same_at st e g h =
-    absurd (not_empty q (printed qs) (e ∙ ended_looks all stop at so_far (f all) ps last given y ((s all b).1 g.0).1 g.1))
+    absurd (not_empty q (printed_looks qs) (e ∙ ended_looks all stop at so_far (f all) ps last given y ((s all b).1 g.0).1 g.1))
 same_reading fresh base all stop at too so_far (sees shown f) (Some p ∷ ps) (None ∷ qs) last last_too given given_too y z s b above same_at st e g h =
-    absurd (not_empty p (printed ps) (sym e ∙ ended_looks all stop too so_far (f all) qs last_too given_too z ((s all b).1 h.0).1 h.1))
+    absurd (not_empty p (printed_looks ps) (sym e ∙ ended_looks all stop too so_far (f all) qs last_too given_too z ((s all b).1 h.0).1 h.1))
 same_reading fresh base all stop at too so_far (sees shown f) (Some p ∷ ps) (Some q ∷ qs) last last_too given given_too y z s b above same_at st e g h =
-    let here : q ≡ p = first_same p q (printed ps) (printed qs) e in
+    let here : q ≡ p = first_same p q (printed_looks ps) (printed_looks qs) e in
     let from : Begins base (prefix all p) = begins_within p b above.0 in
-    let above_here = all_above (position (prefix all p)) p (printed ps) (position_prefix all p (base_low b above.0) g.1) (looks_above all stop p so_far (f (prefix all p)) ps last given y g.3) in
-    same_reading true (prefix all p) all stop p p so_far (f (prefix all p)) ps qs last last_too given given_too y z ((s (prefix all p) from).0 g.2) (begins_prefix all p) above_here (λ _. refl) st (rest_same p q (printed ps) (printed qs) e) g.3
+    let above_here = all_above (position (prefix all p)) p (printed_looks ps) (position_prefix all p (base_low b above.0) g.1) (looks_above all stop p so_far (f (prefix all p)) ps last given y g.3) in
+    same_reading true (prefix all p) all stop p p so_far (f (prefix all p)) ps qs last last_too given given_too y z ((s (prefix all p) from).0 g.2) (begins_prefix all p) above_here (λ _. refl) st (rest_same p q (printed_looks ps) (printed_looks qs) e) g.3
     (subst (λ k. Gives all stop k so_far (f (prefix all k)) qs last_too given_too z) here h.3)
 same_reading fresh base all stop at too so_far (adds x next stopped) ps qs last last_too given given_too y z s b above same_at st e (inl g) (inl h) =
     same_reading fresh base all stop at too so_far stopped ps qs last last_too given given_too y z s.2 b above same_at st e g.1 h.1
@@ -237,5 +237,5 @@ same_reading fresh base all stop at too so_far (adds x next stopped) ps qs last 
     (subst (λ k. Gives all stop (suc k) (so_far ++ (suc k, x) ∷ []) next qs last_too given_too z) (same_at s.0) h.1)
 same_reading fresh base all stop at too so_far (ends a) ps qs last last_too given given_too y z s b above same_at st e g h = ended_same all stop at too so_far (ends a) ps qs last last_too given given_too y z tt g h
 
-pub printed_looks_determine : {A : Type 0} (base all : History) (stop : Option ℕ) (at too : ℕ) (procedure : Procedure A) (looks looks_too : List (Option ℕ)) (last last_too : ℕ) (given given_too : List (ℕ × Event)) (y z : A) → Steady false base procedure → Begins base all → AllByRecursion (λ p. position base ≤ p) (printed looks) → StopsAtEnd all stop → printed looks_too ≡ printed looks → Gives all stop at [] procedure looks last given y → Gives all stop too [] procedure looks_too last_too given_too z → SameReading y z given given_too
+pub printed_looks_determine : {A : Type 0} (base all : History) (stop : Option ℕ) (at too : ℕ) (procedure : Procedure A) (looks looks_too : List (Option ℕ)) (last last_too : ℕ) (given given_too : List (ℕ × Event)) (y z : A) → Steady false base procedure → Begins base all → AllByRecursion (λ p. position base ≤ p) (printed_looks looks) → StopsAtEnd all stop → printed_looks looks_too ≡ printed_looks looks → Gives all stop at [] procedure looks last given y → Gives all stop too [] procedure looks_too last_too given_too z → SameReading y z given given_too
 printed_looks_determine base all stop at too procedure looks looks_too last last_too given given_too y z s b above st e g h = same_reading false base all stop at too [] procedure looks looks_too last last_too given given_too y z s b above (λ f. absurd (true≢false (sym f))) st e g h

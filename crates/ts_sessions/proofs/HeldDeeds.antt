@@ -9,8 +9,8 @@ use Rattle.ts_model.specs.Pending.{pending}
 use Rattle.ts_sessions.specs.declared.deeds.Next.{Next}
 use Rattle.ts_sessions.specs.declared.deeds.Next.TheVariants as nexts
 use Rattle.ts_sessions.specs.declared.deeds.Deed.TheVariants as deeds
-use Rattle.ts_sessions.specs.declared.deeds.Finishing.TheVariants as finishing
-use Rattle.ts_sessions.specs.declared.endings.HeldJob.TheVariants as held
+use Rattle.ts_sessions.specs.declared.deeds.FinishSource.TheVariants as finishing
+use Rattle.ts_sessions.specs.declared.block_ends.HeldJob.TheVariants as held
 use Rattle.ts_sessions.specs.declared.sessions.Session.{Session}
 use Rattle.ts_sessions.specs.Deeds.{Leads, Takes, taken_next, without_entry}
 use Rattle.ts_sessions.specs.Held.{Carries, GoesOn, HoldsOf, is_lost, places_in, positions}
@@ -19,7 +19,7 @@ use Rattle.ts_sessions.specs.Jobs.{TakesJob}
 use Rattle.ts_sessions.specs.Parts.{finishes_meant}
 use Rattle.ts_sessions.specs.Places.{Places, Turn, held_for, refuses}
 use Rattle.ts_sessions.specs.Procedures.{Procedure, ends, looks}
-use Rattle.ts_sessions.specs.Step.{finishes, finishes_held, lost_code, refresh_meant, unfinished}
+use Rattle.ts_sessions.specs.Step.{finishes, finishes_held, lost_code, refresh_meant, unfinished_refusal}
 use Rattle.ts_sessions.specs.Walks.{Breaks}
 use Rattle.ts_model.specs.Numbers.{no_snapshot}
 use Rattle.ts_sessions.proofs.JobLaws.{held_holds, lost_at}
@@ -38,16 +38,16 @@ meant p number m alone s left e k = subst (λ x. Leads alone false s (looks (λ 
 at_held : (p : Places) (c : ℕ) (o : Option ℕ) (alone : Bool) (s : State) (left : Procedure (Turn Places)) → held_for c p.held ≡ o → Leads alone false s (looks (λ h. finishes_held p h c o)) s left → Leads alone false s (looks (λ h. finishes p h (Some c))) s left
 at_held p c o alone s left e k = subst (λ x. Leads alone false s (looks (λ h. finishes_held p h c x)) s left) (sym e) k
 
-pub stands_unheld : (p : Places) (number : Option ℤ) (c : ℕ) (s : State) → refresh_meant p number ≡ Some c → held_for c p.held ≡ None → (alone : Bool) → Leads alone false s (finishes_meant p number) s (looks (λ h. ends (refuses p (unfinished no_snapshot h (pending h c)))))
+pub stands_unheld : (p : Places) (number : Option ℤ) (c : ℕ) (s : State) → refresh_meant p number ≡ Some c → held_for c p.held ≡ None → (alone : Bool) → Leads alone false s (finishes_meant p number) s (looks (λ h. ends (refuses p (unfinished_refusal no_snapshot h (pending h c)))))
 stands_unheld p number c s e f alone =
-    meant p number (Some c) alone s _ e (at_held p c None alone s _ f (leads_same alone s (looks (λ h. ends (refuses p (unfinished no_snapshot h (pending h c)))))))
+    meant p number (Some c) alone s _ e (at_held p c None alone s _ f (leads_same alone s (looks (λ h. ends (refuses p (unfinished_refusal no_snapshot h (pending h c)))))))
 
 pub stands_held : (p : Places) (number : Option ℤ) (c at : ℕ) (s : State) → refresh_meant p number ≡ Some c → held_for c p.held ≡ Some at → (alone : Bool) → Leads alone false s (finishes_meant p number) s (looks (λ h. finishes_held p h c (Some at)))
 stands_held p number c at s e f alone =
     meant p number (Some c) alone s _ e (at_held p c (Some at) alone s _ f (leads_same alone s (looks (λ h. finishes_held p h c (Some at)))))
 
 -- a refresh that can't be finished any more is refused, as its finish would be
-lost_leads : (alone : Bool) (s : State) (p : Places) (c at : ℕ) → IsTrue (is_lost s c) → Leads alone false s (looks (λ h. finishes_held p h c (Some at))) s (looks (λ h. ends (refuses p (unfinished (lost_code h) h (pending h c)))))
+lost_leads : (alone : Bool) (s : State) (p : Places) (c at : ℕ) → IsTrue (is_lost s c) → Leads alone false s (looks (λ h. finishes_held p h c (Some at))) s (looks (λ h. ends (refuses p (unfinished_refusal (lost_code h) h (pending h c)))))
 lost_leads alone s p c at lost = record {
   walks = λ f new y w. record {
     mid = w.mid;
@@ -61,7 +61,7 @@ lost_leads alone s p c at lost = record {
   };
 }
 
-pub stands_lost : (p : Places) (number : Option ℤ) (c at : ℕ) (s : State) → refresh_meant p number ≡ Some c → held_for c p.held ≡ Some at → IsTrue (is_lost s c) → (alone : Bool) → Leads alone false s (finishes_meant p number) s (looks (λ h. ends (refuses p (unfinished (lost_code h) h (pending h c)))))
+pub stands_lost : (p : Places) (number : Option ℤ) (c at : ℕ) (s : State) → refresh_meant p number ≡ Some c → held_for c p.held ≡ Some at → IsTrue (is_lost s c) → (alone : Bool) → Leads alone false s (finishes_meant p number) s (looks (λ h. ends (refuses p (unfinished_refusal (lost_code h) h (pending h c)))))
 stands_lost p number c at s e f lost alone = meant p number (Some c) alone s _ e (at_held p c (Some at) alone s _ f (lost_leads alone s p c at lost))
 
 -- ---- what is taken from a session

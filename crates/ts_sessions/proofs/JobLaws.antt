@@ -26,7 +26,7 @@ use Rattle.ts_sessions.specs.Held.{GoesOn, HoldsJob, HoldsSnapshots, is_finished
 use Rattle.ts_sessions.specs.Holding.{job_on, snapshots_on}
 use Rattle.ts_sessions.specs.Jobs.{without_job}
 use Rattle.ts_sessions.specs.Places.{Places, Turn, held_for, refuses}
-use Rattle.ts_sessions.specs.Step.{finish_turn, finishes_refresh, lost_code, unfinished}
+use Rattle.ts_sessions.specs.Step.{finish_turn, finishes_refresh, lost_code, unfinished_refusal}
 use Rattle.ts_sessions.specs.Walks.{Walks}
 use Rattle.ts_sessions.proofs.StateLaws.{goes_seen}
 use Rattle.ts_model.specs.declared.snapshots.Shown.{Ghosts as Shown}
@@ -164,7 +164,7 @@ lost_waiting alone failed mid p c at true new y lost f n_is y_is = inl (still (s
     still false e = e
 lost_waiting alone failed mid p c at false new y lost f n_is y_is = (f, n_is, y_is)
 
-pub lost_at : (alone failed : Bool) (mid : State) (p : Places) (c at : ℕ) (q : Pending) (new : State) (y : Turn Places) → (is_finished q || (stands_still mid || not (has_room mid.history))) ≡ true → failed ≡ false → new ≡ mid → y ≡ refuses p (unfinished (lost_code mid.history) mid.history q) → Walks alone failed mid (ending_as (finish_turn p c at) (tries_at mid.history (finish_of c at mid.history q))) new y
+pub lost_at : (alone failed : Bool) (mid : State) (p : Places) (c at : ℕ) (q : Pending) (new : State) (y : Turn Places) → (is_finished q || (stands_still mid || not (has_room mid.history))) ≡ true → failed ≡ false → new ≡ mid → y ≡ refuses p (unfinished_refusal (lost_code mid.history) mid.history q) → Walks alone failed mid (ending_as (finish_turn p c at) (tries_at mid.history (finish_of c at mid.history q))) new y
 lost_at alone failed mid p c at (Waiting n) new y lost f n_is y_is = lost_waiting alone failed mid p c at (has_room mid.history) new y lost f n_is y_is
 lost_at alone failed mid p c at (Finished k) new y lost f n_is y_is = (f, n_is, y_is)
 lost_at alone failed mid p c at Unknown new y lost f n_is y_is = (f, n_is, y_is)

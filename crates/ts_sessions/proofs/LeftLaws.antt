@@ -23,11 +23,11 @@ use Rattle.ts_sessions.specs.declared.deeds.Deed.{Deed}
 use Rattle.ts_sessions.specs.declared.deeds.Next.{Next}
 use Rattle.ts_sessions.specs.declared.deeds.Next.TheVariants as nexts
 use Rattle.ts_sessions.specs.declared.kinds.StatementKind.TheVariants as kinds
-use Rattle.ts_sessions.specs.declared.name_checks.Meant.{Meant}
-use Rattle.ts_sessions.specs.declared.name_checks.Meant.TheVariants as meant
+use Rattle.ts_sessions.specs.declared.name_checks.Resolved.{Resolved}
+use Rattle.ts_sessions.specs.declared.name_checks.Resolved.TheVariants as meant
 use Rattle.ts_sessions.specs.declared.queries.Plan.{Plan}
 use Rattle.ts_sessions.specs.Deeds.{rest, rest_next, said_once}
-use Rattle.ts_sessions.specs.Meant.{answered_line, asked_by, change_left, change_next, checked_as, left_of, looks_at_names, meant_by, meant_left, read_as, IsLeftOf, LeftIn}
+use Rattle.ts_sessions.specs.ResolvedNames.{answered_line, asked_by, change_left, change_next, checked_as, left_of, looks_at_names, meant_by, meant_left, read_as, IsLeftOf, LeftIn}
 use Rattle.ts_sessions.specs.Places.{Block, Places, enters, none, reading, turns, writing}
 use Rattle.ts_sessions.specs.Procedures.{ends, looks}
 use Rattle.ts_sessions.specs.Sessions.{queued_on}
@@ -40,7 +40,7 @@ says_line {T} {J} (Ok n) line like e is = e ∙ ap (λ l. said_once {T = T} {J =
 says_line (Err x) line like e is = tt
 
 -- what was meant, by a snapshot's position and roster
-meant_is : {T J : Type 0} (h : History) (pos : ℕ) (r : Roster) (stmt : Stmt) (m like : Meant T J) → pos ≡ position h → r ≡ roster h → m ≡ meant_by pos r stmt → m ≡ like → like ≡ meant_by (position h) (roster h) stmt
+meant_is : {T J : Type 0} (h : History) (pos : ℕ) (r : Roster) (stmt : Stmt) (m like : Resolved T J) → pos ≡ position h → r ≡ roster h → m ≡ meant_by pos r stmt → m ≡ like → like ≡ meant_by (position h) (roster h) stmt
 meant_is h pos r stmt m like e f i is = sym is ∙ i ∙ ap (λ x. meant_by x r stmt) e ∙ ap (λ x. meant_by (position h) x stmt) f
 
 ends_left : (T J : Type 0) (b : Block) (line : Said) → LeftIn b (said_once {T = T} {J = J} line changes.Nothing)
@@ -54,11 +54,11 @@ left_said {T} {J} shown p bytes stmt h read line (Ok n) e same =
     subst (λ (x : Next T J). IsLeftOf shown p bytes stmt h x) (sym e) (record { read = read; rest = same; left = ends_left T J p.block line })
 left_said shown p bytes stmt h read line (Err x) e same = tt
 
-pub left_refused : {T J : Type 0} (shown : Shown T J) (p : Places) (bytes : ℕ) (stmt : Stmt) (h : History) (pos : ℕ) (r : Roster) (m : Meant T J) (q : Refusal) (result : Result (Next T J) NoMemory) → pos ≡ position h → r ≡ roster h → m ≡ meant_by pos r stmt → m ≡ meant.Refused q → IfOk result (λ n. n ≡ said_once (said.Fault q) changes.Nothing) → IfOk result (IsLeftOf shown p bytes stmt h)
+pub left_refused : {T J : Type 0} (shown : Shown T J) (p : Places) (bytes : ℕ) (stmt : Stmt) (h : History) (pos : ℕ) (r : Roster) (m : Resolved T J) (q : Refusal) (result : Result (Next T J) NoMemory) → pos ≡ position h → r ≡ roster h → m ≡ meant_by pos r stmt → m ≡ meant.Refused q → IfOk result (λ n. n ≡ said_once (said.Fault q) changes.Nothing) → IfOk result (IsLeftOf shown p bytes stmt h)
 left_refused shown p bytes stmt h pos r m q result e f i is k =
     left_said shown p bytes stmt h 0 (said.Fault q) result k (ap (meant_left p bytes p.block h) (meant_is h pos r stmt m (meant.Refused q) e f i is))
 
-pub left_shows : {T J : Type 0} (shown : Shown T J) (p : Places) (bytes : ℕ) (stmt : Stmt) (h : History) (pos : ℕ) (r : Roster) (m : Meant T J) (plan : Plan) (result : Result (Next T J) NoMemory) → pos ≡ position h → r ≡ roster h → m ≡ meant_by pos r stmt → m ≡ meant.Shows plan → IfOk result (λ n. n ≡ said_once (answered_line p.block h plan) changes.Nothing) → IfOk result (IsLeftOf shown p bytes stmt h)
+pub left_shows : {T J : Type 0} (shown : Shown T J) (p : Places) (bytes : ℕ) (stmt : Stmt) (h : History) (pos : ℕ) (r : Roster) (m : Resolved T J) (plan : Plan) (result : Result (Next T J) NoMemory) → pos ≡ position h → r ≡ roster h → m ≡ meant_by pos r stmt → m ≡ meant.Shows plan → IfOk result (λ n. n ≡ said_once (answered_line p.block h plan) changes.Nothing) → IfOk result (IsLeftOf shown p bytes stmt h)
 left_shows shown p bytes stmt h pos r m plan result e f i is k =
     left_said shown p bytes stmt h (reads_of plan.query (shown_in p.block h)) (answered_line p.block h plan) result k (ap (meant_left p bytes p.block h) (meant_is h pos r stmt m (meant.Shows plan) e f i is))
 
@@ -73,7 +73,7 @@ change_left_in T J none bytes op pass = tt
 change_left_in T J (writing ops n) bytes op pass = tt
 change_left_in T J (reading at) bytes op pass = absurd cc
 
-pub left_changes : {T J : Type 0} (shown : Shown T J) (p : Places) (bytes : ℕ) (stmt : Stmt) (h : History) (pos : ℕ) (r : Roster) (m : Meant T J) (op : Op) (result : Result (Next T J) NoMemory) → pos ≡ position h → r ≡ roster h → m ≡ meant_by pos r stmt → m ≡ meant.Changes op → block_refusal p.block kinds.Changes ≡ None → IfOk result (λ n. n ≡ change_next p.block bytes op) → IfOk result (IsLeftOf shown p bytes stmt h)
+pub left_changes : {T J : Type 0} (shown : Shown T J) (p : Places) (bytes : ℕ) (stmt : Stmt) (h : History) (pos : ℕ) (r : Roster) (m : Resolved T J) (op : Op) (result : Result (Next T J) NoMemory) → pos ≡ position h → r ≡ roster h → m ≡ meant_by pos r stmt → m ≡ meant.Changes op → block_refusal p.block kinds.Changes ≡ None → IfOk result (λ n. n ≡ change_next p.block bytes op) → IfOk result (IsLeftOf shown p bytes stmt h)
 left_changes {T} {J} shown p bytes stmt h pos r m op (Ok n) e f i is pass k =
     subst (λ (x : Next T J). IsLeftOf shown p bytes stmt h x) (sym k)
     (record {
@@ -86,7 +86,7 @@ left_changes shown p bytes stmt h pos r m op (Err x) e f i is pass k = tt
 -- ---- deeds
 
 -- a deed is meant outside a block alone
-abbrev MeantOutside : {T J : Type 0} → Block → Meant T J → Type 0
+abbrev MeantOutside : {T J : Type 0} → Block → Resolved T J → Type 0
 MeantOutside b (meant.Does deed) = b ≡ none
 MeantOutside b other = Unit {0}
 
@@ -116,7 +116,7 @@ deed_left_in none d e = tt
 deed_left_in (writing ops n) d e = tt
 deed_left_in (reading at) d e = absurd cc
 
-pub left_does : {T J : Type 0} (shown : Shown T J) (p : Places) (bytes : ℕ) (stmt : Stmt) (h : History) (pos : ℕ) (r : Roster) (m : Meant T J) (deed : Deed T J) → IsTrue (looks_at_names (kind_of stmt)) → block_refusal p.block (kind_of stmt) ≡ None → pos ≡ position h → r ≡ roster h → m ≡ meant_by pos r stmt → m ≡ meant.Does deed → IsLeftOf shown p bytes stmt h (nexts.Deed deed)
+pub left_does : {T J : Type 0} (shown : Shown T J) (p : Places) (bytes : ℕ) (stmt : Stmt) (h : History) (pos : ℕ) (r : Roster) (m : Resolved T J) (deed : Deed T J) → IsTrue (looks_at_names (kind_of stmt)) → block_refusal p.block (kind_of stmt) ≡ None → pos ≡ position h → r ≡ roster h → m ≡ meant_by pos r stmt → m ≡ meant.Does deed → IsLeftOf shown p bytes stmt h (nexts.Deed deed)
 left_does {T} {J} shown p bytes stmt h pos r m deed look pass e f i is = record {
   read = 0;
   rest = ap (meant_left p bytes p.block h) (meant_is h pos r stmt m (meant.Does deed) e f i is);

@@ -24,7 +24,7 @@ use Rattle.ts_model.specs.Roster.{roster, hyper_of, is_taken, view_of}
 use Rattle.ts_model.specs.Pending.{pending}
 use Rattle.ts_model.specs.Windows.{window}
 use Rattle.ts_model.specs.Timely.{has_room}
-use Rattle.ts_model.specs.Calls.{Act, committed as calls_committed, making, refuses as refuses_call, returns as completes_call, makes, committing, cut_of_view, cut_over, cutting, finish_of, finishing, making_hyper, making_table, making_view, new_relation, numbered, refusal, setting_mode}
+use Rattle.ts_model.specs.Calls.{Act, commit_result as calls_committed, act_of_event, refuses as refuses_call, returns as completes_call, makes, act_of_commit, cut_of_view, cut_over, act_of_cut, finish_of, act_of_finish, making_hyper, making_table, making_view, new_relation, act_with_number, refusal, setting_mode}
 use Rattle.ts_model.specs.Numbers.{name_taken, too_many, history_full}
 use Rattle.stmt_reader.specs.declared.faults.Fault.{Fault}
 use Rattle.stmt_syntax.specs.declared.statements.Stmt.{Stmt}
@@ -40,7 +40,7 @@ use Rattle.ts_sessions.specs.Procedures.{Procedure, sees, adds, ends, ending_as,
 use Rattle.ts_sessions.specs.Made.{made_by, made_in}
 use Rattle.ts_sessions.specs.Places.{Block, none, writing, reading, Places, Turn, cuts, enters, held_for}
 use Rattle.ts_sessions.specs.Replies.{reply_to, replies}
-use Rattle.ts_sessions.specs.Step.{Taken, acts, after_cut, after_line, after_snapshot, after_view, block_refusal, changes, closes, commits, committed, cut_turn, finish_turn, finishes, finishes_held, given_up, kind_of, least_start, named, named_first, named_here, read_at, refresh_meant, refreshed, refreshes, refusal_reading, snap_turn, snaps, step, taken, takes_snapshot, reported, view_made, as_read, passes_block, performs}
+use Rattle.ts_sessions.specs.Step.{Taken, acts, after_cut, after_line, after_snapshot, after_view, block_refusal, changes, closes, commits, turn_of_commit, cut_turn, finish_turn, finishes, finishes_held, given_up, kind_of, least_start, turn_of_names, named_first, named_here, read_at, refresh_meant, turn_of_refresh, refreshes, refusal_reading, snap_turn, snaps, step, snapshot_taken, takes_snapshot, turn_of_line, view_made, as_read, passes_block, performs}
 use Rattle.ts_sessions.specs.Walks.{Walks, Sees}
 use Rattle.ts_sessions.proofs.NamedLaws.{named_holds, performs_holds, read_holds, unless_holds}
 
@@ -122,15 +122,15 @@ of_cut (CutMade c span) = c ∷ []
 of_cut (NothingDone at) = []
 
 -- an event that is made, or refused at the end of a history
-made_numbers : {A : Type 0} (of : A → List ℕ) (h : History) (e : Event) (a : A) → of a ≡ suc (position h) ∷ [] → Numbers of h (making h e a)
+made_numbers : {A : Type 0} (of : A → List ℕ) (h : History) (e : Event) (a : A) → of a ≡ suc (position h) ∷ [] → Numbers of h (act_of_event h e a)
 made_numbers of h e a is = elim (has_room h) as (λ t. Numbers of h (cond t (makes e a) (refuses_call (refusal history_full h 0)))) [ true ↦ is | false ↦ tt ]
 
-new_numbers : (h : History) (taken : Bool) (many : ℕ) (e : Event) → Numbers one h (new_relation h taken many e)
+new_numbers : (h : History) (snapshot_taken : Bool) (many : ℕ) (e : Event) → Numbers one h (new_relation h snapshot_taken many e)
 new_numbers h true many e = tt
-new_numbers h false many e = elim (nat_lt many most_relations) as (λ t. Numbers one h (cond t (numbered h e) (refuses_call (refusal too_many h (suc most_relations))))) [ true ↦ made_numbers one h e (suc (position h)) refl | false ↦ tt ]
+new_numbers h false many e = elim (nat_lt many most_relations) as (λ t. Numbers one h (cond t (act_with_number h e) (refuses_call (refusal too_many h (suc most_relations))))) [ true ↦ made_numbers one h e (suc (position h)) refl | false ↦ tt ]
 
 hyper_numbers : (t : ℕ) (hyper : Hyper) (h : History) → Numbers one h (making_hyper t hyper h)
-hyper_numbers t hyper h = elim (is_some (hyper_of (roster h) t)) as (λ b. Numbers one h (cond b (refuses_call (refusal name_taken h 0)) (numbered h (HyperMade t hyper)))) [ true ↦ tt | false ↦ made_numbers one h (HyperMade t hyper) (suc (position h)) refl ]
+hyper_numbers t hyper h = elim (is_some (hyper_of (roster h) t)) as (λ b. Numbers one h (cond b (refuses_call (refusal name_taken h 0)) (act_with_number h (HyperMade t hyper)))) [ true ↦ tt | false ↦ made_numbers one h (HyperMade t hyper) (suc (position h)) refl ]
 
 over_numbers : (n : ℕ) (h : History) (w : Window) → Numbers of_cut h (cut_over n h w)
 over_numbers n h (Whole span) = made_numbers of_cut h (CutEvent n span) (CutMade (suc (position h)) span) refl
@@ -141,7 +141,7 @@ view_numbers : (n : ℕ) (lo hi : Option ℤ) (h : History) (o : Option ViewDef)
 view_numbers n lo hi h None = refl
 view_numbers n lo hi h (Some def) = over_numbers n h (window n def h lo hi)
 
-cut_numbers : (n : ℕ) (lo hi : Option ℤ) (h : History) → Numbers of_cut h (cutting n lo hi h)
+cut_numbers : (n : ℕ) (lo hi : Option ℤ) (h : History) → Numbers of_cut h (act_of_cut n lo hi h)
 cut_numbers n lo hi h = view_numbers n lo hi h (view_of (roster h) n)
 
 pending_numbers : (c at : ℕ) (h : History) (p : Pending) → Numbers one h (finish_of c at h p)
@@ -149,12 +149,12 @@ pending_numbers c at h (Waiting n) = made_numbers one h (BuiltEvent c at) (suc (
 pending_numbers c at h (Finished f) = tt
 pending_numbers c at h Unknown = tt
 
-finish_numbers : (c at : ℕ) (h : History) → Numbers one h (finishing c at h)
+finish_numbers : (c at : ℕ) (h : History) → Numbers one h (act_of_finish c at h)
 finish_numbers c at h = pending_numbers c at h (pending h c)
 
 -- ---- what is said of one call
 
-reported_completes : (p : Places) (line : ℕ → Said) → ((k : ℕ) → made_by (line k) ≡ one k) → (y : Result ℕ Refusal) → made_in (reported p line y).said ≡ made_of one y
+reported_completes : (p : Places) (line : ℕ → Said) → ((k : ℕ) → made_by (line k) ≡ one k) → (y : Result ℕ Refusal) → made_in (turn_of_line p line y).said ≡ made_of one y
 reported_completes p line e (Ok k) = ap (λ l. l ++ []) (e k)
 reported_completes p line e (Err r) = refl
 
@@ -163,7 +163,7 @@ cut_completes p min (Ok (CutMade c span)) = refl
 cut_completes p min (Ok (NothingDone at)) = refl
 cut_completes p min (Err r) = refl
 
-commit_completes : (p after : Places) (y : Result Committed Refusal) → made_in (committed p after y).said ≡ made_of of_commit y
+commit_completes : (p after : Places) (y : Result Committed Refusal) → made_in (turn_of_commit p after y).said ≡ made_of of_commit y
 commit_completes p after (Ok done) = refl
 commit_completes p after (Err r) = refl
 
@@ -173,14 +173,14 @@ finish_completes p c at (Err r) = refl
 
 -- ---- refreshes
 
-refreshed_lists : (before all : List ℕ) (p : Places) (c : ℕ) (span : Span) (min : ℤ) (t : Taken) (y : Result ℕ Refusal) → Adds one (before ++ c ∷ []) all y → Lists before all (refreshed p c span min t y)
+refreshed_lists : (before all : List ℕ) (p : Places) (c : ℕ) (span : Span) (min : ℤ) (t : Taken) (y : Result ℕ Refusal) → Adds one (before ++ c ∷ []) all y → Lists before all (turn_of_refresh p c span min t y)
 refreshed_lists before all p c span min t (Ok k) e = e ∙ append_assoc before (c ∷ []) (k ∷ [])
 refreshed_lists before all p c span min t (Err r) e = e ∙ append_assoc before (c ∷ []) []
 
 after_snapshot_named : (before : List ℕ) (p : Places) (c : ℕ) (span : Span) (min : ℤ) (h : History) (y : Result Taken Refusal) → Names (Lists before) (before ++ c ∷ []) h (after_snapshot p c span min y)
 after_snapshot_named before p c span min h (Ok t) = λ g.
     let made : List ℕ = before ++ c ∷ [] in
-    names_as (Adds one made) (Lists before) made g (tries_at g (finishing c t.at g)) (refreshed p c span min t) (tries_named one made g (finishing c t.at g) (finish_numbers c t.at g)) (λ all y e. refreshed_lists before all p c span min t y e)
+    names_as (Adds one made) (Lists before) made g (tries_at g (act_of_finish c t.at g)) (turn_of_refresh p c span min t) (tries_named one made g (act_of_finish c t.at g) (finish_numbers c t.at g)) (λ all y e. refreshed_lists before all p c span min t y e)
 after_snapshot_named before p c span min h (Err r) = refl
 
 after_cut_named : (before all : List ℕ) (p : Places) (min : ℤ) (h : History) (y : Result CutDone Refusal) → Adds of_cut before all y → Names (Lists before) all h (after_cut p min y)
@@ -192,8 +192,8 @@ after_cut_named before all p min h (Ok (CutMade c span)) e =
 after_cut_named before all p min h (Ok (NothingDone at)) e = e
 after_cut_named before all p min h (Err r) e = e
 
-cut_then_named : (before : List ℕ) (p : Places) (n : ℕ) (lo hi : Option ℤ) (min : ℤ) (h : History) → Names (Lists before) before h (followed_by (tries_at h (cutting n lo hi h)) (after_cut p min))
-cut_then_named before p n lo hi min h = names_then (Adds of_cut before) (Lists before) before h (tries_at h (cutting n lo hi h)) (after_cut p min) (tries_named of_cut before h (cutting n lo hi h) (cut_numbers n lo hi h)) (λ all g y e. after_cut_named before all p min g y e)
+cut_then_named : (before : List ℕ) (p : Places) (n : ℕ) (lo hi : Option ℤ) (min : ℤ) (h : History) → Names (Lists before) before h (followed_by (tries_at h (act_of_cut n lo hi h)) (after_cut p min))
+cut_then_named before p n lo hi min h = names_then (Adds of_cut before) (Lists before) before h (tries_at h (act_of_cut n lo hi h)) (after_cut p min) (tries_named of_cut before h (act_of_cut n lo hi h) (cut_numbers n lo hi h)) (λ all g y e. after_cut_named before all p min g y e)
 
 refreshes_named : (before : List ℕ) (p : Places) (n : ℕ) (lo hi : Option ℤ) (min : ℤ) (h : History) → Names (Lists before) before h (refreshes p n lo hi min)
 refreshes_named before p n lo hi min h = λ g. cut_then_named before p n lo hi min g
@@ -216,11 +216,11 @@ snap_completes p c (Err r) = refl
 
 snaps_named : (p : Places) (h : History) (o : Option ℕ) → [] ≡ made_in (snaps p h o).said
 snaps_named p h None = refl
-snaps_named p h (Some c) = snap_completes p c (taken c h)
+snaps_named p h (Some c) = snap_completes p c (snapshot_taken c h)
 
 finishes_held_named : (p : Places) (h : History) (c : ℕ) (o : Option ℕ) → Names (Lists []) [] h (finishes_held p h c o)
 finishes_held_named p h c None = refl
-finishes_held_named p h c (Some at) = call_named one h (finishing c at h) (finish_turn p c at) (finish_numbers c at h) (finish_completes p c at)
+finishes_held_named p h c (Some at) = call_named one h (act_of_finish c at h) (finish_turn p c at) (finish_numbers c at h) (finish_completes p c at)
 
 finishes_named : (p : Places) (h : History) (o : Option ℕ) → Names (Lists []) [] h (finishes p h o)
 finishes_named p h None = refl
@@ -229,7 +229,7 @@ finishes_named p h (Some c) = finishes_held_named p h c (held_for c p.held)
 -- ---- blocks
 
 commits_named : (p after : Places) (h : History) (ops : List Op) → Names (Lists []) [] h (commits p after h ops)
-commits_named p after h ops = call_named of_commit h (committing ops h) (committed p after) (made_numbers of_commit h (CommitEvent ops) (calls_committed ops h) refl) (commit_completes p after)
+commits_named p after h ops = call_named of_commit h (act_of_commit ops h) (turn_of_commit p after) (made_numbers of_commit h (CommitEvent ops) (calls_committed ops h) refl) (commit_completes p after)
 
 changes_named : (p : Places) (bytes : ℕ) (h : History) (op : Op) (b : Block) → Names (Lists []) [] h (changes p bytes h op b)
 changes_named p bytes h op none = commits_named p p h (op ∷ [])
@@ -250,17 +250,17 @@ given_up_completes (reading at) = refl
 -- ---- statements
 
 acts_named : (p : Places) (bytes : ℕ) (h : History) (action : Action) → Names (Lists []) [] h (acts p bytes h action)
-acts_named p bytes h (actions.Table def) = call_named one h (making_table def h) (reported p said.Table) (new_numbers h (is_taken (roster h) def.name) (length (roster h).tables) (TableMade def)) (reported_completes p said.Table (λ k. refl))
-acts_named p bytes h (actions.Hyper t hyper) = call_named one h (making_hyper t hyper h) (reported p said.Hypertable) (hyper_numbers t hyper h) (reported_completes p said.Hypertable (λ k. refl))
+acts_named p bytes h (actions.Table def) = call_named one h (making_table def h) (turn_of_line p said.Table) (new_numbers h (is_taken (roster h) def.name) (length (roster h).tables) (TableMade def)) (reported_completes p said.Table (λ k. refl))
+acts_named p bytes h (actions.Hyper t hyper) = call_named one h (making_hyper t hyper h) (turn_of_line p said.Hypertable) (hyper_numbers t hyper h) (reported_completes p said.Hypertable (λ k. refl))
 acts_named p bytes h (actions.View def filled) =
     let n = length (roster h).views in
     names_then (Adds one []) (Lists []) [] h (tries_at h (making_view def h)) (after_view p n def filled) (tries_named one [] h (making_view def h) (new_numbers h (is_taken (roster h) def.name) n (ViewMade def))) (λ all g y e. after_view_named p n def filled all g y e)
-acts_named p bytes h (actions.Mode n only) = call_named one h (setting_mode n only h) (reported p said.Mode) (made_numbers one h (ModeEvent n only) (suc (position h)) refl) (reported_completes p said.Mode (λ k. refl))
+acts_named p bytes h (actions.Mode n only) = call_named one h (setting_mode n only h) (turn_of_line p said.Mode) (made_numbers one h (ModeEvent n only) (suc (position h)) refl) (reported_completes p said.Mode (λ k. refl))
 acts_named p bytes h (actions.Change op) = changes_named p bytes h op p.block
 acts_named p bytes h (actions.Refresh n lo hi) = cut_then_named [] p n lo hi (least_start (view_of (roster h) n)) h
 acts_named p bytes h (actions.Cut n lo hi) =
     let min = least_start (view_of (roster h) n) in
-    call_named of_cut h (cutting n lo hi h) (cut_turn p min) (cut_numbers n lo hi h) (cut_completes p min)
+    call_named of_cut h (act_of_cut n lo hi h) (cut_turn p min) (cut_numbers n lo hi h) (cut_completes p min)
 acts_named p bytes h (actions.Snap cut) = snaps_named p h (refresh_meant p cut)
 acts_named p bytes h (actions.Finish cut) = finishes_named p h (refresh_meant p cut)
 acts_named p bytes h actions.Begin = refl
@@ -291,7 +291,7 @@ shown_named p bytes g h at (stmts.Buckets fold) b e = refl
 shown_named p bytes g h at (stmts.Calendar number unit fold) b e = refl
 shown_named p bytes g h at (stmts.Rows table tests) b e = refl
 
-here_named : (p : Places) (bytes : ℕ) (h : History) (stmt : Stmt) (b : Block) → p.block ≡ b → block_refusal b (kind_of stmt) ≡ None → Names (Lists []) [] h (named p bytes stmt (read_at b h))
+here_named : (p : Places) (bytes : ℕ) (h : History) (stmt : Stmt) (b : Block) → p.block ≡ b → block_refusal b (kind_of stmt) ≡ None → Names (Lists []) [] h (turn_of_names p bytes stmt (read_at b h))
 here_named p bytes h stmt none e pass = named_holds (Names (Lists []) [] h) p bytes h stmt (λ r e. refl) (λ plan. refl) (λ r e. refl) (λ e. acts_named p bytes h (action_of (roster h) stmt))
 here_named p bytes h stmt (writing ops n) e pass = named_holds (Names (Lists []) [] h) p bytes h stmt (λ r e. refl) (λ plan. refl) (λ r e. refl) (λ e. acts_named p bytes h (action_of (roster h) stmt))
 here_named p bytes h stmt (reading at) e pass = named_holds (Names (Lists []) [] h) p bytes (prefix h at) stmt (λ r e. refl) (λ plan. refl) (λ r e. refl) (λ _. shown_named p bytes h (prefix h at) at stmt e pass)

@@ -8,7 +8,7 @@ use Rattle.ts_model.specs.declared.rosters.Roster.{Roster}
 use Rattle.ts_model.specs.declared.snapshots.Shown.{Ghosts as Shown}
 use Rattle.ts_model.specs.Allowed.{all_allowed}
 use Rattle.ts_model.specs.Answers.{can_ask}
-use Rattle.ts_model.specs.Calls.{cutting}
+use Rattle.ts_model.specs.Calls.{act_of_cut}
 use Rattle.ts_model.specs.History.{History, position}
 use Rattle.ts_model.specs.Roster.{roster}
 use Rattle.ts_model.specs.States.{State}
@@ -27,16 +27,16 @@ use Rattle.ts_sessions.specs.declared.deeds.Next.{Next}
 use Rattle.ts_sessions.specs.declared.deeds.Next.TheVariants as nexts
 use Rattle.ts_sessions.specs.declared.kinds.StatementKind.{StatementKind}
 use Rattle.ts_sessions.specs.declared.kinds.StatementKind.TheVariants as kinds
-use Rattle.ts_sessions.specs.declared.name_checks.Meant.{Meant}
-use Rattle.ts_sessions.specs.declared.name_checks.Meant.TheVariants as meant
+use Rattle.ts_sessions.specs.declared.name_checks.Resolved.{Resolved}
+use Rattle.ts_sessions.specs.declared.name_checks.Resolved.TheVariants as meant
 use Rattle.ts_sessions.specs.declared.queries.Plan.{Plan}
 use Rattle.ts_sessions.specs.Deeds.{DeedFits, IsFormed, Leads, NextFits, Opens, OpensTo, rest, rest_next}
-use Rattle.ts_sessions.specs.Meant.{asked_by, change_left, change_next, checked_as, left_of, looks_at_names, meant_by, meant_left, read_as}
+use Rattle.ts_sessions.specs.ResolvedNames.{asked_by, change_left, change_next, checked_as, left_of, looks_at_names, meant_by, meant_left, read_as}
 use Rattle.ts_sessions.specs.Places.{Block, Places, enters, none, reading, turns, writing, refuses}
 use Rattle.ts_sessions.specs.Procedures.{ending_as, ends, followed_by, looks, tries_at}
 use Rattle.ts_sessions.specs.Sessions.{queued_on}
 use Rattle.ts_sessions.specs.Sound.{AsksSoundly, kind_of_action}
-use Rattle.ts_sessions.specs.Step.{acts, after_cut, block_refusal, changes, cut_turn, kind_of, makes_event, named, named_as, named_first, named_here, performs, prints, read_at, looks_twice, unless}
+use Rattle.ts_sessions.specs.Step.{acts, after_cut, block_refusal, changes, cut_turn, kind_of, makes_event, turn_of_names, named_as, named_first, named_here, performs, prints, read_at, looks_twice, unless}
 use Rattle.ts_sessions.specs.Walks.{Breaks, Sees}
 use Rattle.ts_sessions.proofs.CalendarLaws.{calendar_asked, rows_asked}
 use Rattle.ts_sessions.proofs.DeedWalks.{looks_leads}
@@ -55,7 +55,7 @@ pub record PlanFits (r : Roster) (plan : Plan) : Type 0 where
   pub asks : IsTrue (can_ask r plan.query)
 
 -- a statement of this kind means this by the names of a roster
-abbrev pub IsMeant : {T J : Type 0} → Roster → StatementKind → Meant T J → Type 0
+abbrev pub IsMeant : {T J : Type 0} → Roster → StatementKind → Resolved T J → Type 0
 IsMeant r kind (meant.Refused q) = Unit {0}
 IsMeant r kind (meant.Shows plan) = PlanFits r plan
 IsMeant r kind (meant.Changes op) = kind ≡ kinds.Changes
@@ -79,15 +79,15 @@ module _ {T J : Type 0} (shown : Shown T J) (bytes : ℕ) (stmt : Stmt) (h : His
   read_meant uppers.NoMemory e = checked_meant (refusal_of (position h) (roster h) stmt) refl
 
   -- by a snapshot's position and roster
-  is_meant : (pos : ℕ) (r : Roster) (m : Meant T J) → pos ≡ position h → r ≡ roster h → m ≡ meant_by pos r stmt → IsMeant (roster h) (kind_of stmt) m
+  is_meant : (pos : ℕ) (r : Roster) (m : Resolved T J) → pos ≡ position h → r ≡ roster h → m ≡ meant_by pos r stmt → IsMeant (roster h) (kind_of stmt) m
   is_meant pos r m e f i = subst (IsMeant (roster h) (kind_of stmt)) (sym (i ∙ ap (λ x. meant_by x r stmt) e ∙ ap (λ x. meant_by (position h) x stmt) f)) (read_meant (upper_read (position h) (roster h) stmt) refl)
 
   -- a plan can be asked by each history of the snapshot
-  pub plan_fits : (g : History) (pos : ℕ) (r : Roster) (m : Meant T J) (plan : Plan) → pos ≡ position h → r ≡ roster h → r ≡ roster g → m ≡ meant_by pos r stmt → m ≡ meant.Shows plan → PlanFits (roster g) plan
+  pub plan_fits : (g : History) (pos : ℕ) (r : Roster) (m : Resolved T J) (plan : Plan) → pos ≡ position h → r ≡ roster h → r ≡ roster g → m ≡ meant_by pos r stmt → m ≡ meant.Shows plan → PlanFits (roster g) plan
   plan_fits g pos r m plan e f k i is = subst (λ x. PlanFits x plan) (sym f ∙ k) (subst (IsMeant (roster h) (kind_of stmt)) is (is_meant pos r m e f i))
 
   -- an operation is meant where the block lets changes pass
-  pub change_passes : (b : Block) (pos : ℕ) (r : Roster) (m : Meant T J) (op : Op) → block_refusal b (kind_of stmt) ≡ None → pos ≡ position h → r ≡ roster h → m ≡ meant_by pos r stmt → m ≡ meant.Changes op → block_refusal b kinds.Changes ≡ None
+  pub change_passes : (b : Block) (pos : ℕ) (r : Roster) (m : Resolved T J) (op : Op) → block_refusal b (kind_of stmt) ≡ None → pos ≡ position h → r ≡ roster h → m ≡ meant_by pos r stmt → m ≡ meant.Changes op → block_refusal b kinds.Changes ≡ None
   change_passes b pos r m op pass e f i is =
       let kind : kind_of stmt ≡ kinds.Changes = subst (IsMeant (roster h) (kind_of stmt)) is (is_meant pos r m e f i) in
       subst (λ k. block_refusal b k ≡ None) kind pass
@@ -95,7 +95,7 @@ module _ {T J : Type 0} (shown : Shown T J) (bytes : ℕ) (stmt : Stmt) (h : His
 -- ---- deeds and operations
 
 -- what is meant can be done
-abbrev pub MeantFits : {T J : Type 0} → Shown T J → Block → ℕ → State → Meant T J → Type 0
+abbrev pub MeantFits : {T J : Type 0} → Shown T J → Block → ℕ → State → Resolved T J → Type 0
 MeantFits shown b bytes s (meant.Refused q) = Unit {0}
 MeantFits shown b bytes s (meant.Shows plan) = Unit {0}
 MeantFits shown b bytes s (meant.Changes op) = IsOperation s.history bytes op
@@ -131,7 +131,7 @@ read_fits shown b bytes s stmt uppers.NotUpper look pass sound ok e = checked_fi
 read_fits shown b bytes s stmt uppers.NoMemory look pass sound ok e = checked_fits shown b bytes s stmt (refusal_of (position (read_at b s.history)) (roster (read_at b s.history)) stmt) look pass sound ok refl
 
 -- by a snapshot's position and roster
-pub meant_fits : {T J : Type 0} (shown : Shown T J) (b : Block) (bytes : ℕ) (s : State) (stmt : Stmt) (pos : ℕ) (r : Roster) (m : Meant T J) → IsTrue (looks_at_names (kind_of stmt)) → block_refusal b (kind_of stmt) ≡ None → AsksSoundly bytes stmt → IsTrue (all_allowed (read_at b s.history)) → pos ≡ position (read_at b s.history) → r ≡ roster (read_at b s.history) → m ≡ meant_by pos r stmt → MeantFits shown b bytes s m
+pub meant_fits : {T J : Type 0} (shown : Shown T J) (b : Block) (bytes : ℕ) (s : State) (stmt : Stmt) (pos : ℕ) (r : Roster) (m : Resolved T J) → IsTrue (looks_at_names (kind_of stmt)) → block_refusal b (kind_of stmt) ≡ None → AsksSoundly bytes stmt → IsTrue (all_allowed (read_at b s.history)) → pos ≡ position (read_at b s.history) → r ≡ roster (read_at b s.history) → m ≡ meant_by pos r stmt → MeantFits shown b bytes s m
 meant_fits shown b bytes s stmt pos r m look pass sound ok e f i =
     let h = read_at b s.history in
     subst (MeantFits shown b bytes s) (sym (i ∙ ap (λ x. meant_by x r stmt) e ∙ ap (λ x. meant_by (position h) x stmt) f))
@@ -148,7 +148,7 @@ acts_left shown p bytes none h other look pass k = let e = k refl in absurd cc
 acts_left shown p bytes (writing ops n) h other look pass k = absurd cc
 acts_left shown p bytes (reading at) h other look pass k = absurd cc
 
-pub named_left : {T J : Type 0} (shown : Shown T J) (p : Places) (bytes : ℕ) (b : Block) (h : History) (stmt : Stmt) → looks_at_names (kind_of stmt) ≡ true → block_refusal b (kind_of stmt) ≡ None → (b ≡ none → makes_event (kind_of stmt) ≡ false) → named p bytes stmt h ≡ meant_left {T = T} {J = J} p bytes b h (meant_by (position h) (roster h) stmt)
+pub named_left : {T J : Type 0} (shown : Shown T J) (p : Places) (bytes : ℕ) (b : Block) (h : History) (stmt : Stmt) → looks_at_names (kind_of stmt) ≡ true → block_refusal b (kind_of stmt) ≡ None → (b ≡ none → makes_event (kind_of stmt) ≡ false) → turn_of_names p bytes stmt h ≡ meant_left {T = T} {J = J} p bytes b h (meant_by (position h) (roster h) stmt)
 named_left {T} {J} shown p bytes b h stmt look pass k = read_left (upper_read (position h) (roster h) stmt)
   where
     checked_left : (o : Option Refusal) → unless p o (acts p bytes h (action_of (roster h) stmt)) ≡ meant_left {T = T} {J = J} p bytes b h (checked_as (roster h) stmt o)
@@ -170,8 +170,8 @@ event_left shown alone s p bytes (actions.Hyper t hyper) e k = leads_same alone 
 event_left shown alone s p bytes (actions.View def filled) e k = leads_same alone s (looks (λ h. acts p bytes h (actions.View def filled)))
 event_left shown alone s p bytes (actions.Mode n only) e k = leads_same alone s (looks (λ h. acts p bytes h (actions.Mode n only)))
 event_left shown alone s p bytes (actions.Change op) e k = leads_same alone s (looks (λ h. acts p bytes h (actions.Change op)))
-event_left shown alone s p bytes (actions.Refresh n lo hi) e k = looks_leads alone s (λ h. true) (λ h. acts p bytes h (actions.Refresh n lo hi)) _ (λ h on. ap (λ m. followed_by (tries_at h (cutting n lo hi h)) (after_cut p m)) (least_stays s.history h n on k.there))
-event_left shown alone s p bytes (actions.Cut n lo hi) e k = looks_leads alone s (λ h. true) (λ h. acts p bytes h (actions.Cut n lo hi)) _ (λ h on. ap (λ m. ending_as (cut_turn p m) (tries_at h (cutting n lo hi h))) (least_stays s.history h n on k.there))
+event_left shown alone s p bytes (actions.Refresh n lo hi) e k = looks_leads alone s (λ h. true) (λ h. acts p bytes h (actions.Refresh n lo hi)) _ (λ h on. ap (λ m. followed_by (tries_at h (act_of_cut n lo hi h)) (after_cut p m)) (least_stays s.history h n on k.there))
+event_left shown alone s p bytes (actions.Cut n lo hi) e k = looks_leads alone s (λ h. true) (λ h. acts p bytes h (actions.Cut n lo hi)) _ (λ h on. ap (λ m. ending_as (cut_turn p m) (tries_at h (act_of_cut n lo hi h))) (least_stays s.history h n on k.there))
 event_left shown alone s p bytes other e k = absurd cc
 
 first_left : {T J : Type 0} (shown : Shown T J) (alone : Bool) (s : State) (p : Places) (bytes : ℕ) (stmt : Stmt) (o : Option Refusal) → makes_event (kind_of stmt) ≡ true → AsksSoundly bytes stmt → IsTrue (all_allowed s.history) → refusal_of (position s.history) (roster s.history) stmt ≡ o → Leads alone false s (unless p o (looks (λ h. acts p bytes h (action_of (roster s.history) stmt)))) s (meant_left {T = T} {J = J} p bytes none s.history (checked_as (roster s.history) stmt o))
@@ -182,7 +182,7 @@ here_leads : {T J : Type 0} (shown : Shown T J) (alone : Bool) (old mid : State)
 here_leads {T} {J} shown alone old mid p bytes stmt look pass k s =
     let h = read_at p.block mid.history in
     subst (λ d. Leads alone false old (named_here p bytes stmt) mid d) (named_left shown p bytes p.block h stmt look pass k)
-    (saw_leads alone old mid (λ g. prints p.block (kind_of stmt) (refusal_of (position g) (roster g) stmt)) (λ g. named p bytes stmt (read_at p.block g)) s)
+    (saw_leads alone old mid (λ g. prints p.block (kind_of stmt) (refusal_of (position g) (roster g) stmt)) (λ g. turn_of_names p bytes stmt (read_at p.block g)) s)
 
 first_leads : {T J : Type 0} (shown : Shown T J) (alone : Bool) (old mid : State) (p : Places) (bytes : ℕ) (stmt : Stmt) → makes_event (kind_of stmt) ≡ true → AsksSoundly bytes stmt → IsTrue (all_allowed mid.history) → Sees alone old mid → Leads alone false old (named_first p bytes stmt) mid (meant_left {T = T} {J = J} p bytes none mid.history (meant_by (position mid.history) (roster mid.history) stmt))
 first_leads {T} {J} shown alone old mid p bytes stmt e sound ok s =
@@ -210,12 +210,12 @@ pub looked_broken : (alone : Bool) (old mid : State) (p : Places) (bytes : ℕ) 
 looked_broken alone old mid p bytes stmt s =
     performs_holds (λ d. Breaks alone old d mid) p bytes stmt
     (λ twice. record { mid = mid; first = s; rest = not_begun alone mid (unless p (refusal_of (position mid.history) (roster mid.history) stmt) (looks (λ h. acts p bytes h (action_of (roster mid.history) stmt)))) })
-    (λ once. record { mid = mid; first = s; rest = not_begun alone mid (named p bytes stmt (read_at p.block mid.history)) })
+    (λ once. record { mid = mid; first = s; rest = not_begun alone mid (turn_of_names p bytes stmt (read_at p.block mid.history)) })
 
 -- ---- what comes next
 
 -- what is left of what was meant, by a snapshot's position and roster
-pub seen_opens : {T J : Type 0} (shown : Shown T J) (bytes : ℕ) (alone : Bool) (s : State) (p : Places) (stmt : Stmt) (h : History) (pos : ℕ) (r : Roster) (m like : Meant T J) (result : Result (Next T J) NoMemory) (before after : ℕ) → pos ≡ position h → r ≡ roster h → m ≡ meant_by pos r stmt → m ≡ like → OpensTo shown bytes alone s (meant_left p bytes p.block h like) p result s before after → OpensTo shown bytes alone s (left_of shown p bytes stmt h) p result s before after
+pub seen_opens : {T J : Type 0} (shown : Shown T J) (bytes : ℕ) (alone : Bool) (s : State) (p : Places) (stmt : Stmt) (h : History) (pos : ℕ) (r : Roster) (m like : Resolved T J) (result : Result (Next T J) NoMemory) (before after : ℕ) → pos ≡ position h → r ≡ roster h → m ≡ meant_by pos r stmt → m ≡ like → OpensTo shown bytes alone s (meant_left p bytes p.block h like) p result s before after → OpensTo shown bytes alone s (left_of shown p bytes stmt h) p result s before after
 seen_opens shown bytes alone s p stmt h pos r m like result before after e f i is o =
     opens_as shown bytes alone s (left_of shown p bytes stmt h) (meant_left p bytes p.block h like) p result s before after
     (ap (meant_left p bytes p.block h) (sym (i ∙ ap (λ x. meant_by x r stmt) e ∙ ap (λ x. meant_by (position h) x stmt) f) ∙ is)) o

@@ -10,11 +10,11 @@ use Rattle.ts_model.specs.Pending.{pending}
 use Rattle.ts_model.specs.Calls.{Looked}
 use Rattle.ts_model.specs.Numbers.{no_refresh}
 use Rattle.ts_model.specs.Reads.{job_reads}
-use Rattle.ts_sessions.specs.declared.refreshes.Snapped.{Snapped}
-use Rattle.ts_sessions.specs.declared.refreshes.Snapped.TheVariants as snapped
+use Rattle.ts_sessions.specs.declared.refreshes.SnapOutcome.{SnapOutcome}
+use Rattle.ts_sessions.specs.declared.refreshes.SnapOutcome.TheVariants as snapped
 use Rattle.ts_sessions.specs.Procedures.{Procedure, sees, ends}
 use Rattle.ts_sessions.specs.Sessions.{IsTakenAs, SnapEnds, TakenAs, read_by, taken_as}
-use Rattle.ts_sessions.specs.Step.{taken, taken_of}
+use Rattle.ts_sessions.specs.Step.{snapshot_taken, taken_of}
 use Rattle.ts_sessions.specs.Walks.{Walks, Breaks}
 use Rattle.ts_sessions.proofs.StateLaws.{sees_looked}
 use Rattle.ts_sessions.proofs.WalkLaws.{not_begun}
@@ -36,13 +36,13 @@ unraised n short = omega arith
 
 -- ---- snapshots for refreshes
 
-pub looked_snaps : {J : Type 0} (alone : Bool) (old : State) (Reports : History → Type 0) (new : State) (c : ℕ) (result : Result (Snapped J) NoMemory) (before after : ℕ) → Looked alone old Reports new → TakenAs new.history c result before after → SnapEnds alone old c result new before after
+pub looked_snaps : {J : Type 0} (alone : Bool) (old : State) (Reports : History → Type 0) (new : State) (c : ℕ) (result : Result (SnapOutcome J) NoMemory) (before after : ℕ) → Looked alone old Reports new → TakenAs new.history c result before after → SnapEnds alone old c result new before after
 looked_snaps alone old Reports new c (Ok s) before after l k = record {
   read = k.read;
-  walks = looked_walks alone false old Reports new (λ h. true) (λ h. ends (taken c h)) new (taken_as k.read s) l (refl, refl, k.is);
+  walks = looked_walks alone false old Reports new (λ h. true) (λ h. ends (snapshot_taken c h)) new (taken_as k.read s) l (refl, refl, k.is);
   counted = k.counted;
 }
-looked_snaps alone old Reports new c (Err e) before after l k = (looked_only alone old Reports new (λ h. true) (λ h. ends (taken c h)) l, k)
+looked_snaps alone old Reports new c (Err e) before after l k = (looked_only alone old Reports new (λ h. true) (λ h. ends (snapshot_taken c h)) l, k)
 
 pub taken_waiting : {J : Type 0} (h : History) (c n at : ℕ) (job : J) (before after : ℕ) → pending h c ≡ Waiting n → at ≡ position h → after ≡ raised_by (job_reads h c) before → IsTakenAs h c (snapped.Taken at job) before after
 taken_waiting h c n at job before after w p counted = record {

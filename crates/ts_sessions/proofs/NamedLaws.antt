@@ -18,7 +18,7 @@ use Rattle.ts_sessions.specs.declared.kinds.StatementKind.{StatementKind}
 use Rattle.ts_sessions.specs.declared.queries.Plan.{Plan}
 use Rattle.ts_sessions.specs.Places.{Block, none, reading, writing, Places, Turn, refuses}
 use Rattle.ts_sessions.specs.Procedures.{Procedure, ends}
-use Rattle.ts_sessions.specs.Step.{acts, answers, as_read, kind_of, looks_twice, makes_event, misread, named, named_as, named_first, named_here, performs, roll_up_plan, unless}
+use Rattle.ts_sessions.specs.Step.{acts, answers, as_read, kind_of, looks_twice, makes_event, misread, turn_of_names, named_as, named_first, named_here, performs, roll_up_plan, unless}
 
 -- a statement that makes an event is no roll-up
 pub not_upper : (pos : ℕ) (r : Roster) (stmt : Stmt) → makes_event (kind_of stmt) ≡ true → upper_read pos r stmt ≡ uppers.NotUpper
@@ -42,7 +42,7 @@ not_upper pos r (stmts.Calendar number unit fold) e = refl
 not_upper pos r (stmts.Rows table tests) e = refl
 
 -- so it is checked
-pub event_named : (p : Places) (bytes : ℕ) (h : History) (stmt : Stmt) → makes_event (kind_of stmt) ≡ true → named p bytes stmt h ≡ unless p (refusal_of (position h) (roster h) stmt) (acts p bytes h (action_of (roster h) stmt))
+pub event_named : (p : Places) (bytes : ℕ) (h : History) (stmt : Stmt) → makes_event (kind_of stmt) ≡ true → turn_of_names p bytes stmt h ≡ unless p (refusal_of (position h) (roster h) stmt) (acts p bytes h (action_of (roster h) stmt))
 event_named p bytes h stmt e = ap (named_as p bytes h stmt) (not_upper (position h) (roster h) stmt e)
 
 -- ---- what holds of the parts of a procedure holds of it
@@ -90,5 +90,5 @@ module _ (C : Procedure (Turn Places) → Type 0) (p : Places) (bytes : ℕ) (h 
   asked_holds uppers.NotUpper e = checked_holds
   asked_holds uppers.NoMemory e = checked_holds
 
-  pub named_holds : C (named p bytes stmt h)
+  pub named_holds : C (turn_of_names p bytes stmt h)
   named_holds = asked_holds (upper_read (position h) (roster h) stmt) refl

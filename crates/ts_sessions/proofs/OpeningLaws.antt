@@ -12,7 +12,7 @@ use Rattle.ts_sessions.specs.declared.deeds.Next.{Next}
 use Rattle.ts_sessions.specs.declared.openings.Opening.{Opening}
 use Rattle.ts_sessions.specs.declared.openings.Opening.TheVariants as openings
 use Rattle.ts_sessions.specs.Held.{HoldsBlock, block_of}
-use Rattle.ts_sessions.specs.Meant.{looks_at_names}
+use Rattle.ts_sessions.specs.ResolvedNames.{looks_at_names}
 use Rattle.ts_sessions.specs.Openings.{opening_of}
 use Rattle.ts_sessions.specs.Places.{Places}
 use Rattle.ts_sessions.specs.Step.{block_refusal, kind_of}

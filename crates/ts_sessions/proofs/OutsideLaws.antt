@@ -2,7 +2,7 @@
 use Rattle.std.proofs.Common.{◌≡◌, ℕ, true, [], ◌∷◌, length, sym, ap, ◌∙◌, subst, arith}
 use Rattle.std.specs.Prelude.{Result, Ok, Err}
 use Rattle.std.proofs.lemmas.Bool.{true≢false}
-use Rattle.ts_model.specs.Calls.{cutting, making_hyper, making_table, making_view, setting_mode}
+use Rattle.ts_model.specs.Calls.{act_of_cut, making_hyper, making_table, making_view, setting_mode}
 use Rattle.ts_model.specs.History.{History, position}
 use Rattle.ts_model.specs.Roster.{roster, view_of}
 use Rattle.stmt_reader.specs.declared.faults.Fault.{Fault}
@@ -17,7 +17,7 @@ use Rattle.ts_sessions.specs.Actors.{ReadsEvent, StaysOutside}
 use Rattle.ts_sessions.specs.Places.{Block, none, Places, Turn}
 use Rattle.ts_sessions.specs.Procedures.{looks}
 use Rattle.ts_sessions.specs.Sound.{kind_of_action}
-use Rattle.ts_sessions.specs.Step.{acts, after_cut, after_view, block_refusal, changes, cut_turn, kind_of, least_start, makes_event, named_first, reported, step, as_read, passes_block, performs}
+use Rattle.ts_sessions.specs.Step.{acts, after_cut, after_view, block_refusal, changes, cut_turn, kind_of, least_start, makes_event, named_first, turn_of_line, step, as_read, passes_block, performs}
 use Rattle.ts_sessions.proofs.NamedLaws.{once_outside, performs_holds, unless_holds}
 use Rattle.ts_sessions.proofs.SoundLaws.{kinds_agree}
 use Rattle.ts_sessions.proofs.TurnBlocks.{EndsBy, InTurn, by_commits, by_cut, by_cut_turn, by_reported, by_view, call_by, one_by, walks_by}
@@ -34,13 +34,13 @@ module _ (n : ℕ) where
   -- the places before it
   module _ (p : Places) (out : p.block ≡ none) where
     out_acts : (bytes : ℕ) (h : History) (a : Action) → makes_event (kind_of_action a) ≡ true → EndsBy IsOut n (acts p bytes h a)
-    out_acts bytes h (actions.Table def) e = one_by IsOut n h (making_table def h) (reported p said.Table) (by_reported IsOutside n p out said.Table)
-    out_acts bytes h (actions.Hyper t hyper) e = one_by IsOut n h (making_hyper t hyper h) (reported p said.Hypertable) (by_reported IsOutside n p out said.Hypertable)
+    out_acts bytes h (actions.Table def) e = one_by IsOut n h (making_table def h) (turn_of_line p said.Table) (by_reported IsOutside n p out said.Table)
+    out_acts bytes h (actions.Hyper t hyper) e = one_by IsOut n h (making_hyper t hyper h) (turn_of_line p said.Hypertable) (by_reported IsOutside n p out said.Hypertable)
     out_acts bytes h (actions.View def filled) e = let k = length (roster h).views in call_by IsOut n h (making_view def h) (after_view p k def filled) (by_view IsOutside n p out k def filled)
-    out_acts bytes h (actions.Mode k only) e = one_by IsOut n h (setting_mode k only h) (reported p said.Mode) (by_reported IsOutside n p out said.Mode)
+    out_acts bytes h (actions.Mode k only) e = one_by IsOut n h (setting_mode k only h) (turn_of_line p said.Mode) (by_reported IsOutside n p out said.Mode)
     out_acts bytes h (actions.Change op) e = subst (λ b. EndsBy IsOut n (changes p bytes h op b)) (sym out) (by_commits IsOutside n p out p out h (op ∷ []))
-    out_acts bytes h (actions.Refresh k lo hi) e = let min = least_start (view_of (roster h) k) in call_by IsOut n h (cutting k lo hi h) (after_cut p min) (by_cut IsOutside n p out min)
-    out_acts bytes h (actions.Cut k lo hi) e = let min = least_start (view_of (roster h) k) in one_by IsOut n h (cutting k lo hi h) (cut_turn p min) (by_cut_turn IsOutside n p out min)
+    out_acts bytes h (actions.Refresh k lo hi) e = let min = least_start (view_of (roster h) k) in call_by IsOut n h (act_of_cut k lo hi h) (after_cut p min) (by_cut IsOutside n p out min)
+    out_acts bytes h (actions.Cut k lo hi) e = let min = least_start (view_of (roster h) k) in one_by IsOut n h (act_of_cut k lo hi h) (cut_turn p min) (by_cut_turn IsOutside n p out min)
     out_acts bytes h (actions.Snap cut) e = absurd (true≢false (sym e))
     out_acts bytes h (actions.Finish cut) e = absurd (true≢false (sym e))
     out_acts bytes h actions.Begin e = absurd (true≢false (sym e))

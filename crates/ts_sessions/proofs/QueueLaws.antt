@@ -24,10 +24,10 @@ use Rattle.result_text.specs.Replies.{reply_text}
 use Rattle.ts_sessions.specs.Held.{HoldsBlock, block_of}
 use Rattle.ts_sessions.specs.LineLaws.{OthersSeeNoQueue, QueriesShowTheQueue}
 use Rattle.ts_sessions.specs.Places.{Places, no_places, queue_in}
-use Rattle.ts_sessions.specs.Script.{LineResult, ScriptState, executes_as, places_of, refused, session_semantics, takes_turn, text_of, with_places}
+use Rattle.ts_sessions.specs.Script.{LineResult, ScriptState, executes_as, places_of, line_of_refusal, session_semantics, takes_turn, text_of, with_places}
 use Rattle.ts_model.specs.Limits.{most_sessions}
 use Rattle.ts_sessions.specs.Step.{bare, step}
-use Rattle.ts_sessions.specs.Walks.{ending}
+use Rattle.ts_sessions.specs.Walks.{end_of_walk}
 
 -- a queue leaves the tables and aggregates as they are
 pub queue_roster : (ops : List Op) (h : History) → roster (with_queue ops h) ≡ roster h
@@ -88,14 +88,14 @@ as_many other p q (entry ∷ sessions) =
 
 -- what is written depends on the history, on the places of the session, and on how many sessions there are
 abbrev written_by : (h : History) (name text : List ℕ) (skip many : ℕ) → Option Places → List ℕ
-written_by h name text skip many (Some p) = text_of name (ending (step p text skip) h).said
-written_by h name text skip many None = cond (nat_lt many most_sessions) (text_of name (ending (step no_places text skip) h).said) (reply_text name (said.Fault (bare too_many_sessions)))
+written_by h name text skip many (Some p) = text_of name (end_of_walk (step p text skip) h).said
+written_by h name text skip many None = cond (nat_lt many most_sessions) (text_of name (end_of_walk (step no_places text skip) h).said) (reply_text name (said.Fault (bare too_many_sessions)))
 
 executes_by : (s : ScriptState Places) (name text : List ℕ) (skip : ℕ) (o : Option Places) → (executes_as session_semantics s name text skip o).text ≡ written_by s.history name text skip (length s.sessions) o
 executes_by s name text skip (Some p) = refl
 executes_by s name text skip None =
     let turn : LineResult Places = takes_turn s name (step no_places text skip) in
-    let refusal : LineResult Places = refused s (reply_text name (said.Fault (bare too_many_sessions))) in
+    let refusal : LineResult Places = line_of_refusal s (reply_text name (said.Fault (bare too_many_sessions))) in
     elim (nat_lt (length s.sessions) most_sessions) as (λ b. (cond b turn refusal).text ≡ cond b turn.text refusal.text) [ true ↦ refl | false ↦ refl ]
 
 pub others_see_no_queue : OthersSeeNoQueue

@@ -24,7 +24,7 @@ use Rattle.stmt_check.specs.Check.{refusal_of, rows_query_refusal, table_at, tim
 use Rattle.stmt_check.specs.Limits.{most_rows}
 use Rattle.stmt_check.specs.Folds.{aggregate_name, columns_before, is_key, is_shift, is_step, is_taken, is_time_column, aggregate_refusal, aggregates_refusal, argument_refusal, fold_refusal, key_refusal, keys_refusal, tests_refusal, width_refusal, bucket_column, calendar_refusal, head_name, is_unit, output_count, rest_refusal, unit_count, units_refusal}
 use Rattle.stmt_check.specs.Queries.{bound_refusal, bounds_start, is_bucket_column, starts_refusal}
-use Rattle.stmt_check.specs.Refusals.{◌⊳◌, finds_nothing, hypertable_refusal, marked, missing, name_refusal, plain_refusal, refused, query_refusal, view_refusal}
+use Rattle.stmt_check.specs.Refusals.{◌⊳◌, finds_nothing, hypertable_refusal, marked_refusal, refusal_if_none, name_refusal, plain_refusal, refusal_if, query_refusal, view_refusal}
 use Rattle.stmt_check.specs.Rows.{insert_refusal, list_refusal, list_refusal_of, row_refusal, rows_refusal, shape_of, value_refusal, values_refusal}
 use Rattle.stmt_check.specs.Tables.{columns_refusal, hyper_refusal, is_among, is_column, is_interval}
 use Rattle.ts_sessions.specs.Looks.{shows_position}
@@ -65,7 +65,7 @@ pub then_looked : (pos : ℕ) (a b : Option Refusal) → Looked pos a → Looked
 then_looked pos None b x y = y
 then_looked pos (Some r) b x y = x
 
-pub marked_looked : (pos code mark : ℕ) (wrong : Bool) → is_looked code ≡ true → Looked pos (marked pos code mark wrong)
+pub marked_looked : (pos code mark : ℕ) (wrong : Bool) → is_looked code ≡ true → Looked pos (marked_refusal pos code mark wrong)
 marked_looked pos code mark true e = looked pos code mark e
 marked_looked pos code mark false e = tt
 
@@ -97,7 +97,7 @@ query_looked pos (found.View n) = tt
 
 name_looked : (pos : ℕ) (roster : Roster) (name : List ℕ) (there : ℕ) → Looked pos (name_refusal pos roster name there)
 name_looked pos roster name there =
-    then_looked pos (marked pos name_taken 0 (not (finds_nothing (found_in roster name)))) (marked pos too_many (suc most_relations) (nat_le most_relations there))
+    then_looked pos (marked_refusal pos name_taken 0 (not (finds_nothing (found_in roster name)))) (marked_refusal pos too_many (suc most_relations) (nat_le most_relations there))
     (marked_looked pos name_taken 0 (not (finds_nothing (found_in roster name))) refl)
     (marked_looked pos too_many (suc most_relations) (nat_le most_relations there) refl)
 
@@ -106,15 +106,15 @@ name_looked pos roster name there =
 columns_looked : (pos count : ℕ) (before cols : List Column) → Looked pos (columns_refusal pos count before cols)
 columns_looked pos count before [] = tt
 columns_looked pos count before (c ∷ cs) =
-    let more = marked pos too_many count (nat_le most_columns (length before)) in
+    let more = marked_refusal pos too_many count (nat_le most_columns (length before)) in
     let rest = columns_refusal pos count (before ++ c ∷ []) cs in
-    then_looked pos (marked pos name_taken 0 (is_column c.name before)) (more ⊳ rest)
+    then_looked pos (marked_refusal pos name_taken 0 (is_column c.name before)) (more ⊳ rest)
     (marked_looked pos name_taken 0 (is_column c.name before) refl)
     (then_looked pos more rest (marked_looked pos too_many count (nat_le most_columns (length before)) refl) (columns_looked pos count (before ++ c ∷ []) cs))
 
 hyper_looked : (pos : ℕ) (cols : List Column) (col : List ℕ) (interval : ℤ) → Looked pos (hyper_refusal pos cols col interval)
 hyper_looked pos cols col interval =
-    then_looked pos (marked pos no_column 0 (is_none (column_from col 0 cols))) (marked pos bad_width 0 (not (is_interval interval)))
+    then_looked pos (marked_refusal pos no_column 0 (is_none (column_from col 0 cols))) (marked_refusal pos bad_width 0 (not (is_interval interval)))
     (marked_looked pos no_column 0 (is_none (column_from col 0 cols)) refl)
     (marked_looked pos bad_width 0 (not (is_interval interval)) refl)
 
@@ -123,9 +123,9 @@ hyper_looked pos cols col interval =
 list_looked : (pos : ℕ) (cols : List Column) (before names : List (List ℕ)) → Looked pos (list_refusal pos cols before names)
 list_looked pos cols before [] = tt
 list_looked pos cols before (n ∷ ns) =
-    let lost = marked pos no_column 0 (is_none (column_from n 0 cols)) in
+    let lost = marked_refusal pos no_column 0 (is_none (column_from n 0 cols)) in
     let rest = list_refusal pos cols (before ++ n ∷ []) ns in
-    then_looked pos (marked pos name_taken 0 (is_among n before)) (lost ⊳ rest)
+    then_looked pos (marked_refusal pos name_taken 0 (is_among n before)) (lost ⊳ rest)
     (marked_looked pos name_taken 0 (is_among n before) refl)
     (then_looked pos lost rest (marked_looked pos no_column 0 (is_none (column_from n 0 cols)) refl) (list_looked pos cols (before ++ n ∷ []) ns))
 
@@ -144,10 +144,10 @@ values_looked pos (r ∷ rs) (v ∷ vs) = then_looked pos (value_refusal pos r v
 
 row_looked : (pos : ℕ) (shape : _) (k : ℕ) (values : List (Option ℤ)) → Looked pos (row_refusal pos shape k values)
 row_looked pos shape k values =
-    let count = marked pos value_count 0 (not (length values == length shape.rules)) in
-    let left = marked pos null_value 0 shape.left_out in
+    let count = marked_refusal pos value_count 0 (not (length values == length shape.rules)) in
+    let left = marked_refusal pos null_value 0 shape.left_out in
     let each = values_refusal pos shape.rules values in
-    then_looked pos (marked pos too_many shape.count (nat_le most_rows k)) (count ⊳ left ⊳ each)
+    then_looked pos (marked_refusal pos too_many shape.count (nat_le most_rows k)) (count ⊳ left ⊳ each)
     (marked_looked pos too_many shape.count (nat_le most_rows k) refl)
     (then_looked pos count (left ⊳ each) (marked_looked pos value_count 0 (not (length values == length shape.rules)) refl)
     (then_looked pos left each (marked_looked pos null_value 0 shape.left_out refl) (values_looked pos shape.rules values)))
@@ -166,7 +166,7 @@ insert_looked pos at cols names rows =
 tests_looked : (pos : ℕ) (info : TableInfo) (tests : List NamedTest) → Looked pos (tests_refusal pos info tests)
 tests_looked pos info [] = tt
 tests_looked pos info (t ∷ ts) =
-    then_looked pos (marked pos no_column 0 (is_none (column_of info t.col))) (tests_refusal pos info ts)
+    then_looked pos (marked_refusal pos no_column 0 (is_none (column_of info t.col))) (tests_refusal pos info ts)
     (marked_looked pos no_column 0 (is_none (column_of info t.col)) refl)
     (tests_looked pos info ts)
 
@@ -176,10 +176,10 @@ argument_looked pos info (Some col) = marked_looked pos no_column 0 (is_none (co
 
 aggregate_looked : (pos count : ℕ) (info : TableInfo) (others : ℕ) (repeats : Bool) (a : NamedAgg) → Looked pos (aggregate_refusal pos count info others repeats a)
 aggregate_looked pos count info others repeats a =
-    let many = marked pos too_many count (nat_le most_columns others) in
+    let many = marked_refusal pos too_many count (nat_le most_columns others) in
     let argument = argument_refusal pos info a.col in
-    let named = marked pos name_taken 0 (is_some a.name && repeats) in
-    then_looked pos (marked pos name_taken 0 (is_none a.name && repeats)) (many ⊳ argument ⊳ named)
+    let named = marked_refusal pos name_taken 0 (is_some a.name && repeats) in
+    then_looked pos (marked_refusal pos name_taken 0 (is_none a.name && repeats)) (many ⊳ argument ⊳ named)
     (marked_looked pos name_taken 0 (is_none a.name && repeats) refl)
     (then_looked pos many (argument ⊳ named) (marked_looked pos too_many count (nat_le most_columns others) refl)
     (then_looked pos argument named (argument_looked pos info a.col) (marked_looked pos name_taken 0 (is_some a.name && repeats) refl)))
@@ -195,9 +195,9 @@ aggregates_looked pos distinct count info bucket keys before (a ∷ left) =
 
 key_looked : (pos count : ℕ) (info : TableInfo) (others : ℕ) (repeats : Bool) (key : List ℕ) → Looked pos (key_refusal pos count info others repeats key)
 key_looked pos count info others repeats key =
-    let lost = marked pos no_column 0 (is_none (column_of info key)) in
-    let many = marked pos too_many count (nat_le most_columns others) in
-    then_looked pos (marked pos name_taken 0 repeats) (lost ⊳ many)
+    let lost = marked_refusal pos no_column 0 (is_none (column_of info key)) in
+    let many = marked_refusal pos too_many count (nat_le most_columns others) in
+    then_looked pos (marked_refusal pos name_taken 0 repeats) (lost ⊳ many)
     (marked_looked pos name_taken 0 repeats refl)
     (then_looked pos lost many (marked_looked pos no_column 0 (is_none (column_of info key)) refl) (marked_looked pos too_many count (nat_le most_columns others) refl))
 
@@ -212,9 +212,9 @@ keys_looked pos distinct count info bucket before (k ∷ left) =
 
 width_looked : (pos : ℕ) (info : TableInfo) (f : NamedFold) → Looked pos (width_refusal pos info f)
 width_looked pos info f =
-    let at = marked pos no_column 0 (not (is_time_column (column_of info f.at))) in
-    let shift = marked pos bad_width 0 (not (is_shift f.step f.shift)) in
-    then_looked pos (marked pos bad_width 0 (not (is_step f.step))) (at ⊳ shift)
+    let at = marked_refusal pos no_column 0 (not (is_time_column (column_of info f.at))) in
+    let shift = marked_refusal pos bad_width 0 (not (is_shift f.step f.shift)) in
+    then_looked pos (marked_refusal pos bad_width 0 (not (is_step f.step))) (at ⊳ shift)
     (marked_looked pos bad_width 0 (not (is_step f.step)) refl)
     (then_looked pos at shift (marked_looked pos no_column 0 (not (is_time_column (column_of info f.at))) refl) (marked_looked pos bad_width 0 (not (is_shift f.step f.shift)) refl))
 
@@ -230,17 +230,17 @@ fold_looked : (pos : ℕ) (distinct : Bool) (info : TableInfo) (f : NamedFold) �
 fold_looked pos distinct info f =
     then_looked pos (width_refusal pos info f) (rest_refusal pos distinct (bucket_column f) info f) (width_looked pos info f) (rest_looked pos distinct (bucket_column f) info f)
 
-unit_looked : (pos : ℕ) (wrong : Bool) → Looked pos (refused pos bad_unit wrong)
+unit_looked : (pos : ℕ) (wrong : Bool) → Looked pos (refusal_if pos bad_unit wrong)
 unit_looked pos true = looked pos bad_unit 0 refl
 unit_looked pos false = tt
 
 units_looked : (pos : ℕ) (info : TableInfo) (number : ℤ) (unit : List ℕ) (f : NamedFold) → Looked pos (units_refusal pos info number unit f)
 units_looked pos info number unit f =
-    let count = missing pos bad_unit (unit_count number) in
-    let known = refused pos bad_unit (not (is_unit unit)) in
+    let count = refusal_if_none pos bad_unit (unit_count number) in
+    let known = refusal_if pos bad_unit (not (is_unit unit)) in
     let wrong = not (is_time_column (column_of info f.at)) in
-    then_looked pos count (known ⊳ refused pos no_column wrong) (unit_looked pos (is_none (unit_count number)))
-    (then_looked pos known (refused pos no_column wrong) (unit_looked pos (not (is_unit unit))) (marked_looked pos no_column 0 wrong refl))
+    then_looked pos count (known ⊳ refusal_if pos no_column wrong) (unit_looked pos (is_none (unit_count number)))
+    (then_looked pos known (refusal_if pos no_column wrong) (unit_looked pos (not (is_unit unit))) (marked_looked pos no_column 0 wrong refl))
 
 calendar_looked : (pos : ℕ) (info : TableInfo) (number : ℤ) (unit : List ℕ) (f : NamedFold) → Looked pos (calendar_refusal pos info number unit f)
 calendar_looked pos info number unit f =
@@ -251,7 +251,7 @@ starts_looked : (pos : ℕ) (def : ViewDef) (tests : List NamedTest) → Looked 
 starts_looked pos def [] = tt
 starts_looked pos def (t ∷ ts) =
     let wrong = not (is_bucket_column (view_column_of def t.col) && bounds_start t.cmp) in
-    then_looked pos (marked pos no_column 0 wrong) (starts_refusal pos def ts) (marked_looked pos no_column 0 wrong refl) (starts_looked pos def ts)
+    then_looked pos (marked_refusal pos no_column 0 wrong) (starts_refusal pos def ts) (marked_looked pos no_column 0 wrong refl) (starts_looked pos def ts)
 
 bound_looked : (pos : ℕ) (t : Option ℤ) → Looked pos (bound_refusal pos t)
 bound_looked pos None = tt

@@ -9,7 +9,7 @@ use Rattle.ts_model.specs.declared.outcomes.Refusal.{Refusal}
 use Rattle.ts_model.specs.declared.rosters.Roster.{Roster}
 use Rattle.ts_model.specs.declared.views.ViewDef.{ViewDef}
 use Rattle.ts_model.specs.Allowed.{all_allowed}
-use Rattle.ts_model.specs.Calls.{numbered, refusal, refuses as is_refused}
+use Rattle.ts_model.specs.Calls.{act_with_number, refusal, refuses as is_refused}
 use Rattle.ts_model.specs.Numbers.{name_taken, too_many}
 use Rattle.ts_model.specs.History.{History, position, Begins}
 use Rattle.ts_model.specs.Limits.{most_relations}
@@ -27,7 +27,7 @@ use Rattle.stmt_tokens.specs.Streams.{Stream, stream}
 use Rattle.stmt_check.specs.declared.actions.Action.{Action}
 use Rattle.stmt_check.specs.declared.actions.Action.TheVariants as actions
 use Rattle.stmt_check.specs.Check.{action_of, no_view, refusal_of, table_at}
-use Rattle.stmt_check.specs.Refusals.{◌⊳◌, marked, name_refusal, plain_refusal, refused}
+use Rattle.stmt_check.specs.Refusals.{◌⊳◌, marked_refusal, name_refusal, plain_refusal, refusal_if}
 use Rattle.stmt_check.specs.Tables.{hyper_refusal}
 use Rattle.result_text.specs.declared.replies.Said.TheVariants as said
 use Rattle.stmt_check.proofs.FoundLaws.{RelationAt, relation_at}
@@ -37,8 +37,8 @@ use Rattle.ts_sessions.specs.Procedures.{Procedure, looks, ends, followed_by, en
 use Rattle.ts_sessions.specs.LineLaws.{NamesStay, StepsAreReplies}
 use Rattle.ts_sessions.specs.Places.{Places, Turn, refuses}
 use Rattle.ts_sessions.specs.Replies.{replies}
-use Rattle.ts_sessions.specs.Step.{acts, after_view, block_refusal, kind_of, makes_event, named, named_first, named_here, read_at, reported, as_read, looks_twice, passes_block, performs, unless}
-use Rattle.ts_sessions.specs.Walks.{Walks, history_after, ending}
+use Rattle.ts_sessions.specs.Step.{acts, after_view, block_refusal, kind_of, makes_event, turn_of_names, named_first, named_here, read_at, turn_of_line, as_read, looks_twice, passes_block, performs, unless}
+use Rattle.ts_sessions.specs.Walks.{Walks, history_after, end_of_walk}
 use Rattle.ts_sessions.proofs.NamedLaws.{event_named, performs_holds, twice_outside}
 use Rattle.ts_sessions.proofs.StateLaws.{goes_seen, sees_trans}
 use Rattle.ts_sessions.proofs.WalkLaws.{goes_walks}
@@ -46,11 +46,11 @@ use Rattle.ts_sessions.proofs.WalkLaws.{goes_walks}
 -- ---- names that stay
 
 -- a statement that still passes and asks for the same
-pub stays_named : (p : Places) (bytes : ℕ) (stmt : Stmt) (g h : History) → makes_event (kind_of stmt) ≡ true → Stays g h stmt → acts p bytes h (action_of (roster g) stmt) ≡ named p bytes stmt h
+pub stays_named : (p : Places) (bytes : ℕ) (stmt : Stmt) (g h : History) → makes_event (kind_of stmt) ≡ true → Stays g h stmt → acts p bytes h (action_of (roster g) stmt) ≡ turn_of_names p bytes stmt h
 stays_named p bytes stmt g h makes s = ap (acts p bytes h) (sym s.action) ∙ ap (λ o. unless p o (acts p bytes h (action_of (roster h) stmt))) (sym (s.passes (position h))) ∙ sym (event_named p bytes h stmt makes)
 
 -- a relation to be made whose name was taken meanwhile, or that is one too many now: its call and the check of its name refuse it alike
-new_or_refused : (p : Places) (bytes : ℕ) (h : History) (stmt : Stmt) (taken few : Bool) (there : Bool → Bool → Procedure (Turn Places)) → there taken few ≡ acts p bytes h (action_of (roster h) stmt) → ((b : Bool) → there true b ≡ ends (refuses p (refusal name_taken h 0))) → there false false ≡ ends (refuses p (refusal too_many h (suc most_relations))) → there taken few ≡ unless p (refused (position h) name_taken taken ⊳ marked (position h) too_many (suc most_relations) (not few)) (acts p bytes h (action_of (roster h) stmt))
+new_or_refused : (p : Places) (bytes : ℕ) (h : History) (stmt : Stmt) (taken few : Bool) (there : Bool → Bool → Procedure (Turn Places)) → there taken few ≡ acts p bytes h (action_of (roster h) stmt) → ((b : Bool) → there true b ≡ ends (refuses p (refusal name_taken h 0))) → there false false ≡ ends (refuses p (refusal too_many h (suc most_relations))) → there taken few ≡ unless p (refusal_if (position h) name_taken taken ⊳ marked_refusal (position h) too_many (suc most_relations) (not few)) (acts p bytes h (action_of (roster h) stmt))
 new_or_refused p bytes h stmt true few there here one many = one few
 new_or_refused p bytes h stmt false false there here one many = many
 new_or_refused p bytes h stmt false true there here one many = here
@@ -59,31 +59,31 @@ not_few : (n : ℕ) → nat_le most_relations n ≡ not (nat_lt n most_relations
 not_few n = grind (arith, nat_tests)
 
 -- the check of a name, by whether it is taken and whether there are too many
-name_refused : (pos : ℕ) (r : Roster) (name : List ℕ) (many : ℕ) → name_refusal pos r name many ≡ (refused pos name_taken (is_taken r name) ⊳ marked pos too_many (suc most_relations) (not (nat_lt many most_relations)))
+name_refused : (pos : ℕ) (r : Roster) (name : List ℕ) (many : ℕ) → name_refusal pos r name many ≡ (refusal_if pos name_taken (is_taken r name) ⊳ marked_refusal pos too_many (suc most_relations) (not (nat_lt many most_relations)))
 name_refused pos r name many =
-    ap (λ t. refused pos name_taken t ⊳ marked pos too_many (suc most_relations) (nat_le most_relations many)) (sym (found_is_taken r name))
-    ∙ ap (λ f. refused pos name_taken (is_taken r name) ⊳ marked pos too_many (suc most_relations) f) (not_few many)
+    ap (λ t. refusal_if pos name_taken t ⊳ marked_refusal pos too_many (suc most_relations) (nat_le most_relations many)) (sym (found_is_taken r name))
+    ∙ ap (λ f. refusal_if pos name_taken (is_taken r name) ⊳ marked_refusal pos too_many (suc most_relations) f) (not_few many)
 
 -- what is refused behind something
 or_none : (a b : Option Refusal) → b ≡ None → (a ⊳ b) ≡ a
 or_none None b e = e
 or_none (Some r) b e = refl
 
-new_table : (p : Places) (bytes : ℕ) (g h : History) (name : List ℕ) (cols : List Column) → refusal_of (position g) (roster g) (stmts.Table name cols) ≡ None → acts p bytes h (action_of (roster g) (stmts.Table name cols)) ≡ named p bytes (stmts.Table name cols) h
+new_table : (p : Places) (bytes : ℕ) (g h : History) (name : List ℕ) (cols : List Column) → refusal_of (position g) (roster g) (stmts.Table name cols) ≡ None → acts p bytes h (action_of (roster g) (stmts.Table name cols)) ≡ turn_of_names p bytes (stmts.Table name cols) h
 new_table p bytes g h name cols e =
     let stmt = stmts.Table name cols in
     let many = length (roster h).tables in
-    let there : Bool → Bool → Procedure (Turn Places) = λ taken few. ending_as (reported p said.Table) (tries_at h (cond taken (is_refused (refusal name_taken h 0)) (cond few (numbered h (events.Table (record { name = name; cols = cols }))) (is_refused (refusal too_many h (suc most_relations)))))) in
+    let there : Bool → Bool → Procedure (Turn Places) = λ taken few. ending_as (turn_of_line p said.Table) (tries_at h (cond taken (is_refused (refusal name_taken h 0)) (cond few (act_with_number h (events.Table (record { name = name; cols = cols }))) (is_refused (refusal too_many h (suc most_relations)))))) in
     new_or_refused p bytes h stmt (is_taken (roster h) name) (nat_lt many most_relations) there refl (λ b. refl) refl
     ∙ ap (λ o. unless p o (acts p bytes h (action_of (roster h) stmt))) (sym (or_none (name_refusal (position h) (roster h) name many) _ (table_later (position g) (position h) (roster g) name cols e) ∙ name_refused (position h) (roster h) name many))
 
-new_aggregate : (p : Places) (bytes : ℕ) (g h : History) (name : List ℕ) (only filled : Bool) (fold : NamedFold) → Begins g h → refusal_of (position g) (roster g) (stmts.View name only filled fold) ≡ None → acts p bytes h (action_of (roster g) (stmts.View name only filled fold)) ≡ named p bytes (stmts.View name only filled fold) h
+new_aggregate : (p : Places) (bytes : ℕ) (g h : History) (name : List ℕ) (only filled : Bool) (fold : NamedFold) → Begins g h → refusal_of (position g) (roster g) (stmts.View name only filled fold) ≡ None → acts p bytes h (action_of (roster g) (stmts.View name only filled fold)) ≡ turn_of_names p bytes (stmts.View name only filled fold) h
 new_aggregate p bytes g h name only filled fold b e =
     let stmt = stmts.View name only filled fold in
     let many = length (roster h).views in
     let later = aggregate_made_later g h (position g) name only filled fold b e in
     let def = aggregate_of (action_of (roster h) stmt) in
-    let there : Bool → Bool → Procedure (Turn Places) = λ taken few. followed_by (tries_at h (cond taken (is_refused (refusal name_taken h 0)) (cond few (numbered h (events.View def)) (is_refused (refusal too_many h (suc most_relations)))))) (after_view p many def filled) in
+    let there : Bool → Bool → Procedure (Turn Places) = λ taken few. followed_by (tries_at h (cond taken (is_refused (refusal name_taken h 0)) (cond few (act_with_number h (events.View def)) (is_refused (refusal too_many h (suc most_relations)))))) (after_view p many def filled) in
     ap (acts p bytes h) (sym later.action)
     ∙ new_or_refused p bytes h stmt (is_taken (roster h) name) (nat_lt many most_relations) there refl (λ b. refl) refl
     ∙ ap (λ o. unless p o (acts p bytes h (action_of (roster h) stmt))) (sym (or_none (name_refusal (position h) (roster h) name many) _ (later.passes (position h)) ∙ name_refused (position h) (roster h) name many))
@@ -92,14 +92,14 @@ new_aggregate p bytes g h name only filled fold b e =
     aggregate_of (actions.View def filled) = def
     aggregate_of a = no_view
 
-new_hyper : (p : Places) (bytes : ℕ) (g h : History) (table col : List ℕ) (interval : ℤ) → HyperLater g h table col interval → acts p bytes h (action_of (roster g) (stmts.Hyper table col interval)) ≡ named p bytes (stmts.Hyper table col interval) h
+new_hyper : (p : Places) (bytes : ℕ) (g h : History) (table col : List ℕ) (interval : ℤ) → HyperLater g h table col interval → acts p bytes h (action_of (roster g) (stmts.Hyper table col interval)) ≡ turn_of_names p bytes (stmts.Hyper table col interval) h
 new_hyper p bytes g h table col interval (plain s) = stays_named p bytes (stmts.Hyper table col interval) g h refl s
 new_hyper p bytes g h table col interval (hyper n now was) =
     let stmt = stmts.Hyper table col interval in
     let at = subst (λ f. RelationAt (roster h) f) now (relation_at (roster h) table) in
     let is : is_some (hyper_of (roster h) n) ≡ true = ap (λ o. is_some (option_and_then (λ info. info.hyper) o)) at.at ∙ at.is in
     let made = unwrap_or (column_from col 0 (table_at (roster g) (found_in (roster g) table)).def.cols) 0 in
-    let there : Bool → ℕ → Procedure (Turn Places) = λ taken k. ending_as (reported p said.Hypertable) (tries_at h (cond taken (is_refused (refusal name_taken h 0)) (numbered h (events.Hyper k (record { at = made; interval = interval }))))) in
+    let there : Bool → ℕ → Procedure (Turn Places) = λ taken k. ending_as (turn_of_line p said.Hypertable) (tries_at h (cond taken (is_refused (refusal name_taken h 0)) (act_with_number h (events.Hyper k (record { at = made; interval = interval }))))) in
     ap (λ k. acts p bytes h (actions.Hyper k (record { at = made; interval = interval }))) was
     ∙ ap (λ t. there t n) is
     ∙ ap (λ f. unless p (plain_refusal (position h) f ⊳ hyper_refusal (position h) (table_at (roster h) (found_in (roster h) table)).def.cols col interval) (acts p bytes h (action_of (roster h) stmt))) (sym now)
@@ -131,10 +131,10 @@ allowed_before : {A : Type 0} (alone failed : Bool) (old : State) (procedure : P
 allowed_before alone failed old procedure new y ok w = allowed_begins (goes_walks alone failed old procedure new y w).begins ok
 
 -- names that passed at a first look, and what follows
-first_walks : (alone failed : Bool) (old : State) (p : Places) (bytes : ℕ) (stmt : Stmt) (new : State) (y : Turn Places) → makes_event (kind_of stmt) ≡ true → all_allowed new.history ≡ true → Walks alone failed old (named_first p bytes stmt) new y → Walks alone failed old (looks (named p bytes stmt)) new y
+first_walks : (alone failed : Bool) (old : State) (p : Places) (bytes : ℕ) (stmt : Stmt) (new : State) (y : Turn Places) → makes_event (kind_of stmt) ≡ true → all_allowed new.history ≡ true → Walks alone failed old (named_first p bytes stmt) new y → Walks alone failed old (looks (turn_of_names p bytes stmt)) new y
 first_walks alone failed old p bytes stmt new y makes ok w = by (refusal_of (position w.mid.history) (roster w.mid.history) stmt) refl w.rest
   where
-    by : (o : Option Refusal) → refusal_of (position w.mid.history) (roster w.mid.history) stmt ≡ o → Walks alone failed w.mid (unless p o (looks (λ h. acts p bytes h (action_of (roster w.mid.history) stmt)))) new y → Walks alone failed old (looks (named p bytes stmt)) new y
+    by : (o : Option Refusal) → refusal_of (position w.mid.history) (roster w.mid.history) stmt ≡ o → Walks alone failed w.mid (unless p o (looks (λ h. acts p bytes h (action_of (roster w.mid.history) stmt)))) new y → Walks alone failed old (looks (turn_of_names p bytes stmt)) new y
     by (Some r) e v =
         let h = w.mid.history in
         record { mid = w.mid; first = w.first; rest = subst (λ d. Walks alone failed w.mid d new y) (sym (event_named p bytes h stmt makes ∙ ap (λ o. unless p o (acts p bytes h (action_of (roster h) stmt))) e)) v }
@@ -151,7 +151,7 @@ performs_walks alone failed old p bytes stmt new y ok = performs_holds (λ d. Wa
     first twice w =
         let outside = twice_outside p.block (kind_of stmt) twice in
         let one = first_walks alone failed old p bytes stmt new y outside.1 ok w in
-        record { mid = one.mid; first = one.first; rest = subst (λ b. Walks alone failed one.mid (named p bytes stmt (read_at b one.mid.history)) new y) (sym outside.0) one.rest }
+        record { mid = one.mid; first = one.first; rest = subst (λ b. Walks alone failed one.mid (turn_of_names p bytes stmt (read_at b one.mid.history)) new y) (sym outside.0) one.rest }
 
 pass_walks : (alone failed : Bool) (old : State) (p : Places) (bytes : ℕ) (stmt : Stmt) (o : Option Refusal) (new : State) (y : Turn Places) → all_allowed new.history ≡ true → Walks alone failed old (unless p o (performs p bytes stmt)) new y → Walks alone failed old (unless p o (named_here p bytes stmt)) new y
 pass_walks alone failed old p bytes stmt (Some r) new y ok w = w
@@ -166,10 +166,10 @@ read_walks alone failed old p bytes (Err f) new y ok w = w
 -- a procedure comes to the same over a history that nobody else changes
 record SameAlone {A : Type 0} (h : History) (d e : Procedure A) : Type 0 where
   history : history_after d h ≡ history_after e h
-  end : ending d h ≡ ending e h
+  end : end_of_walk d h ≡ end_of_walk e h
 
 alone_same : {A : Type 0} (h : History) (d e : Procedure A) → d ≡ e → SameAlone h d e
-alone_same h d e i = record { history = ap (λ x. history_after x h) i; end = ap (λ x. ending x h) i }
+alone_same h d e i = record { history = ap (λ x. history_after x h) i; end = ap (λ x. end_of_walk x h) i }
 
 same_alone : {A : Type 0} (h : History) (d : Procedure A) → SameAlone h d d
 same_alone h d = record { history = refl; end = refl }
@@ -186,8 +186,8 @@ performs_alone p bytes stmt h = performs_holds (SameAlone h (named_here p bytes 
     first twice =
         let outside = twice_outside p.block (kind_of stmt) twice in
         let one = twice_alone p bytes stmt h (refusal_of (position h) (roster h) stmt) in
-        let here : named p bytes stmt (read_at p.block h) ≡ unless p (refusal_of (position h) (roster h) stmt) (acts p bytes h (action_of (roster h) stmt)) = ap (λ b. named p bytes stmt (read_at b h)) outside.0 ∙ event_named p bytes h stmt outside.1 in
-        record { history = ap (λ d. history_after d h) here ∙ one.history; end = ap (λ d. ending d h) here ∙ one.end }
+        let here : turn_of_names p bytes stmt (read_at p.block h) ≡ unless p (refusal_of (position h) (roster h) stmt) (acts p bytes h (action_of (roster h) stmt)) = ap (λ b. turn_of_names p bytes stmt (read_at b h)) outside.0 ∙ event_named p bytes h stmt outside.1 in
+        record { history = ap (λ d. history_after d h) here ∙ one.history; end = ap (λ d. end_of_walk d h) here ∙ one.end }
 
 pass_alone : (p : Places) (bytes : ℕ) (stmt : Stmt) (o : Option Refusal) (h : History) → SameAlone h (unless p o (named_here p bytes stmt)) (unless p o (performs p bytes stmt))
 pass_alone p bytes stmt (Some r) h = record { history = refl; end = refl }

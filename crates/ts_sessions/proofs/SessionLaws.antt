@@ -16,7 +16,7 @@ use Rattle.ts_sessions.specs.declared.blocks.Open.{Open}
 use Rattle.ts_sessions.specs.declared.blocks.Open.TheVariants as opens
 use Rattle.ts_sessions.specs.declared.sessions.Session.{Session}
 use Rattle.ts_sessions.specs.declared.sessions.Snapshot.{Snapshot}
-use Rattle.ts_sessions.specs.Held.{Carries, GoesOn, HoldsBlock, HoldsJob, HoldsOf, HoldsSnapshots, block_of, is_lost, most_queued, places_in, positions, pushed, queued, IsJobOf}
+use Rattle.ts_sessions.specs.Held.{Carries, GoesOn, HoldsBlock, HoldsJob, HoldsOf, HoldsSnapshots, block_of, is_lost, most_queued, places_in, positions, open_with, bytes_queued, IsJobOf}
 use Rattle.ts_sessions.specs.Holding.{block_on, snapshots_on}
 use Rattle.ts_sessions.specs.Jobs.{without_job}
 use Rattle.ts_sessions.specs.Places.{Places, gives_up, held_for, holds}
@@ -135,12 +135,12 @@ gone_holds shown g [] c k = tt
 gone_holds shown g (e ∷ es) c k = elim (is_at (nat_cmp c) e.0) as (λ t. HoldsSnapshots shown g (cond t es (e ∷ remove_entry (is_at (nat_cmp c)) es))) [ true ↦ k.1 | false ↦ (k.0, gone_holds shown g es c k.1) ]
 
 -- an operation more
-pub pushed_holds : {T : Type 0} (stands : T → History → Type 0) (o : Open T) (op : Op) (more : ℕ) (h : History) → queued (block_of o) + more ≤ most_queued → IsOperation h more op → HoldsBlock stands o h → HoldsBlock stands (pushed op more o) h
+pub pushed_holds : {T : Type 0} (stands : T → History → Type 0) (o : Open T) (op : Op) (more : ℕ) (h : History) → bytes_queued (block_of o) + more ≤ most_queued → IsOperation h more op → HoldsBlock stands o h → HoldsBlock stands (open_with op more o) h
 pushed_holds stands opens.Nothing op more h room i k = k
 pushed_holds stands (opens.Write q) op more h room i k = (queues_are_sound.grows h q.bytes more q.ops op k.0 i, room)
 pushed_holds stands (opens.Read at shot) op more h room i k = k
 
-pub pushed_block : {T : Type 0} (o : Open T) (op : Op) (more : ℕ) → block_of (pushed op more o) ≡ queued_on op more (block_of o)
+pub pushed_block : {T : Type 0} (o : Open T) (op : Op) (more : ℕ) → block_of (open_with op more o) ≡ queued_on op more (block_of o)
 pushed_block opens.Nothing op more = refl
 pushed_block (opens.Write q) op more = refl
 pushed_block (opens.Read at shot) op more = refl

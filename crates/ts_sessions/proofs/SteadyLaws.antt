@@ -9,7 +9,7 @@ use Rattle.ts_model.specs.declared.outcomes.CutDone.TheVariants.{Cut as CutMade,
 use Rattle.ts_model.specs.declared.outcomes.Refusal.{Refusal}
 use Rattle.ts_model.specs.declared.rosters.Roster.{Roster}
 use Rattle.ts_model.specs.declared.views.ViewDef.{ViewDef}
-use Rattle.ts_model.specs.Calls.{Act, refuses as is_refused, returns, makes, committing, cutting, finishing, making_hyper, making_table, making_view, setting_mode}
+use Rattle.ts_model.specs.Calls.{Act, refuses as is_refused, returns, makes, act_of_commit, act_of_cut, act_of_finish, making_hyper, making_table, making_view, setting_mode}
 use Rattle.ts_model.specs.History.{History, position, prefix, Begins}
 use Rattle.ts_model.specs.Roster.{roster, view_of}
 use Rattle.ts_model.proofs.HistoryLaws.{position_begins, prefix_stays}
@@ -28,7 +28,7 @@ use Rattle.ts_sessions.specs.LineLaws.{ReadsWithin, RepliesAreSteady}
 use Rattle.ts_sessions.specs.Places.{Block, none, writing, reading, Places, Turn, cuts, enters, held_for, turns}
 use Rattle.ts_sessions.specs.Replies.{replies}
 use Rattle.ts_sessions.specs.Steady.{IsEnded, SameLater, Steady}
-use Rattle.ts_sessions.specs.Step.{Taken, acts, begins, committed, cut_turn, finish_turn, refreshed, reported, after_cut, after_line, after_snapshot, after_view, block_refusal, changes, closes, commits, finishes, finishes_held, kind_of, least_start, makes_event, named, named_here, prints, prints_writing, read_at, refresh_meant, refreshes, taken, view_made, unless}
+use Rattle.ts_sessions.specs.Step.{Taken, acts, begins, turn_of_commit, cut_turn, finish_turn, turn_of_refresh, turn_of_line, after_cut, after_line, after_snapshot, after_view, block_refusal, changes, closes, commits, finishes, finishes_held, kind_of, least_start, makes_event, turn_of_names, named_here, prints, prints_writing, read_at, refresh_meant, refreshes, snapshot_taken, view_made, unless}
 use Rattle.ts_sessions.proofs.BlockWalks.{block_is}
 use Rattle.ts_sessions.proofs.NamedLaws.{event_named, named_holds, read_holds, unless_holds}
 use Rattle.ts_sessions.proofs.ReplyLaws.{stays_named}
@@ -65,16 +65,16 @@ steady_as g fresh base (ends a) s = tt
 -- ---- refreshes
 
 steady_snapshot : (h : History) (p : Places) (c : ℕ) (span : Span) (min : ℤ) (t : Result Taken Refusal) → Steady true h (after_snapshot p c span min t)
-steady_snapshot h p c span min (Ok t) = λ l b. (λ _. steady_said l l (finishing c t.at l) (refreshed p c span min t), λ no_look. absurd (true≢false no_look))
+steady_snapshot h p c span min (Ok t) = λ l b. (λ _. steady_said l l (act_of_finish c t.at l) (turn_of_refresh p c span min t), λ no_look. absurd (true≢false no_look))
 steady_snapshot h p c span min (Err r) = tt
 
 steady_cut : (h : History) (p : Places) (min : ℤ) (r : Result CutDone Refusal) → Steady true h (after_cut p min r)
-steady_cut h p min (Ok (CutMade c span)) = λ l b. (λ _. steady_snapshot l (cuts c p) c span min (taken c l), λ no_look. absurd (true≢false no_look))
+steady_cut h p min (Ok (CutMade c span)) = λ l b. (λ _. steady_snapshot l (cuts c p) c span min (snapshot_taken c l), λ no_look. absurd (true≢false no_look))
 steady_cut h p min (Ok (NothingDone at)) = tt
 steady_cut h p min (Err r) = tt
 
 steady_refresh : (h : History) (p : Places) (n : ℕ) (lo hi : Option ℤ) (min : ℤ) → Steady true h (refreshes p n lo hi min)
-steady_refresh h p n lo hi min = steady_call true h (cutting n lo hi) (after_cut p min) (λ l r. steady_cut l p min r)
+steady_refresh h p n lo hi min = steady_call true h (act_of_cut n lo hi) (after_cut p min) (λ l r. steady_cut l p min r)
 
 steady_filled : (h : History) (p : Places) (n : ℕ) (min : ℤ) (k : ℕ) (filled : Bool) → Steady true h (view_made p n min k filled)
 steady_filled h p n min k false = tt
@@ -87,7 +87,7 @@ steady_view h p n def filled (Err r) = tt
 -- ---- actions
 
 steady_commits : (h l : History) (p after : Places) (ops : List Op) → Steady true h (commits p after l ops)
-steady_commits h l p after ops = steady_said h l (committing ops l) (committed p after)
+steady_commits h l p after ops = steady_said h l (act_of_commit ops l) (turn_of_commit p after)
 
 steady_changes : (h l : History) (p : Places) (bytes : ℕ) (op : Op) (b : Block) → Steady true h (changes p bytes l op b)
 steady_changes h l p bytes op none = steady_commits h l p p (op ∷ [])
@@ -102,20 +102,20 @@ steady_closes h l p (reading at) = tt
 
 steady_held : (h l : History) (p : Places) (c : ℕ) (o : Option ℕ) → Steady true h (finishes_held p l c o)
 steady_held h l p c None = tt
-steady_held h l p c (Some at) = steady_said h l (finishing c at l) (finish_turn p c at)
+steady_held h l p c (Some at) = steady_said h l (act_of_finish c at l) (finish_turn p c at)
 
 steady_finishes : (h l : History) (p : Places) (o : Option ℕ) → Steady true h (finishes p l o)
 steady_finishes h l p None = tt
 steady_finishes h l p (Some c) = steady_held h l p c (held_for c p.held)
 
 steady_acts : (h l : History) (p : Places) (bytes : ℕ) (a : Action) → Steady true h (acts p bytes l a)
-steady_acts h l p bytes (actions.Table def) = steady_said h l (making_table def l) (reported p said.Table)
-steady_acts h l p bytes (actions.Hyper t hyper) = steady_said h l (making_hyper t hyper l) (reported p said.Hypertable)
+steady_acts h l p bytes (actions.Table def) = steady_said h l (making_table def l) (turn_of_line p said.Table)
+steady_acts h l p bytes (actions.Hyper t hyper) = steady_said h l (making_hyper t hyper l) (turn_of_line p said.Hypertable)
 steady_acts h l p bytes (actions.View def filled) = steady_tries h l (making_view def l) (after_view p (length (roster l).views) def filled) (λ r. steady_view h p (length (roster l).views) def filled r)
-steady_acts h l p bytes (actions.Mode n only) = steady_said h l (setting_mode n only l) (reported p said.Mode)
+steady_acts h l p bytes (actions.Mode n only) = steady_said h l (setting_mode n only l) (turn_of_line p said.Mode)
 steady_acts h l p bytes (actions.Change op) = steady_changes h l p bytes op p.block
-steady_acts h l p bytes (actions.Refresh n lo hi) = steady_tries h l (cutting n lo hi l) (after_cut p (least_start (view_of (roster l) n))) (λ r. steady_cut h p (least_start (view_of (roster l) n)) r)
-steady_acts h l p bytes (actions.Cut n lo hi) = steady_said h l (cutting n lo hi l) (cut_turn p (least_start (view_of (roster l) n)))
+steady_acts h l p bytes (actions.Refresh n lo hi) = steady_tries h l (act_of_cut n lo hi l) (after_cut p (least_start (view_of (roster l) n))) (λ r. steady_cut h p (least_start (view_of (roster l) n)) r)
+steady_acts h l p bytes (actions.Cut n lo hi) = steady_said h l (act_of_cut n lo hi l) (cut_turn p (least_start (view_of (roster l) n)))
 steady_acts h l p bytes (actions.Snap cut) = tt
 steady_acts h l p bytes (actions.Finish cut) = steady_finishes h l p (refresh_meant p cut)
 steady_acts h l p bytes actions.Begin = tt
@@ -125,13 +125,13 @@ steady_acts h l p bytes actions.Rollback = tt
 steady_acts h l p bytes (actions.Calendar table number unit at fold) = tt
 steady_acts h l p bytes (actions.Ask q) = tt
 
-steady_named : (h l : History) (p : Places) (bytes : ℕ) (stmt : Stmt) → Steady true h (named p bytes stmt l)
+steady_named : (h l : History) (p : Places) (bytes : ℕ) (stmt : Stmt) → Steady true h (turn_of_names p bytes stmt l)
 steady_named h l p bytes stmt = named_holds (λ d. Steady true h d) p bytes l stmt (λ r e. tt) (λ plan. tt) (λ r e. tt) (λ e. steady_acts h l p bytes (action_of (roster l) stmt))
 
 -- ---- looks
 
 -- a statement that looks once is steady where a look that isn't printed stays and ends it
-hidden : (base : History) (p : Places) (bytes : ℕ) (stmt : Stmt) → ((h : History) → Begins base h → prints p.block (kind_of stmt) (refusal_of (position h) (roster h) stmt) ≡ false → SameLater (λ l. prints p.block (kind_of stmt) (refusal_of (position l) (roster l) stmt)) (λ l. named p bytes stmt (read_at p.block l)) h × IsEnded (named p bytes stmt (read_at p.block h))) → Steady false base (named_here p bytes stmt)
+hidden : (base : History) (p : Places) (bytes : ℕ) (stmt : Stmt) → ((h : History) → Begins base h → prints p.block (kind_of stmt) (refusal_of (position h) (roster h) stmt) ≡ false → SameLater (λ l. prints p.block (kind_of stmt) (refusal_of (position l) (roster l) stmt)) (λ l. turn_of_names p bytes stmt (read_at p.block l)) h × IsEnded (turn_of_names p bytes stmt (read_at p.block h))) → Steady false base (named_here p bytes stmt)
 hidden base p bytes stmt stays = λ h on. (λ _. steady_named h (read_at p.block h) p bytes stmt, stays h on)
 
 -- or where each look is printed
@@ -139,7 +139,7 @@ shown : (base : History) (p : Places) (bytes : ℕ) (stmt : Stmt) → ((r : Opti
 shown base p bytes stmt all = hidden base p bytes stmt (λ h on e. absurd (true≢false (sym (all (refusal_of (position h) (roster h) stmt)) ∙ e)))
 
 -- or where none is, and it says the same wherever it looks
-unshown : (base : History) (p : Places) (bytes : ℕ) (stmt : Stmt) (y : Turn Places) → ((r : Option Refusal) → prints p.block (kind_of stmt) r ≡ false) → ((h : History) → named p bytes stmt h ≡ ends y) → Steady false base (named_here p bytes stmt)
+unshown : (base : History) (p : Places) (bytes : ℕ) (stmt : Stmt) (y : Turn Places) → ((r : Option Refusal) → prints p.block (kind_of stmt) r ≡ false) → ((h : History) → turn_of_names p bytes stmt h ≡ ends y) → Steady false base (named_here p bytes stmt)
 unshown base p bytes stmt y no_look is =
     hidden base p bytes stmt
     (λ h on e. (λ l c. (no_look (refusal_of (position l) (roster l) stmt), is (read_at p.block l) ∙ sym (is (read_at p.block h))), subst IsEnded (sym (is (read_at p.block h))) tt))
@@ -189,7 +189,7 @@ steady_queue base p bytes stmt ops n op kind is later =
     hidden base q bytes stmt (λ h on e.
     let none_now : refusal_of (position h) (roster h) stmt ≡ None = none_there _ (ap (λ k. prints_writing ops k (refusal_of (position h) (roster h) stmt)) (sym kind) ∙ e) in
     let makes : makes_event (kind_of stmt) ≡ true = ap makes_event kind in
-    let here : named q bytes stmt h ≡ ends (y (roster h)) = event_named q bytes h stmt makes ∙ ap (λ o. unless q o (acts q bytes h (action_of (roster h) stmt))) none_now ∙ waits h (roster h) in (
+    let here : turn_of_names q bytes stmt h ≡ ends (y (roster h)) = event_named q bytes h stmt makes ∙ ap (λ o. unless q o (acts q bytes h (action_of (roster h) stmt))) none_now ∙ waits h (roster h) in (
       λ l c.
           let s = later h l c none_now in
           (ap (λ k. prints_writing ops k (refusal_of (position l) (roster l) stmt)) kind ∙ ap is_some (s.passes (position l)), sym (stays_named q bytes stmt h l makes s) ∙ waits l (roster h) ∙ sym here),
@@ -227,12 +227,12 @@ steady_writing base p bytes (stmts.Rows table tests) ops n e = shown base (enter
 -- ---- in a read block
 
 -- what is looked at is the position at which the block began
-steady_read : (base : History) (p : Places) (bytes : ℕ) (stmt : Stmt) (at : ℕ) → at ≤ position base → ((h : History) → IsEnded (named (enters (reading at) p) bytes stmt h)) → Steady false base (named_here (enters (reading at) p) bytes stmt)
+steady_read : (base : History) (p : Places) (bytes : ℕ) (stmt : Stmt) (at : ℕ) → at ≤ position base → ((h : History) → IsEnded (turn_of_names (enters (reading at) p) bytes stmt h)) → Steady false base (named_here (enters (reading at) p) bytes stmt)
 steady_read base p bytes stmt at le ended =
     let q = enters (reading at) p in
-    hidden base q bytes stmt (λ h on e. (λ l c. (refl, ap (named q bytes stmt) (prefix_stays at c (omega (arith, le, position_begins on)))), ended (prefix h at)))
+    hidden base q bytes stmt (λ h on e. (λ l c. (refl, ap (turn_of_names q bytes stmt) (prefix_stays at c (omega (arith, le, position_begins on)))), ended (prefix h at)))
 
-pub ended_named : (p : Places) (bytes : ℕ) (stmt : Stmt) (h : History) → IsEnded (acts p bytes h (action_of (roster h) stmt)) → IsEnded (named p bytes stmt h)
+pub ended_named : (p : Places) (bytes : ℕ) (stmt : Stmt) (h : History) → IsEnded (acts p bytes h (action_of (roster h) stmt)) → IsEnded (turn_of_names p bytes stmt h)
 ended_named p bytes stmt h i = named_holds IsEnded p bytes h stmt (λ r e. tt) (λ plan. tt) (λ r e. tt) (λ e. i)
 
 steady_reading : (base : History) (p : Places) (bytes : ℕ) (stmt : Stmt) (at : ℕ) → at ≤ position base → block_refusal (reading at) (kind_of stmt) ≡ None → Steady false base (named_here (enters (reading at) p) bytes stmt)

@@ -10,9 +10,9 @@ use Rattle.ts_sessions.specs.declared.replies.Reply.{Reply as ReplyMade}
 use Rattle.ts_sessions.specs.declared.replies.StepEnd.{StepEnd}
 use Rattle.ts_sessions.specs.declared.replies.StepEnd.TheVariants as steps
 use Rattle.ts_sessions.specs.declared.sessions.Session.{Session}
-use Rattle.ts_sessions.specs.Held.{Carries, places_in, queued}
+use Rattle.ts_sessions.specs.Held.{Carries, places_in, bytes_queued}
 use Rattle.ts_sessions.specs.Places.{none, Places, Turn}
-use Rattle.ts_sessions.specs.Sessions.{AnswersSo, ChangeHolds, Ends, IfAnswered, IfNoMemory, IsReplied, IsReply, Spares, Stepped, Reports, changed, turn_of, without}
+use Rattle.ts_sessions.specs.Sessions.{AnswersSo, ChangeHolds, Ends, IfAnswered, IfNoMemory, IsReplied, IsReply, Spares, Stepped, Reports, places_after, turn_of, without}
 use Rattle.ts_sessions.specs.Step.{step}
 use Rattle.ts_sessions.specs.Walks.{Walks}
 use Rattle.ts_sessions.proofs.EndLaws.{raised_up}
@@ -41,7 +41,7 @@ answered_so name said failed r steps.NoMemory is e = tt
 
 -- ---- lines
 
-reports_so : {T J : Type 0} (alone failed : Bool) (old : State) (p : Places) (text : List ℕ) (skip : ℕ) (name : List ℕ) (completion : Completion T J) (r : ReplyMade) (new : State) (q : Places) (before after : ℕ) → Ends alone old (step p text skip) p (Ok completion) new before after → completion.failed ≡ failed → IsReply name completion.said r → q ≡ changed completion.change p → Reports alone failed old (step p text skip) name r new q before after
+reports_so : {T J : Type 0} (alone failed : Bool) (old : State) (p : Places) (text : List ℕ) (skip : ℕ) (name : List ℕ) (completion : Completion T J) (r : ReplyMade) (new : State) (q : Places) (before after : ℕ) → Ends alone old (step p text skip) p (Ok completion) new before after → completion.failed ≡ failed → IsReply name completion.said r → q ≡ places_after completion.change p → Reports alone failed old (step p text skip) name r new q before after
 reports_so alone failed old p text skip name completion r new q before after e f is places =
     let y : Turn Places = record { places = q; said = completion.said; reads = e.read } in
     let w : Walks alone failed old (step p text skip) new y =
@@ -59,7 +59,7 @@ reports_so alone failed old p text skip name completion r new q before after e f
     }
 
 -- a line whose statement ended so, and whose answer was written or not
-pub stepped : {T J : Type 0} (alone : Bool) (old : State) (p : Places) (text : List ℕ) (skip : ℕ) (name : List ℕ) (completion : Completion T J) (end : StepEnd) (new : State) (q : Places) (before after : ℕ) → before < 2 ^ 64 → Ends alone old (step p text skip) p (Ok completion) new before after → AnswersSo name completion.said completion.failed end → IfAnswered end (q ≡ changed completion.change p) → Stepped alone old (step p text skip) name end new q before after
+pub stepped : {T J : Type 0} (alone : Bool) (old : State) (p : Places) (text : List ℕ) (skip : ℕ) (name : List ℕ) (completion : Completion T J) (end : StepEnd) (new : State) (q : Places) (before after : ℕ) → before < 2 ^ 64 → Ends alone old (step p text skip) p (Ok completion) new before after → AnswersSo name completion.said completion.failed end → IfAnswered end (q ≡ places_after completion.change p) → Stepped alone old (step p text skip) name end new q before after
 stepped alone old p text skip name completion (steps.Reply r) new q before after short e a places = reports_so alone false old p text skip name completion r new q before after e a.0 a.1 places
 stepped alone old p text skip name completion (steps.DiskFault r) new q before after short e a places = reports_so alone true old p text skip name completion r new q before after e a.0 a.1 places
 stepped alone old p text skip name completion steps.NoMemory new q before after short e a places =
@@ -77,22 +77,22 @@ without_block : (gone : Option ℕ) (p : Places) → (without gone p).block ≡ 
 without_block None p = refl
 without_block (Some c) p = refl
 
-pub spared_queue : (meant : Option ℕ) (p q : Places) (bytes : ℕ) → Spares meant p q → queued q.block ≤ queued p.block + bytes
+pub spared_queue : (meant : Option ℕ) (p q : Places) (bytes : ℕ) → Spares meant p q → bytes_queued q.block ≤ bytes_queued p.block + bytes
 spared_queue meant p q bytes s =
-    let same : queued q.block ≡ queued p.block = ap (λ x. queued x.block) s.same ∙ ap queued (without_block s.gone p) in
+    let same : bytes_queued q.block ≡ bytes_queued p.block = ap (λ x. bytes_queued x.block) s.same ∙ ap bytes_queued (without_block s.gone p) in
     omega (arith, same)
 
 -- the queue grows by at most the bytes of the line
-pub queue_then : {T J : Type 0} (meant : Option ℕ) (shown : Shown T J) (bytes : ℕ) (h : History) (c : Change T J) (p q : Places) (end : StepEnd) → ChangeHolds shown bytes c h → IfAnswered end (q ≡ changed c p) → IfNoMemory end (Spares meant p q) → queued q.block ≤ queued p.block + bytes
-queue_then meant shown bytes h c p q (steps.Reply r) k e s = subst (λ x. queued x.block ≤ queued p.block + bytes) (sym e) (change_queues shown bytes h c p k)
-queue_then meant shown bytes h c p q (steps.DiskFault r) k e s = subst (λ x. queued x.block ≤ queued p.block + bytes) (sym e) (change_queues shown bytes h c p k)
+pub queue_then : {T J : Type 0} (meant : Option ℕ) (shown : Shown T J) (bytes : ℕ) (h : History) (c : Change T J) (p q : Places) (end : StepEnd) → ChangeHolds shown bytes c h → IfAnswered end (q ≡ places_after c p) → IfNoMemory end (Spares meant p q) → bytes_queued q.block ≤ bytes_queued p.block + bytes
+queue_then meant shown bytes h c p q (steps.Reply r) k e s = subst (λ x. bytes_queued x.block ≤ bytes_queued p.block + bytes) (sym e) (change_queues shown bytes h c p k)
+queue_then meant shown bytes h c p q (steps.DiskFault r) k e s = subst (λ x. bytes_queued x.block ≤ bytes_queued p.block + bytes) (sym e) (change_queues shown bytes h c p k)
 queue_then meant shown bytes h c p q steps.NoMemory k e s = spared_queue meant p q bytes s
 
-spared_quiet : (meant : Option ℕ) (p q : Places) → p.block ≡ none → Spares meant p q → queued q.block ≡ 0
-spared_quiet meant p q out s = ap (λ x. queued x.block) s.same ∙ ap queued (without_block s.gone p) ∙ ap queued out
+spared_quiet : (meant : Option ℕ) (p q : Places) → p.block ≡ none → Spares meant p q → bytes_queued q.block ≡ 0
+spared_quiet meant p q out s = ap (λ x. bytes_queued x.block) s.same ∙ ap bytes_queued (without_block s.gone p) ∙ ap bytes_queued out
 
 -- outside a block nothing waits after the line
-pub quiet_then : {T J : Type 0} (meant : Option ℕ) (shown : Shown T J) (bytes : ℕ) (h : History) (c : Change T J) (p q : Places) (end : StepEnd) → p.block ≡ none → ChangeHolds shown bytes c h → IfAnswered end (q ≡ changed c p) → IfNoMemory end (Spares meant p q) → queued q.block ≡ 0
-quiet_then meant shown bytes h c p q (steps.Reply r) out k e s = ap (λ x. queued x.block) e ∙ change_quiet shown bytes h c p out k
-quiet_then meant shown bytes h c p q (steps.DiskFault r) out k e s = ap (λ x. queued x.block) e ∙ change_quiet shown bytes h c p out k
+pub quiet_then : {T J : Type 0} (meant : Option ℕ) (shown : Shown T J) (bytes : ℕ) (h : History) (c : Change T J) (p q : Places) (end : StepEnd) → p.block ≡ none → ChangeHolds shown bytes c h → IfAnswered end (q ≡ places_after c p) → IfNoMemory end (Spares meant p q) → bytes_queued q.block ≡ 0
+quiet_then meant shown bytes h c p q (steps.Reply r) out k e s = ap (λ x. bytes_queued x.block) e ∙ change_quiet shown bytes h c p out k
+quiet_then meant shown bytes h c p q (steps.DiskFault r) out k e s = ap (λ x. bytes_queued x.block) e ∙ change_quiet shown bytes h c p out k
 quiet_then meant shown bytes h c p q steps.NoMemory out k e s = spared_quiet meant p q out s

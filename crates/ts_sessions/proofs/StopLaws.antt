@@ -16,7 +16,7 @@ use Rattle.ts_model.specs.declared.refreshes.Window.TheVariants.{Whole, NoBucket
 use Rattle.ts_model.specs.declared.tables.Hyper.{Hyper}
 use Rattle.ts_model.specs.declared.views.ViewDef.{ViewDef}
 use Rattle.ts_model.specs.Timely.{has_room}
-use Rattle.ts_model.specs.Calls.{Act, committed as calls_committed, making, refuses as is_refused, returns, makes, committing, cut_of_view, cut_over, cutting, finish_of, finishing, making_hyper, making_table, making_view, new_relation, numbered, refusal, setting_mode}
+use Rattle.ts_model.specs.Calls.{Act, commit_result as calls_committed, act_of_event, refuses as is_refused, returns, makes, act_of_commit, cut_of_view, cut_over, act_of_cut, finish_of, act_of_finish, making_hyper, making_table, making_view, new_relation, act_with_number, refusal, setting_mode}
 use Rattle.ts_model.specs.Numbers.{no_token, syntax, name_taken, bad_number, no_bucket, in_write_block, in_read_block, no_block, no_refresh, no_snapshot, too_many, stopped, history_full}
 use Rattle.ts_model.specs.History.{History, start, resumed, ◌▸◌, base_position, position, prefix}
 use Rattle.ts_model.specs.Limits.{most_relations}
@@ -39,7 +39,7 @@ use Rattle.ts_sessions.specs.Gives.{Gives}
 use Rattle.ts_sessions.specs.Places.{Block, none, writing, reading, Places, Turn, cuts, enters, held_for}
 use Rattle.ts_sessions.specs.Procedures.{Procedure, sees, adds, ends, followed_by, ending_as, tries_at}
 use Rattle.ts_sessions.specs.Replies.{reply_to, replies}
-use Rattle.ts_sessions.specs.Step.{Taken, acts, after_cut, after_line, after_snapshot, after_view, begins, block_refusal, changes, closes, commits, committed, cut_turn, finish_turn, finishes, finishes_held, given_up, kind_of, least_start, misread, named, named_here, prints, read_at, refresh_meant, refreshed, refreshes, reported, snap_turn, snaps, taken, taken_of, unfinished, view_made}
+use Rattle.ts_sessions.specs.Step.{Taken, acts, after_cut, after_line, after_snapshot, after_view, begins, block_refusal, changes, closes, commits, turn_of_commit, cut_turn, finish_turn, finishes, finishes_held, given_up, kind_of, least_start, misread, turn_of_names, named_here, prints, read_at, refresh_meant, turn_of_refresh, refreshes, turn_of_line, snap_turn, snaps, snapshot_taken, taken_of, unfinished_refusal, view_made}
 use Rattle.ts_sessions.specs.Steady.{IsEnded}
 use Rattle.ts_sessions.proofs.BlockWalks.{block_is}
 use Rattle.ts_sessions.specs.Stopped.{OnlyStopsAreReported, StopsAt, ReplyStopsAt}
@@ -141,21 +141,21 @@ full_other : IsOther history_full
 full_other e = absurd (omega (arith, e))
 
 -- an event that is made, or refused at the end of a history
-made_plain : {A : Type 0} (h : History) (e : Event) (a : A) → Plain (making h e a)
+made_plain : {A : Type 0} (h : History) (e : Event) (a : A) → Plain (act_of_event h e a)
 made_plain h e a = elim (has_room h) as (λ t. Plain (cond t (makes e a) (is_refused (refusal history_full h 0)))) [ true ↦ tt | false ↦ full_other ]
 
-new_plain : (h : History) (taken : Bool) (many : ℕ) (e : Event) → Plain (new_relation h taken many e)
+new_plain : (h : History) (snapshot_taken : Bool) (many : ℕ) (e : Event) → Plain (new_relation h snapshot_taken many e)
 new_plain h true many e = below name_taken (omega arith)
 new_plain h false many e = room (nat_lt many most_relations)
   where
-    room : (free : Bool) → Plain (cond free (numbered h e) (is_refused (refusal too_many h (suc most_relations))))
+    room : (free : Bool) → Plain (cond free (act_with_number h e) (is_refused (refusal too_many h (suc most_relations))))
     room true = made_plain h e (suc (position h))
     room false = below too_many (omega arith)
 
 hyper_plain : (h : History) (t : ℕ) (hyper : Hyper) → Plain (making_hyper t hyper h)
 hyper_plain h t hyper = by (is_some (hyper_of (roster h) t))
   where
-    by : (is_one : Bool) → Plain (cond is_one (is_refused (refusal name_taken h 0)) (numbered h (HyperMade t hyper)))
+    by : (is_one : Bool) → Plain (cond is_one (is_refused (refusal name_taken h 0)) (act_with_number h (HyperMade t hyper)))
     by true = below name_taken (omega arith)
     by false = made_plain h (HyperMade t hyper) (suc (position h))
 
@@ -168,7 +168,7 @@ cut_plain : (n : ℕ) (lo hi : Option ℤ) (h : History) (o : Option ViewDef) �
 cut_plain n lo hi h None = tt
 cut_plain n lo hi h (Some def) = over_plain n h (window n def h lo hi)
 
-cutting_plain : (n : ℕ) (lo hi : Option ℤ) (h : History) → Plain (cutting n lo hi h)
+cutting_plain : (n : ℕ) (lo hi : Option ℤ) (h : History) → Plain (act_of_cut n lo hi h)
 cutting_plain n lo hi h = cut_plain n lo hi h (view_of (roster h) n)
 
 finish_plain : (c at : ℕ) (h : History) (p : Pending) → Plain (finish_of c at h p)
@@ -176,7 +176,7 @@ finish_plain c at h (Waiting n) = made_plain h (BuiltEvent c at) (suc (position 
 finish_plain c at h (Finished f) = below no_refresh (omega arith)
 finish_plain c at h Unknown = below no_refresh (omega arith)
 
-finishing_plain : (c at : ℕ) (h : History) → Plain (finishing c at h)
+finishing_plain : (c at : ℕ) (h : History) → Plain (act_of_finish c at h)
 finishing_plain c at h = finish_plain c at h (pending h c)
 
 -- ---- refreshes
@@ -193,21 +193,21 @@ took_of h c Unknown = below no_refresh (omega arith)
 
 meets_snapshot : (last : Option ℕ) (p : Places) (c : ℕ) (span : Span) (min : ℤ) (t : Result Taken Refusal) → Took t → Meets ReplyStopsAt last (after_snapshot p c span min t)
 meets_snapshot last p c span min (Ok t) took = λ l. (
-  λ _. meets_said l (finishing c t.at l) (refreshed p c span min t) (finishing_plain c t.at l) (λ stop k. (tt, tt)) (λ stop r so. (tt, (so, tt))),
+  λ _. meets_said l (act_of_finish c t.at l) (turn_of_refresh p c span min t) (finishing_plain c t.at l) (λ stop k. (tt, tt)) (λ stop r so. (tt, (so, tt))),
   λ no_look. absurd (true≢false no_look),
 )
 meets_snapshot last p c span min (Err r) took = λ stop. (tt, (other_fault stop r took, tt))
 
 meets_cut : (q : ℕ) (p : Places) (min : ℤ) (done : CutDone) → Meets ReplyStopsAt (Some q) (after_cut p min (Ok done))
 meets_cut q p min (CutMade c span) = λ l. (
-  λ _. meets_snapshot (Some (position l)) (cuts c p) c span min (taken c l) (took_of l c (pending l c)),
+  λ _. meets_snapshot (Some (position l)) (cuts c p) c span min (snapshot_taken c l) (took_of l c (pending l c)),
   λ no_look. absurd (true≢false no_look),
 )
 meets_cut q p min (NothingDone at) = λ stop. (tt, tt)
 
-meets_refreshing : (h : History) (p : Places) (n : ℕ) (lo hi : Option ℤ) (min : ℤ) → Meets ReplyStopsAt (Some (position h)) (followed_by (tries_at h (cutting n lo hi h)) (after_cut p min))
+meets_refreshing : (h : History) (p : Places) (n : ℕ) (lo hi : Option ℤ) (min : ℤ) → Meets ReplyStopsAt (Some (position h)) (followed_by (tries_at h (act_of_cut n lo hi h)) (after_cut p min))
 meets_refreshing h p n lo hi min =
-    meets_tries ReplyStopsAt h (after_cut p min) (cutting n lo hi h) (cutting_plain n lo hi h) (λ r other stop. (other_fault stop r other, tt)) (λ q done. meets_cut q p min done) ((λ e. refl), tt)
+    meets_tries ReplyStopsAt h (after_cut p min) (act_of_cut n lo hi h) (cutting_plain n lo hi h) (λ r other stop. (other_fault stop r other, tt)) (λ q done. meets_cut q p min done) ((λ e. refl), tt)
 
 meets_refresh : (last : Option ℕ) (p : Places) (n : ℕ) (lo hi : Option ℤ) (min : ℤ) → Meets ReplyStopsAt last (refreshes p n lo hi min)
 meets_refresh last p n lo hi min = λ h. (λ _. meets_refreshing h p n lo hi min, λ no_look. absurd (true≢false no_look))
@@ -219,7 +219,7 @@ meets_filled q p n min k true = meets_as ReplyStopsAt ReplyStopsAt (after_line (
 -- ---- actions
 
 meets_commits : (h : History) (p after : Places) (ops : List Op) → Meets ReplyStopsAt (Some (position h)) (commits p after h ops)
-meets_commits h p after ops = meets_said h (committing ops h) (committed p after) (made_plain h (CommitEvent ops) (calls_committed ops h)) (λ stop done. (tt, tt)) (λ stop r so. (so, tt))
+meets_commits h p after ops = meets_said h (act_of_commit ops h) (turn_of_commit p after) (made_plain h (CommitEvent ops) (calls_committed ops h)) (λ stop done. (tt, tt)) (λ stop r so. (so, tt))
 
 meets_changes : (h : History) (p : Places) (bytes : ℕ) (op : Op) (b : Block) → Meets ReplyStopsAt (Some (position h)) (changes p bytes h op b)
 meets_changes h p bytes op none = meets_commits h p p (op ∷ [])
@@ -237,14 +237,14 @@ given_up_so stop none = tt
 given_up_so stop (writing ops n) = tt
 given_up_so stop (reading at) = tt
 
-unfinished_other : (h : History) (p : Pending) → IsOther (unfinished no_snapshot h p).code
+unfinished_other : (h : History) (p : Pending) → IsOther (unfinished_refusal no_snapshot h p).code
 unfinished_other h (Waiting n) = below no_snapshot (omega arith)
 unfinished_other h (Finished f) = below no_refresh (omega arith)
 unfinished_other h Unknown = below no_refresh (omega arith)
 
 meets_held : (h : History) (p : Places) (c : ℕ) (o : Option ℕ) → Meets ReplyStopsAt (Some (position h)) (finishes_held p h c o)
-meets_held h p c None = λ stop. (other_fault stop (unfinished no_snapshot h (pending h c)) (unfinished_other h (pending h c)), tt)
-meets_held h p c (Some at) = meets_said h (finishing c at h) (finish_turn p c at) (finishing_plain c at h) (λ stop k. (tt, tt)) (λ stop r so. (so, tt))
+meets_held h p c None = λ stop. (other_fault stop (unfinished_refusal no_snapshot h (pending h c)) (unfinished_other h (pending h c)), tt)
+meets_held h p c (Some at) = meets_said h (act_of_finish c at h) (finish_turn p c at) (finishing_plain c at h) (λ stop k. (tt, tt)) (λ stop r so. (so, tt))
 
 meets_finishes : (h : History) (p : Places) (o : Option ℕ) → Meets ReplyStopsAt (Some (position h)) (finishes p h o)
 meets_finishes h p None = λ stop. (other_fault stop (refusal no_refresh h 0) (below no_refresh (omega arith)), tt)
@@ -256,22 +256,22 @@ snap_so stop p c (Err r) took = (other_fault stop r took, tt)
 
 snaps_so : (stop : Option ℕ) (p : Places) (h : History) (o : Option ℕ) → ReplyStopsAt stop (snaps p h o)
 snaps_so stop p h None = (other_fault stop (refusal no_refresh h 0) (below no_refresh (omega arith)), tt)
-snaps_so stop p h (Some c) = snap_so stop p c (taken c h) (took_of h c (pending h c))
+snaps_so stop p h (Some c) = snap_so stop p c (snapshot_taken c h) (took_of h c (pending h c))
 
 cut_so : (stop : Option ℕ) (p : Places) (min : ℤ) (done : CutDone) → ReplyStopsAt stop (cut_turn p min (Ok done))
 cut_so stop p min (CutMade c span) = (tt, tt)
 cut_so stop p min (NothingDone at) = (tt, tt)
 
 meets_acts : (h : History) (p : Places) (bytes : ℕ) (a : Action) → Meets ReplyStopsAt (Some (position h)) (acts p bytes h a)
-meets_acts h p bytes (actions.Table def) = meets_said h (making_table def h) (reported p said.Table) (new_plain h (is_taken (roster h) def.name) (length (roster h).tables) (TableMade def)) (λ stop k. (tt, tt)) (λ stop r so. (so, tt))
-meets_acts h p bytes (actions.Hyper t hyper) = meets_said h (making_hyper t hyper h) (reported p said.Hypertable) (hyper_plain h t hyper) (λ stop k. (tt, tt)) (λ stop r so. (so, tt))
+meets_acts h p bytes (actions.Table def) = meets_said h (making_table def h) (turn_of_line p said.Table) (new_plain h (is_taken (roster h) def.name) (length (roster h).tables) (TableMade def)) (λ stop k. (tt, tt)) (λ stop r so. (so, tt))
+meets_acts h p bytes (actions.Hyper t hyper) = meets_said h (making_hyper t hyper h) (turn_of_line p said.Hypertable) (hyper_plain h t hyper) (λ stop k. (tt, tt)) (λ stop r so. (so, tt))
 meets_acts h p bytes (actions.View def filled) =
     let n = length (roster h).views in
     meets_tries ReplyStopsAt h (after_view p n def filled) (making_view def h) (new_plain h (is_taken (roster h) def.name) n (ViewMade def)) (λ r other stop. (other_fault stop r other, tt)) (λ q k. meets_filled q p n _ k filled) ((λ e. refl), tt)
-meets_acts h p bytes (actions.Mode n only) = meets_said h (setting_mode n only h) (reported p said.Mode) (made_plain h (ModeEvent n only) (suc (position h))) (λ stop k. (tt, tt)) (λ stop r so. (so, tt))
+meets_acts h p bytes (actions.Mode n only) = meets_said h (setting_mode n only h) (turn_of_line p said.Mode) (made_plain h (ModeEvent n only) (suc (position h))) (λ stop k. (tt, tt)) (λ stop r so. (so, tt))
 meets_acts h p bytes (actions.Change op) = meets_changes h p bytes op p.block
 meets_acts h p bytes (actions.Refresh n lo hi) = meets_refreshing h p n lo hi (least_start (view_of (roster h) n))
-meets_acts h p bytes (actions.Cut n lo hi) = let min = least_start (view_of (roster h) n) in meets_said h (cutting n lo hi h) (cut_turn p min) (cutting_plain n lo hi h) (λ stop done. cut_so stop p min done) (λ stop r so. (so, tt))
+meets_acts h p bytes (actions.Cut n lo hi) = let min = least_start (view_of (roster h) n) in meets_said h (act_of_cut n lo hi h) (cut_turn p min) (cutting_plain n lo hi h) (λ stop done. cut_so stop p min done) (λ stop r so. (so, tt))
 meets_acts h p bytes (actions.Snap cut) = λ stop. snaps_so stop p h (refresh_meant p cut)
 meets_acts h p bytes (actions.Finish cut) = meets_finishes h p (refresh_meant p cut)
 meets_acts h p bytes actions.Begin = λ stop. (tt, tt)
@@ -281,7 +281,7 @@ meets_acts h p bytes actions.Rollback = λ stop. (given_up_so stop p.block, tt)
 meets_acts h p bytes (actions.Calendar table number unit at fold) = λ stop. (tt, tt)
 meets_acts h p bytes (actions.Ask q) = λ stop. (tt, tt)
 
-meets_named : (h : History) (p : Places) (bytes : ℕ) (stmt : Stmt) → Meets ReplyStopsAt (Some (position h)) (named p bytes stmt h)
+meets_named : (h : History) (p : Places) (bytes : ℕ) (stmt : Stmt) → Meets ReplyStopsAt (Some (position h)) (turn_of_names p bytes stmt h)
 meets_named h p bytes stmt =
     named_holds (λ d. Meets ReplyStopsAt (Some (position h)) d) p bytes h stmt (λ r e stop. (other_fault stop r (rolled_other (position h) (roster h) stmt r e), tt)) (λ plan stop. (tt, tt))
     (λ r e stop. (other_fault stop r (subst Other e (checks_other (position h) (roster h) stmt)), tt))
@@ -290,8 +290,8 @@ meets_named h p bytes stmt =
 -- ---- looks
 
 -- a statement that looks once, where a look that isn't printed ends it without E24
-meets_here : (last : Option ℕ) (p : Places) (bytes : ℕ) (stmt : Stmt) → ((h : History) → prints p.block (kind_of stmt) (refusal_of (position h) (roster h) stmt) ≡ true → read_at p.block h ≡ h) → ((h : History) → prints p.block (kind_of stmt) (refusal_of (position h) (roster h) stmt) ≡ false → EndsSo (λ y. (stop : Option ℕ) → ReplyStopsAt stop y) (named p bytes stmt (read_at p.block h))) → Meets ReplyStopsAt last (named_here p bytes stmt)
-meets_here last p bytes stmt same hidden = λ h. (λ look. subst (λ g. Meets ReplyStopsAt (Some (position h)) (named p bytes stmt g)) (sym (same h look)) (meets_named h p bytes stmt), hidden h)
+meets_here : (last : Option ℕ) (p : Places) (bytes : ℕ) (stmt : Stmt) → ((h : History) → prints p.block (kind_of stmt) (refusal_of (position h) (roster h) stmt) ≡ true → read_at p.block h ≡ h) → ((h : History) → prints p.block (kind_of stmt) (refusal_of (position h) (roster h) stmt) ≡ false → EndsSo (λ y. (stop : Option ℕ) → ReplyStopsAt stop y) (turn_of_names p bytes stmt (read_at p.block h))) → Meets ReplyStopsAt last (named_here p bytes stmt)
+meets_here last p bytes stmt same hidden = λ h. (λ look. subst (λ g. Meets ReplyStopsAt (Some (position h)) (turn_of_names p bytes stmt g)) (sym (same h look)) (meets_named h p bytes stmt), hidden h)
 
 -- a procedure that ends at once where it looked last meets this wherever it looked
 ended : (last : Option ℕ) (procedure : Procedure (Turn Places)) → IsEnded procedure → Meets ReplyStopsAt last procedure → EndsSo (λ y. (stop : Option ℕ) → ReplyStopsAt stop y) procedure
@@ -299,12 +299,12 @@ ended last (sees shown f) i t = absurd i
 ended last (adds e next stop) i t = absurd i
 ended last (ends a) i t = t
 
-hidden_so : (p : Places) (bytes : ℕ) (stmt : Stmt) (h : History) → IsEnded (named p bytes stmt h) → EndsSo (λ y. (stop : Option ℕ) → ReplyStopsAt stop y) (named p bytes stmt h)
-hidden_so p bytes stmt h i = ended (Some (position h)) (named p bytes stmt h) i (meets_named h p bytes stmt)
+hidden_so : (p : Places) (bytes : ℕ) (stmt : Stmt) (h : History) → IsEnded (turn_of_names p bytes stmt h) → EndsSo (λ y. (stop : Option ℕ) → ReplyStopsAt stop y) (turn_of_names p bytes stmt h)
+hidden_so p bytes stmt h i = ended (Some (position h)) (turn_of_names p bytes stmt h) i (meets_named h p bytes stmt)
 
 -- ---- outside a block
 
-ended_outside : (p : Places) (bytes : ℕ) (stmt : Stmt) (h : History) → not (begins (kind_of stmt)) ≡ false → IsEnded (named (enters none p) bytes stmt h)
+ended_outside : (p : Places) (bytes : ℕ) (stmt : Stmt) (h : History) → not (begins (kind_of stmt)) ≡ false → IsEnded (turn_of_names (enters none p) bytes stmt h)
 ended_outside p bytes (stmts.Table name cols) h e = absurd (true≢false e)
 ended_outside p bytes (stmts.Hyper table col interval) h e = absurd (true≢false e)
 ended_outside p bytes (stmts.View name only filled fold) h e = absurd (true≢false e)

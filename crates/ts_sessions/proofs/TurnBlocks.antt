@@ -9,7 +9,7 @@ use Rattle.ts_model.specs.declared.outcomes.CutDone.{CutDone}
 use Rattle.ts_model.specs.declared.outcomes.CutDone.TheVariants.{Cut as CutMade, Nothing as NothingDone}
 use Rattle.ts_model.specs.declared.outcomes.Refusal.{Refusal}
 use Rattle.ts_model.specs.declared.views.ViewDef.{ViewDef}
-use Rattle.ts_model.specs.Calls.{Act, refuses as refuses_call, returns, makes, committing, cutting, finishing}
+use Rattle.ts_model.specs.Calls.{Act, refuses as refuses_call, returns, makes, act_of_commit, act_of_cut, act_of_finish}
 use Rattle.ts_model.specs.History.{History, position}
 use Rattle.ts_model.specs.States.{State}
 use Rattle.ts_model.proofs.HistoryLaws.{position_begins}
@@ -17,7 +17,7 @@ use Rattle.result_text.specs.declared.replies.Said.{Said}
 use Rattle.result_text.specs.declared.replies.Said.TheVariants as said
 use Rattle.ts_sessions.specs.Places.{Block, Places, Turn, held_for}
 use Rattle.ts_sessions.specs.Procedures.{Procedure, sees, adds, ends, followed_by, ending_as, tries_at}
-use Rattle.ts_sessions.specs.Step.{Taken, after_cut, after_line, after_snapshot, after_view, commits, committed, cut_turn, finish_turn, finishes, finishes_held, refreshed, refreshes, reported, snap_turn, snaps, taken, view_made}
+use Rattle.ts_sessions.specs.Step.{Taken, after_cut, after_line, after_snapshot, after_view, commits, turn_of_commit, cut_turn, finish_turn, finishes, finishes_held, turn_of_refresh, refreshes, turn_of_line, snap_turn, snaps, snapshot_taken, view_made}
 use Rattle.ts_sessions.specs.Walks.{Walks}
 use Rattle.ts_sessions.proofs.WalkLaws.{goes_walks}
 
@@ -61,16 +61,16 @@ module _ (Holds : Block → Type 0) (n : ℕ) where
 
   -- the places before a turn, of whose block it holds
   module _ (p : Places) (held : Holds p.block) where
-    pub by_reported : {A : Type 0} (line : A → Said) (r : Result A Refusal) → InTurn (reported p line r)
+    pub by_reported : {A : Type 0} (line : A → Said) (r : Result A Refusal) → InTurn (turn_of_line p line r)
     by_reported line (Ok a) = held
     by_reported line (Err r) = held
 
-    by_refreshed : (c : ℕ) (span : Span) (min : ℤ) (t : Taken) (r : Result ℕ Refusal) → InTurn (refreshed p c span min t r)
+    by_refreshed : (c : ℕ) (span : Span) (min : ℤ) (t : Taken) (r : Result ℕ Refusal) → InTurn (turn_of_refresh p c span min t r)
     by_refreshed c span min t (Ok k) = held
     by_refreshed c span min t (Err r) = held
 
     by_snapshot : (c : ℕ) (span : Span) (min : ℤ) (t : Result Taken Refusal) → EndsBy InTurn n (after_snapshot p c span min t)
-    by_snapshot c span min (Ok t) = λ h le. one_by InTurn n h (finishing c t.at h) (refreshed p c span min t) (by_refreshed c span min t)
+    by_snapshot c span min (Ok t) = λ h le. one_by InTurn n h (act_of_finish c t.at h) (turn_of_refresh p c span min t) (by_refreshed c span min t)
     by_snapshot c span min (Err r) = held
 
   module _ (p : Places) (held : Holds p.block) where
@@ -80,13 +80,13 @@ module _ (Holds : Block → Type 0) (n : ℕ) where
     by_cut_turn min (Err r) = held
 
     pub by_cut : (min : ℤ) (r : Result CutDone Refusal) → EndsBy InTurn n (after_cut p min r)
-    by_cut min (Ok (CutMade c span)) = λ h le. by_snapshot _ held c span min (taken c h)
+    by_cut min (Ok (CutMade c span)) = λ h le. by_snapshot _ held c span min (snapshot_taken c h)
     by_cut min (Ok (NothingDone at)) = held
     by_cut min (Err r) = held
 
     by_filled : (k : ℕ) (min : ℤ) (number : ℕ) (filled : Bool) → EndsBy InTurn n (view_made p k min number filled)
     by_filled k min number false = held
-    by_filled k min number true = as_by InTurn InTurn n (after_line (said.View number)) (refreshes p k None None min) (λ t w. w) (λ h le. call_by InTurn n h (cutting k None None h) (after_cut p min) (by_cut min))
+    by_filled k min number true = as_by InTurn InTurn n (after_line (said.View number)) (refreshes p k None None min) (λ t w. w) (λ h le. call_by InTurn n h (act_of_cut k None None h) (after_cut p min) (by_cut min))
 
     pub by_view : (k : ℕ) (def : ViewDef) (filled : Bool) (r : Result ℕ Refusal) → EndsBy InTurn n (after_view p k def filled r)
     by_view k def filled (Ok number) = by_filled k (first_of def.fold.width) number filled
@@ -98,7 +98,7 @@ module _ (Holds : Block → Type 0) (n : ℕ) where
 
     pub by_snaps : (h : History) (m : Option ℕ) → InTurn (snaps p h m)
     by_snaps h None = held
-    by_snaps h (Some c) = by_snap_turn c (taken c h)
+    by_snaps h (Some c) = by_snap_turn c (snapshot_taken c h)
 
     by_finish_turn : (c at : ℕ) (r : Result ℕ Refusal) → InTurn (finish_turn p c at r)
     by_finish_turn c at (Ok k) = held
@@ -106,15 +106,15 @@ module _ (Holds : Block → Type 0) (n : ℕ) where
 
     by_held : (h : History) (c : ℕ) (o : Option ℕ) → EndsBy InTurn n (finishes_held p h c o)
     by_held h c None = held
-    by_held h c (Some at) = one_by InTurn n h (finishing c at h) (finish_turn p c at) (by_finish_turn c at)
+    by_held h c (Some at) = one_by InTurn n h (act_of_finish c at h) (finish_turn p c at) (by_finish_turn c at)
 
     pub by_finishes : (h : History) (m : Option ℕ) → EndsBy InTurn n (finishes p h m)
     by_finishes h None = held
     by_finishes h (Some c) = by_held h c (held_for c p.held)
 
-    by_committed : (after : Places) → Holds after.block → (r : Result Committed Refusal) → InTurn (committed p after r)
+    by_committed : (after : Places) → Holds after.block → (r : Result Committed Refusal) → InTurn (turn_of_commit p after r)
     by_committed after w (Ok done) = w
     by_committed after w (Err r) = held
 
     pub by_commits : (after : Places) → Holds after.block → (h : History) (ops : List Op) → EndsBy InTurn n (commits p after h ops)
-    by_commits after w h ops = one_by InTurn n h (committing ops h) (committed p after) (by_committed after w)
+    by_commits after w h ops = one_by InTurn n h (act_of_commit ops h) (turn_of_commit p after) (by_committed after w)

@@ -19,13 +19,13 @@ use Rattle.stmt_syntax.specs.declared.statements.Stmt.{Stmt}
 use Rattle.stmt_syntax.specs.declared.statements.Stmt.TheVariants as stmts
 use Rattle.stmt_check.specs.Folds.{columns_before, is_shift, is_step, output_count}
 use Rattle.stmt_check.specs.Queries.{is_bucket_column}
-use Rattle.stmt_check.specs.Refusals.{◌⊳◌, marked, missing, refused}
+use Rattle.stmt_check.specs.Refusals.{◌⊳◌, marked_refusal, refusal_if_none, refusal_if}
 use Rattle.hier_agg.specs.declared.plans.UpperPlan.{UpperPlan}
 use Rattle.hier_agg.specs.declared.reads.UpperRead.{UpperRead}
 use Rattle.hier_agg.specs.declared.reads.UpperRead.TheVariants as uppers
 use Rattle.hier_agg.specs.Plans.{agg_at}
 use Rattle.hier_agg.specs.Reads.{fold_read, plan_of, read_as, upper_read, view_numbered}
-use Rattle.hier_agg.specs.Refusals.{agg_named, agg_refusal, aggs_refusal, argument_refusal, divided, fits, key_named, key_refusal, keys_refusal, tests_refusal, upper_refusal, width_refusal}
+use Rattle.hier_agg.specs.Refusals.{agg_named, agg_refusal, aggs_refusal, argument_refusal, divides_evenly, fits, key_named, key_refusal, keys_refusal, tests_refusal, upper_refusal, width_refusal}
 use Rattle.ts_sessions.proofs.RefusalCodes.{IsLooked, IsOther, Looked, looked, marked_looked, then_looked}
 
 -- ---- parts
@@ -33,17 +33,17 @@ use Rattle.ts_sessions.proofs.RefusalCodes.{IsLooked, IsOther, Looked, looked, m
 misfit_looked : (pos : ℕ) → IsLooked pos (record { code = bad_rollup; pos = pos; mark = 0 })
 misfit_looked pos = looked pos bad_rollup 0 refl
 
-fits_looked : (pos : ℕ) (wrong : Bool) → Looked pos (refused pos bad_rollup wrong)
+fits_looked : (pos : ℕ) (wrong : Bool) → Looked pos (refusal_if pos bad_rollup wrong)
 fits_looked pos true = misfit_looked pos
 fits_looked pos false = tt
 
-lost_looked : {T : Type 0} (pos : ℕ) (o : Option T) → Looked pos (missing pos no_column o)
+lost_looked : {T : Type 0} (pos : ℕ) (o : Option T) → Looked pos (refusal_if_none pos no_column o)
 lost_looked pos o = marked_looked pos no_column 0 (is_none o) refl
 
-wide_looked : (pos : ℕ) (wrong : Bool) → Looked pos (refused pos bad_width wrong)
+wide_looked : (pos : ℕ) (wrong : Bool) → Looked pos (refusal_if pos bad_width wrong)
 wide_looked pos wrong = marked_looked pos bad_width 0 wrong refl
 
-many_looked : (pos count others : ℕ) → Looked pos (marked pos too_many count (nat_le most_columns others))
+many_looked : (pos count others : ℕ) → Looked pos (marked_refusal pos too_many count (nat_le most_columns others))
 many_looked pos count others = marked_looked pos too_many count (nat_le most_columns others) refl
 
 -- ---- a roll-up
@@ -52,37 +52,37 @@ keys_looked : (pos : ℕ) (def : ViewDef) (count others : ℕ) (keys : List (Lis
 keys_looked pos def count others [] = tt
 keys_looked pos def count others (k ∷ ks) =
     then_looked pos (key_refusal pos def count others k) (keys_refusal pos def count (raised_by 1 others) ks)
-    (then_looked pos (missing pos no_column (key_named def k)) (marked pos too_many count (nat_le most_columns others)) (lost_looked pos (key_named def k)) (many_looked pos count others))
+    (then_looked pos (refusal_if_none pos no_column (key_named def k)) (marked_refusal pos too_many count (nat_le most_columns others)) (lost_looked pos (key_named def k)) (many_looked pos count others))
     (keys_looked pos def count (raised_by 1 others) ks)
 
 argument_looked : (pos : ℕ) (def : ViewDef) (fun : Fun) (col : Option (List ℕ)) → Looked pos (argument_refusal pos def fun col)
 argument_looked pos def fun None = misfit_looked pos
 argument_looked pos def fun (Some name) =
     let misfits = not (fits fun (agg_at def.fold (unwrap_or (agg_named def name) 0)).fun) in
-    then_looked pos (missing pos no_column (agg_named def name)) (refused pos bad_rollup misfits) (lost_looked pos (agg_named def name)) (fits_looked pos misfits)
+    then_looked pos (refusal_if_none pos no_column (agg_named def name)) (refusal_if pos bad_rollup misfits) (lost_looked pos (agg_named def name)) (fits_looked pos misfits)
 
 aggs_looked : (pos : ℕ) (def : ViewDef) (count others : ℕ) (aggs : List NamedAgg) → Looked pos (aggs_refusal pos def count others aggs)
 aggs_looked pos def count others [] = tt
 aggs_looked pos def count others (a ∷ left) =
     then_looked pos (agg_refusal pos def count others a) (aggs_refusal pos def count (raised_by 1 others) left)
-    (then_looked pos (marked pos too_many count (nat_le most_columns others)) (argument_refusal pos def a.fun a.col) (many_looked pos count others) (argument_looked pos def a.fun a.col))
+    (then_looked pos (marked_refusal pos too_many count (nat_le most_columns others)) (argument_refusal pos def a.fun a.col) (many_looked pos count others) (argument_looked pos def a.fun a.col))
     (aggs_looked pos def count (raised_by 1 others) left)
 
 tests_looked : (pos : ℕ) (def : ViewDef) (tests : List NamedTest) → Looked pos (tests_refusal pos def tests)
 tests_looked pos def [] = tt
-tests_looked pos def (t ∷ ts) = then_looked pos (missing pos no_column (key_named def t.col)) (tests_refusal pos def ts) (lost_looked pos (key_named def t.col)) (tests_looked pos def ts)
+tests_looked pos def (t ∷ ts) = then_looked pos (refusal_if_none pos no_column (key_named def t.col)) (tests_refusal pos def ts) (lost_looked pos (key_named def t.col)) (tests_looked pos def ts)
 
 width_looked : (pos : ℕ) (def : ViewDef) (f : NamedFold) → Looked pos (width_refusal pos def f)
 width_looked pos def f =
-    let step = refused pos bad_width (not (is_step f.step)) in
-    let whole = refused pos bad_width (not (divided f.step def.fold.width.step)) in
-    let column = refused pos no_column (not (is_bucket_column (view_column_of def f.at))) in
-    let shift = refused pos bad_width (not (is_shift f.step f.shift)) in
-    let between = refused pos bad_width (not (divided (f.shift -ℤ def.fold.width.shift) def.fold.width.step)) in
+    let step = refusal_if pos bad_width (not (is_step f.step)) in
+    let whole = refusal_if pos bad_width (not (divides_evenly f.step def.fold.width.step)) in
+    let column = refusal_if pos no_column (not (is_bucket_column (view_column_of def f.at))) in
+    let shift = refusal_if pos bad_width (not (is_shift f.step f.shift)) in
+    let between = refusal_if pos bad_width (not (divides_evenly (f.shift -ℤ def.fold.width.shift) def.fold.width.step)) in
     then_looked pos step (whole ⊳ column ⊳ shift ⊳ between) (wide_looked pos (not (is_step f.step)))
-    (then_looked pos whole (column ⊳ shift ⊳ between) (wide_looked pos (not (divided f.step def.fold.width.step)))
+    (then_looked pos whole (column ⊳ shift ⊳ between) (wide_looked pos (not (divides_evenly f.step def.fold.width.step)))
     (then_looked pos column (shift ⊳ between) (marked_looked pos no_column 0 (not (is_bucket_column (view_column_of def f.at))) refl)
-    (then_looked pos shift between (wide_looked pos (not (is_shift f.step f.shift))) (wide_looked pos (not (divided (f.shift -ℤ def.fold.width.shift) def.fold.width.step))))))
+    (then_looked pos shift between (wide_looked pos (not (is_shift f.step f.shift))) (wide_looked pos (not (divides_evenly (f.shift -ℤ def.fold.width.shift) def.fold.width.step))))))
 
 upper_looked : (pos : ℕ) (def : ViewDef) (f : NamedFold) → Looked pos (upper_refusal pos def f)
 upper_looked pos def f =

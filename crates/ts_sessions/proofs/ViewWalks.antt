@@ -20,20 +20,20 @@ use Rattle.ts_model.specs.States.{State, Makes}
 use Rattle.ts_model.specs.Roster.{roster, roster_after, is_taken, same_name, table_named, view_named, view_of}
 use Rattle.ts_model.specs.Limits.{most_relations}
 use Rattle.ts_model.specs.Timely.{has_room}
-use Rattle.ts_model.specs.Calls.{refuses, makes as makes_call, refusal, Answered, Called, making_view, new_relation, numbered}
+use Rattle.ts_model.specs.Calls.{refuses, makes as makes_call, refusal, Answered, Called, making_view, new_relation, act_with_number}
 use Rattle.ts_model.specs.Numbers.{too_many, history_full}
 use Rattle.ts_model.specs.Laws.{KeepsView}
 use Rattle.ts_model.proofs.RosterLaws.{relations_stay}
 use Rattle.result_text.specs.declared.replies.Said.{Said}
 use Rattle.ts_sessions.specs.declared.changes.Completion.{Completion}
-use Rattle.ts_sessions.specs.declared.tries.Tried.{Tried}
-use Rattle.ts_sessions.specs.declared.tries.Tried.TheVariants as tried
+use Rattle.ts_sessions.specs.declared.call_outcomes.Attempt.{Attempt}
+use Rattle.ts_sessions.specs.declared.call_outcomes.Attempt.TheVariants as tried
 use Rattle.ts_sessions.specs.Procedures.{Procedure, looks, ending_as, followed_by, tries_at}
 use Rattle.ts_sessions.specs.Places.{Places, Turn}
-use Rattle.ts_sessions.specs.Sessions.{Ends, changed, turn_of}
+use Rattle.ts_sessions.specs.Sessions.{Ends, places_after, turn_of}
 use Rattle.ts_sessions.specs.Step.{after_line}
 use Rattle.ts_sessions.specs.Sound.{number_from, view_number}
-use Rattle.ts_sessions.specs.Tried.{IsTried}
+use Rattle.ts_sessions.specs.CallOutcomes.{IsTried}
 use Rattle.ts_sessions.specs.Walks.{Walks, Breaks}
 use Rattle.ts_sessions.proofs.CallWalks.{answered_tries}
 use Rattle.ts_sessions.proofs.WalkLaws.{breaks_first, walks_as}
@@ -93,7 +93,7 @@ get_last (y ∷ ys) x = get_last ys x
 made_there : (found : State) (taken : Bool) (many : ℕ) (e : Event) (k : ℕ) (mid : State) → Answered (new_relation found.history taken many e) found (outcomes.Done k) mid → (taken ≡ false) × Makes e found mid
 made_there found true many e k mid w = absurd w
 made_there found false many e k mid w =
-    (elim (nat_lt many most_relations) as (λ t. Answered (cond t (numbered found.history e) (refuses (refusal too_many found.history (suc most_relations)))) found (outcomes.Done k) mid → (false ≡ false) × Makes e found mid) [
+    (elim (nat_lt many most_relations) as (λ t. Answered (cond t (act_with_number found.history e) (refuses (refusal too_many found.history (suc most_relations)))) found (outcomes.Done k) mid → (false ≡ false) × Makes e found mid) [
       | true ↦
           elim (has_room found.history) as (λ t. Answered (cond t (makes_call e (suc (position found.history))) (refuses (refusal history_full found.history 0))) found (outcomes.Done k) mid → (false ≡ false) × Makes e found mid) [
             | true ↦ λ v. (refl, v.1)
@@ -129,7 +129,7 @@ done_outcome pos outcomes.DiskFault k i = absurd cc
 done_outcome pos outcomes.NoMemory k i = absurd i
 
 -- what it made is there under its name
-pub made_named : (alone : Bool) (old : State) (def : ViewDef) (outcome : Outcome ℕ) (pos : ℕ) (t : Tried ℕ) (k : ℕ) (mid : State) → Called alone old (making_view def) outcome mid → IsTried pos outcome (Ok t) → t ≡ tried.Done k → (n : ℕ) × WasMade def n mid.history
+pub made_named : (alone : Bool) (old : State) (def : ViewDef) (outcome : Outcome ℕ) (pos : ℕ) (t : Attempt ℕ) (k : ℕ) (mid : State) → Called alone old (making_view def) outcome mid → IsTried pos outcome (Ok t) → t ≡ tried.Done k → (n : ℕ) × WasMade def n mid.history
 made_named alone old def outcome pos t k mid c i j =
     let d = subst (λ o. Called alone old (making_view def) o mid) (done_outcome pos outcome k (subst (λ x. IsTried pos outcome (Ok x)) j i)) c in
     (length (roster d.found.history).views, was_made def d.found k mid d.answered)
@@ -162,7 +162,7 @@ led alone old procedure line p completion l new before after e s c f = record {
   read = e.read;
   ends =
       let w = walks_as (after_line line) alone completion.failed old procedure new (turn_of p e.read completion) e.ends in
-      let y : after_line line (turn_of p e.read completion) ≡ turn_of p e.read l = sym (ap (λ lines. record { places = changed l.change p; said = lines; reads = e.read }) s ∙ ap (λ x. record { places = changed x p; said = line ∷ completion.said; reads = e.read }) c) in
+      let y : after_line line (turn_of p e.read completion) ≡ turn_of p e.read l = sym (ap (λ lines. record { places = places_after l.change p; said = lines; reads = e.read }) s ∙ ap (λ x. record { places = places_after x p; said = line ∷ completion.said; reads = e.read }) c) in
       subst (λ x. Walks alone x old (ending_as (after_line line) procedure) new (turn_of p e.read l)) (sym f) (subst (λ z. Walks alone completion.failed old (ending_as (after_line line) procedure) new z) y w);
   counted = e.counted;
 }
@@ -184,7 +184,7 @@ was_named def n mid w =
       there = subst (λ v. IsSome (view_of (roster mid) v)) (sym is) w.there;
     }
 
-pub made_is_named : (alone : Bool) (old : State) (def : ViewDef) (outcome : Outcome ℕ) (pos : ℕ) (t : Tried ℕ) (k : ℕ) (mid : State) (name : List ℕ) → Called alone old (making_view def) outcome mid → IsTried pos outcome (Ok t) → t ≡ tried.Done k → name ≡ def.name → IsNamed (roster mid.history) name
+pub made_is_named : (alone : Bool) (old : State) (def : ViewDef) (outcome : Outcome ℕ) (pos : ℕ) (t : Attempt ℕ) (k : ℕ) (mid : State) (name : List ℕ) → Called alone old (making_view def) outcome mid → IsTried pos outcome (Ok t) → t ≡ tried.Done k → name ≡ def.name → IsNamed (roster mid.history) name
 made_is_named alone old def outcome pos t k mid name c i j e =
     let w = made_named alone old def outcome pos t k mid c i j in
     subst (λ x. IsNamed (roster mid.history) x) (sym e) (was_named def w.0 mid.history w.1)

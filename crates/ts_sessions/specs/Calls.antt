@@ -15,11 +15,11 @@ use Rattle.ts_sessions.specs.declared.deeds.AfterLook.{AfterLook}
 use Rattle.ts_sessions.specs.declared.deeds.Deed.{Deed}
 use Rattle.ts_sessions.specs.declared.deeds.Next.{Next}
 use Rattle.ts_sessions.specs.declared.follows.Followed.{Followed}
-use Rattle.ts_sessions.specs.Deeds.{IsAsked, Leads, MadeFits, NextFits, cut_left, cut_meets, finished, led, left, left_by, left_next, look_left, look_meets, rest, rest_next, says, spent, spent_by, spent_next, view_leaves}
+use Rattle.ts_sessions.specs.Deeds.{IsAsked, Leads, MadeFits, NextFits, cut_left, cut_meets, turn_of_finish, with_line, left, left_by, left_next, look_left, look_meets, rest, rest_next, says, spent, spent_by, spent_next, view_leaves}
 use Rattle.ts_sessions.specs.Places.{Places, Turn}
 use Rattle.ts_sessions.specs.Procedures.{Procedure, ending_as, ends, followed_by}
 use Rattle.ts_sessions.specs.Sound.{number_at}
-use Rattle.ts_sessions.specs.Step.{after_cut, after_line, committed, cuts_refresh, reported}
+use Rattle.ts_sessions.specs.Step.{after_cut, after_line, turn_of_commit, cuts_refresh, turn_of_line}
 use Rattle.ts_sessions.specs.Walks.{Breaks}
 
 -- ---- what a call leaves
@@ -27,13 +27,13 @@ use Rattle.ts_sessions.specs.Walks.{Breaks}
 -- what is left of a statement of a session with these places, which had read so many rows, where its call came to this
 -- and this history was seen
 abbrev pub left_after : {T : Type 0} → Places → ℕ → History → CallOutcome T → Procedure (Turn Places)
-left_after p read h (outcomes.Number line r) = ends (reported p (says line) r)
-left_after p read h (outcomes.Commit leaves r) = ends (committed p (left_by leaves p) r)
+left_after p read h (outcomes.Number line r) = ends (turn_of_line p (says line) r)
+left_after p read h (outcomes.Commit leaves r) = ends (turn_of_commit p (left_by leaves p) r)
 left_after p read h (outcomes.View new filled r) = view_leaves p (number_at h new.name) (first_of new.width) filled r
 left_after p read h (outcomes.Found asked made) =
     ending_as (after_line (said.View made)) (followed_by (cuts_refresh asked.view asked.lo asked.hi) (after_cut p asked.min))
 left_after p read h (outcomes.Cut asked then r) = cut_left p asked.min then r
-left_after p read h (outcomes.Finish f r) = ends (finished p read f r)
+left_after p read h (outcomes.Finish f r) = ends (turn_of_finish p read f r)
 left_after p read h (outcomes.Look then shot) = look_left p h then
 
 -- how many meetings with the store were left at most, before the call
@@ -101,7 +101,7 @@ pub record IsFollowed {T J : Type 0} (shown : Shown T J) (h : History) (outcome 
     (before after : ℕ) : Type 0 where
   pub read_then : ℕ → ℕ
   pub rest_so : (p : Places) (read : ℕ)
-      → led f.said (rest_next p (read_then read) h f.next) ≡ left_after p read h outcome
+      → with_line f.said (rest_next p (read_then read) h f.next) ≡ left_after p read h outcome
   pub fits : (s : State) (bytes : ℕ) → s.history ≡ h → NextFits shown bytes f.next s
   pub spent_so : (read : ℕ) → spent_next (read_then read) f.next ≡ read_then read
   pub shorter : left_next f.next < meets_left outcome

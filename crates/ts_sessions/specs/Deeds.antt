@@ -20,7 +20,7 @@ use Rattle.ts_model.specs.declared.snapshots.Shown.{Ghosts as Shown}
 use Rattle.ts_model.specs.declared.views.Fold.{Fold}
 use Rattle.ts_model.specs.History.{History, position}
 use Rattle.ts_model.specs.States.{State}
-use Rattle.ts_model.specs.Calls.{Act, committing, making_hyper, making_table, making_view, refusal, setting_mode}
+use Rattle.ts_model.specs.Calls.{Act, act_of_commit, making_hyper, making_table, making_view, refusal, setting_mode}
 use Rattle.ts_model.specs.Sound.{sound}
 use Rattle.ts_model.specs.Pending.{pending}
 use Rattle.ts_model.specs.Roster.{roster, hyper_of, view_of}
@@ -28,21 +28,21 @@ use Rattle.ts_sessions.specs.declared.blocks.Open.TheVariants as opens
 use Rattle.ts_sessions.specs.declared.changes.Change.{Change}
 use Rattle.ts_sessions.specs.declared.changes.Change.TheVariants as changes
 use Rattle.ts_sessions.specs.declared.changes.Completion.{Completion}
-use Rattle.ts_sessions.specs.declared.deeds.Advanced.{Advanced}
+use Rattle.ts_sessions.specs.declared.deeds.DeedOutcome.{DeedOutcome}
 use Rattle.ts_sessions.specs.declared.deeds.AfterCut.{AfterCut}
 use Rattle.ts_sessions.specs.declared.deeds.AfterCut.TheVariants as after_cuts
 use Rattle.ts_sessions.specs.declared.deeds.AfterLook.{AfterLook}
 use Rattle.ts_sessions.specs.declared.deeds.AfterLook.TheVariants as looks_for
 use Rattle.ts_sessions.specs.declared.deeds.Deed.{Deed}
 use Rattle.ts_sessions.specs.declared.deeds.Deed.TheVariants as deeds
-use Rattle.ts_sessions.specs.declared.deeds.Finishing.{Finishing}
-use Rattle.ts_sessions.specs.declared.deeds.Finishing.TheVariants as finishing
-use Rattle.ts_sessions.specs.declared.deeds.Lacks.{Lacks}
-use Rattle.ts_sessions.specs.declared.deeds.Lacks.TheVariants as lacks
-use Rattle.ts_sessions.specs.declared.deeds.Line.{Line}
-use Rattle.ts_sessions.specs.declared.deeds.Line.TheVariants as lines
-use Rattle.ts_sessions.specs.declared.deeds.Making.{Making}
-use Rattle.ts_sessions.specs.declared.deeds.Making.TheVariants as making
+use Rattle.ts_sessions.specs.declared.deeds.FinishSource.{FinishSource}
+use Rattle.ts_sessions.specs.declared.deeds.FinishSource.TheVariants as finishing
+use Rattle.ts_sessions.specs.declared.deeds.MissingPart.{MissingPart}
+use Rattle.ts_sessions.specs.declared.deeds.MissingPart.TheVariants as lacks
+use Rattle.ts_sessions.specs.declared.deeds.ChangeLine.{ChangeLine}
+use Rattle.ts_sessions.specs.declared.deeds.ChangeLine.TheVariants as lines
+use Rattle.ts_sessions.specs.declared.deeds.RelationChange.{RelationChange}
+use Rattle.ts_sessions.specs.declared.deeds.RelationChange.TheVariants as making
 use Rattle.ts_sessions.specs.declared.deeds.Next.{Next}
 use Rattle.ts_sessions.specs.declared.deeds.Next.TheVariants as nexts
 use Rattle.ts_sessions.specs.declared.queries.Form.{Form}
@@ -59,50 +59,50 @@ use Rattle.ts_model.specs.declared.queries.Query.TheVariants.{Rows}
 use Rattle.ts_model.specs.Answers.{columns_are_there}
 use Rattle.ts_model.specs.Limits.{most_columns}
 use Rattle.std.specs.List.{AllByRecursion}
-use Rattle.ts_sessions.specs.declared.refreshes.Asked.{Asked}
+use Rattle.ts_sessions.specs.declared.refreshes.RefreshRequest.{RefreshRequest}
 use Rattle.ts_sessions.specs.declared.sessions.Session.{Session}
 use Rattle.ts_sessions.specs.Held.{GoesOn, HoldsOf, IsJobOf, is_lost, places_in}
 use Rattle.ts_sessions.specs.Places.{Block, Places, Turn, cuts, enters, none, reading, refuses, turns, writing}
 use Rattle.ts_sessions.specs.Procedures.{Procedure, ending_as, ends, followed_by, looks, tries, tries_at}
 use Rattle.ts_sessions.specs.Sessions.{ChangeHolds, EndsAt, Spares, turn_of}
-use Rattle.ts_sessions.specs.Step.{after_cut, after_line, after_snapshot, after_view, committed, cut_turn, cuts_refresh, finish_turn, finishes_refresh, lost_code, refreshed, reported, snap_turn, taken, unfinished, view_made}
+use Rattle.ts_sessions.specs.Step.{after_cut, after_line, after_snapshot, after_view, turn_of_commit, cut_turn, cuts_refresh, finish_turn, finishes_refresh, lost_code, turn_of_refresh, turn_of_line, snap_turn, snapshot_taken, unfinished_refusal, view_made}
 use Rattle.ts_sessions.specs.Sound.{IsNamed, IsThere, number_at}
 use Rattle.ts_sessions.specs.Walks.{Walks, Breaks}
 
 -- ---- what is left
 
 -- the refresh that is finished, and where its snapshot was taken
-abbrev pub cut_in : Finishing → ℕ
+abbrev pub cut_in : FinishSource → ℕ
 cut_in (finishing.Begun begun at) = begun.cut
 cut_in (finishing.Held cut at) = cut
 
-abbrev pub at_in : Finishing → ℕ
+abbrev pub at_in : FinishSource → ℕ
 at_in (finishing.Begun begun at) = at
 at_in (finishing.Held cut at) = at
 
 -- what a finish comes to, in a statement that read so many rows
-abbrev pub finished : Places → ℕ → Finishing → Result ℕ Refusal → Turn Places
-finished p read (finishing.Begun begun at) r =
-    refreshed (cuts begun.cut p) begun.cut begun.span begun.min (record { at = at; reads = read }) r
-finished p read (finishing.Held cut at) r = finish_turn p cut at r
+abbrev pub turn_of_finish : Places → ℕ → FinishSource → Result ℕ Refusal → Turn Places
+turn_of_finish p read (finishing.Begun begun at) r =
+    turn_of_refresh (cuts begun.cut p) begun.cut begun.span begun.min (record { at = at; reads = read }) r
+turn_of_finish p read (finishing.Held cut at) r = finish_turn p cut at r
 
 -- what makes a table or sets one thing of a relation, which event that is, and the line that says it
-abbrev pub making_of : Making → History → Act ℕ
+abbrev pub making_of : RelationChange → History → Act ℕ
 making_of (making.Table def) = making_table def
 making_of (making.Hyper table hyper) = making_hyper table hyper
 making_of (making.Mode view only) = setting_mode view only
 
-abbrev pub event_of : Making → Event
+abbrev pub event_of : RelationChange → Event
 event_of (making.Table def) = events.Table def
 event_of (making.Hyper table hyper) = events.Hyper table hyper
 event_of (making.Mode view only) = events.Mode view only
 
-abbrev pub line_of : Making → Line
+abbrev pub line_of : RelationChange → ChangeLine
 line_of (making.Table def) = lines.Table
 line_of (making.Hyper table hyper) = lines.Hyper
 line_of (making.Mode view only) = lines.Mode
 
-abbrev pub says : Line → ℕ → Said
+abbrev pub says : ChangeLine → ℕ → Said
 says lines.Table = said.Table
 says lines.Hyper = said.Hypertable
 says lines.Mode = said.Mode
@@ -118,7 +118,7 @@ view_leaves p n min filled (Ok k) = view_made p n min k filled
 view_leaves p n min filled (Err r) = ends (refuses p r)
 
 -- why a refresh that waits can't be finished, where its session lacks this
-abbrev pub lack_code : Lacks → History → ℕ
+abbrev pub lack_code : MissingPart → History → ℕ
 lack_code lacks.Snapshot h = no_snapshot
 lack_code lacks.Job h = lost_code h
 
@@ -127,20 +127,20 @@ abbrev pub said_once : {T J : Type 0} → Said → Change T J → Next T J
 said_once line change = nexts.End (record { said = line ∷ []; change = change; failed = false })
 
 -- what begins a write block
-abbrev pub opening : {T J : Type 0} → Next T J
-opening = said_once said.Begin (changes.Enters (opens.Write (record { ops = []; bytes = 0 })))
+abbrev pub begin_write_block : {T J : Type 0} → Next T J
+begin_write_block = said_once said.Begin (changes.Enters (opens.Write (record { ops = []; bytes = 0 })))
 
 -- what ends a block: the operations that wait take effect, if there are any
-abbrev pub closing : {T J : Type 0} → Block → Next T J
-closing none = said_once said.End (changes.Enters opens.Nothing)
-closing (writing ops bytes) =
+abbrev pub end_of_block : {T J : Type 0} → Block → Next T J
+end_of_block none = said_once said.End (changes.Enters opens.Nothing)
+end_of_block (writing ops bytes) =
     cond (length ops == 0) (said_once said.CommitEmpty (changes.Enters opens.Nothing)) (nexts.Deed (deeds.Commit ops true))
-closing (reading at) = said_once said.End (changes.Enters opens.Nothing)
+end_of_block (reading at) = said_once said.End (changes.Enters opens.Nothing)
 
 -- what takes a snapshot for a refresh, if one is meant
-abbrev pub holding : {T J : Type 0} → Option ℕ → Deed T J
-holding None = deeds.Look looks_for.Unknown
-holding (Some c) = deeds.Look (looks_for.Hold c)
+abbrev pub hold_of : {T J : Type 0} → Option ℕ → Deed T J
+hold_of None = deeds.Look looks_for.Unknown
+hold_of (Some c) = deeds.Look (looks_for.Hold c)
 
 -- what is left after a cut of a refresh whose aggregate's first bucket starts there
 abbrev pub cut_left : Places → ℤ → AfterCut → Result CutDone Refusal → Procedure (Turn Places)
@@ -152,9 +152,9 @@ abbrev pub look_left : Places → History → AfterLook → Procedure (Turn Plac
 look_left p h looks_for.BeginRead =
     ends (turns (enters (reading (position h)) p) (said.BeginRead (position h)))
 look_left p h (looks_for.Snapshot begun) =
-    after_snapshot (cuts begun.cut p) begun.cut begun.span begun.min (taken begun.cut h)
-look_left p h (looks_for.Hold cut) = ends (snap_turn p cut (taken cut h))
-look_left p h (looks_for.Refuse cut lack) = ends (refuses p (unfinished (lack_code lack h) h (pending h cut)))
+    after_snapshot (cuts begun.cut p) begun.cut begun.span begun.min (snapshot_taken begun.cut h)
+look_left p h (looks_for.Hold cut) = ends (snap_turn p cut (snapshot_taken cut h))
+look_left p h (looks_for.Refuse cut lack) = ends (refuses p (unfinished_refusal (lack_code lack h) h (pending h cut)))
 look_left p h looks_for.Unknown = ends (refuses p (refusal no_refresh h 0))
 
 -- what is left of a statement of a session with these places, which has read so many rows, where this is to be done
@@ -163,10 +163,10 @@ abbrev pub rest : {T J : Type 0} → Places → ℕ → History → Deed T J →
 rest p read h (deeds.Cut asked then) =
     followed_by (cuts_refresh asked.view asked.lo asked.hi) (cut_left p asked.min then)
 rest p read h (deeds.Finish job f) =
-    followed_by (finishes_refresh (cut_in f) (at_in f)) (λ r. ends (finished p read f r))
-rest p read h (deeds.Make m) = followed_by (tries (making_of m)) (λ r. ends (reported p (says (line_of m)) r))
+    followed_by (finishes_refresh (cut_in f) (at_in f)) (λ r. ends (turn_of_finish p read f r))
+rest p read h (deeds.Make m) = followed_by (tries (making_of m)) (λ r. ends (turn_of_line p (says (line_of m)) r))
 rest p read h (deeds.Commit ops leaves) =
-    followed_by (tries (committing ops)) (λ r. ends (committed p (left_by leaves p) r))
+    followed_by (tries (act_of_commit ops)) (λ r. ends (turn_of_commit p (left_by leaves p) r))
 rest p read h (deeds.View def filled) =
     looks (λ g. followed_by (tries_at g (making_view def g)) (after_view p (length (roster g).views) def filled))
 rest p read h (deeds.Fill new made) = view_made p (number_at h new.name) (first_of new.width) made true
@@ -196,9 +196,9 @@ left (deeds.Fill new made) = 4
 left (deeds.Look then) = look_meets then
 
 -- what is left after a line that was said already
-abbrev pub led : Option Said → Procedure (Turn Places) → Procedure (Turn Places)
-led None procedure = procedure
-led (Some line) procedure = ending_as (after_line line) procedure
+abbrev pub with_line : Option Said → Procedure (Turn Places) → Procedure (Turn Places)
+with_line None procedure = procedure
+with_line (Some line) procedure = ending_as (after_line line) procedure
 
 abbrev pub led_lines : Option Said → List Said → List Said
 led_lines None said = said
@@ -215,7 +215,7 @@ left_next (nexts.Deed d) = left d
 left_next (nexts.End t) = 0
 
 -- of so many rows read, those that what is left goes on from
-abbrev pub spent_by : ℕ → Finishing → ℕ
+abbrev pub spent_by : ℕ → FinishSource → ℕ
 spent_by read (finishing.Begun begun at) = read
 spent_by read (finishing.Held cut at) = 0
 
@@ -229,7 +229,7 @@ spent_next read (nexts.End t) = read
 
 -- ---- what has to go with what was seen
 
-pub record IsAsked (h : History) (asked : Asked) : Type 0 where
+pub record IsAsked (h : History) (asked : RefreshRequest) : Type 0 where
   pub view : IsSome (view_of (roster h) asked.view)
   pub low : ForSome asked.lo (λ t. IsTrue (is_time t))
   pub high : ForSome asked.hi (λ t. IsTrue (is_time t))
@@ -294,16 +294,16 @@ pub record Leads {A : Type 0} (alone failed : Bool) (old : State) (procedure : P
 
 -- a deed was done, and this comes next
 pub record Goes {T J : Type 0} (alone : Bool) (old : State) (p : Places) (read : ℕ) (deed : Deed T J)
-    (a : Advanced T J) (new : State) (before after : ℕ) : Type 0 where
+    (a : DeedOutcome T J) (new : State) (before after : ℕ) : Type 0 where
   pub read_then : ℕ
-  pub leads : Leads alone a.failed old (rest p read old.history deed) new (led a.said (rest_next p read_then new.history a.next))
+  pub leads : Leads alone a.failed old (rest p read old.history deed) new (with_line a.said (rest_next p read_then new.history a.next))
   pub spent_then : spent_next read_then a.next ≡ read_then
   pub counted : (from : ℕ) → before ≡ raised_by (spent read deed) from → after ≡ raised_by read_then from
   pub rose : before ≤ after
 
 -- so, or the statement broke off for want of memory
 abbrev pub Advances :
-    {T J : Type 0} → Bool → State → Places → ℕ → Deed T J → Result (Advanced T J) NoMemory → State → ℕ → ℕ → Type 0
+    {T J : Type 0} → Bool → State → Places → ℕ → Deed T J → Result (DeedOutcome T J) NoMemory → State → ℕ → ℕ → Type 0
 Advances alone old p read deed (Ok a) new before after = Goes alone old p read deed a new before after
 Advances alone old p read deed (Err e) new before after =
     Breaks alone old (rest p read old.history deed) new × (before ≤ after)
@@ -324,7 +324,7 @@ pub record CarriesOut {T J : Type 0} (alone : Bool) (old : State) (p : Places) (
 -- ---- jobs that a session held
 
 -- the refresh whose held job it takes
-abbrev pub held_in : Finishing → Option ℕ
+abbrev pub held_in : FinishSource → Option ℕ
 held_in (finishing.Begun begun at) = None
 held_in (finishing.Held cut at) = Some cut
 

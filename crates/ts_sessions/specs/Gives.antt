@@ -26,10 +26,10 @@ Gives all stop at so_far (ends a) (p ∷ ps) last given y = ⊥
 -- ---- looks and events
 
 -- the looks whose positions are printed
-abbrev pub printed : List (Option ℕ) → List ℕ
-printed [] = []
-printed (None ∷ ps) = printed ps
-printed (Some p ∷ ps) = p ∷ printed ps
+abbrev pub printed_looks : List (Option ℕ) → List ℕ
+printed_looks [] = []
+printed_looks (None ∷ ps) = printed_looks ps
+printed_looks (Some p ∷ ps) = p ∷ printed_looks ps
 
 -- the last of some positions, and where there are none the one before
 abbrev pub last_of : ℕ → List ℕ → ℕ

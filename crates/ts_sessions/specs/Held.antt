@@ -43,14 +43,14 @@ pub record Carries {T J : Type 0} (old new : Session T J) : Type 0 where
   pub held : new.held.entries ≡ old.held.entries
 
 -- the bytes of the texts whose operations wait for the end of a block
-abbrev pub queued : Block → ℕ
-queued none = 0
-queued (writing ops bytes) = bytes
-queued (reading at) = 0
+abbrev pub bytes_queued : Block → ℕ
+bytes_queued none = 0
+bytes_queued (writing ops bytes) = bytes
+bytes_queued (reading at) = 0
 
 -- the bytes of the texts whose operations wait in the block of a session
 abbrev pub waiting_bytes : {T J : Type 0} → Session T J → ℕ
-waiting_bytes s = queued (places_in s).block
+waiting_bytes s = bytes_queued (places_in s).block
 
 -- operations wait in a write block alone
 abbrev pub WaitsInside : BlockKind → ℕ → Type 0
@@ -59,10 +59,10 @@ WaitsInside WriteBlock n = ⊤
 WaitsInside ReadBlock n = n ≡ 0
 
 -- an operation from a text of so many bytes waits for the end of a write block
-abbrev pub pushed : {T : Type 0} → Op → ℕ → Open T → Open T
-pushed op more Nothing = Nothing
-pushed op more (Write queue) = Write (record { ops = queue.ops ++ op ∷ []; bytes = queue.bytes + more })
-pushed op more (Read at shot) = Read at shot
+abbrev pub open_with : {T : Type 0} → Op → ℕ → Open T → Open T
+open_with op more Nothing = Nothing
+open_with op more (Write queue) = Write (record { ops = queue.ops ++ op ∷ []; bytes = queue.bytes + more })
+open_with op more (Read at shot) = Read at shot
 
 -- the most bytes that they may have: those of all input
 abbrev pub most_queued : ℕ

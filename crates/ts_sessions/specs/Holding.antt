@@ -19,7 +19,7 @@ use Rattle.ts_sessions.specs.declared.blocks.Open.{Open}
 use Rattle.ts_sessions.specs.declared.blocks.Open.TheVariants.{Nothing, Write, Read}
 use Rattle.ts_sessions.specs.declared.sessions.Session.{Session}
 use Rattle.ts_sessions.specs.declared.sessions.Snapshot.{Snapshot}
-use Rattle.ts_sessions.specs.Held.{GoesOn, HoldsBlock, block_of, HoldsJob, HoldsSnapshots, HoldsOf, WaitsInside, is_finished, is_lost, queued}
+use Rattle.ts_sessions.specs.Held.{GoesOn, HoldsBlock, block_of, HoldsJob, HoldsSnapshots, HoldsOf, WaitsInside, is_finished, is_lost, bytes_queued}
 use Rattle.ts_sessions.specs.LineLaws.{ReadsWithin}
 use Rattle.ts_sessions.specs.Places.{Block, none, writing, reading, block_kind}
 use Rattle.stmt_check.proofs.QueueLaws.{queues_are_sound}
@@ -148,7 +148,7 @@ holds_on shown fits_on session g h on k = record {
 
 -- ---- operations that wait
 
-pub waits_inside : (b : Block) → WaitsInside (block_kind b) (queued b)
+pub waits_inside : (b : Block) → WaitsInside (block_kind b) (bytes_queued b)
 waits_inside none = refl
 waits_inside (writing ops n) = tt
 waits_inside (reading at) = refl

@@ -3,8 +3,8 @@ use Rattle.std.specs.Prelude.{◌≡◌, ℕ, List, Option, Some, None}
 use Rattle.std.specs.Map.{set_value}
 use Rattle.std.specs.Ordering.{nat_cmp}
 use Rattle.std.specs.BTreeMap.{is_at, insert_entry}
-use Rattle.ts_sessions.specs.declared.endings.HeldJob.{HeldJob}
-use Rattle.ts_sessions.specs.declared.endings.HeldJob.TheVariants.{Nothing, Lost, Job}
+use Rattle.ts_sessions.specs.declared.block_ends.HeldJob.{HeldJob}
+use Rattle.ts_sessions.specs.declared.block_ends.HeldJob.TheVariants.{Nothing, Lost, Job}
 use Rattle.ts_sessions.specs.declared.sessions.Snapshot.{Snapshot}
 use Rattle.ts_sessions.specs.Places.{held_for}
 

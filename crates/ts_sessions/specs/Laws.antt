@@ -6,7 +6,7 @@ use Rattle.ts_model.specs.declared.events.Event.{Event}
 use Rattle.ts_model.specs.History.{History, position, Begins}
 use Rattle.ts_model.specs.States.{State, stop_of}
 use Rattle.ts_sessions.specs.Procedures.{Procedure, followed_by}
-use Rattle.ts_sessions.specs.Gives.{AreEvents, Gives, StopsAtEnd, StopsLater, last_of, numbers, printed}
+use Rattle.ts_sessions.specs.Gives.{AreEvents, Gives, StopsAtEnd, StopsLater, last_of, numbers, printed_looks}
 use Rattle.ts_sessions.specs.Steady.{Steady}
 use Rattle.ts_sessions.specs.Walks.{Walks}
 
@@ -29,7 +29,7 @@ abbrev pub GivesOverLonger : (A : Type 0) → Type 0
 GivesOverLonger A =
     (fresh : Bool) (base all longer : History) (stop later : Option ℕ) (at : ℕ) (so_far : List (ℕ × Event))
     (procedure : Procedure A) (looks : List (Option ℕ)) (last : ℕ) (given : List (ℕ × Event)) (y : A)
-    → Steady fresh base procedure → Begins base all → AllByRecursion (λ p. position base ≤ p) (printed looks)
+    → Steady fresh base procedure → Begins base all → AllByRecursion (λ p. position base ≤ p) (printed_looks looks)
     → Begins all longer → StopsLater stop later → Gives all stop at so_far procedure looks last given y
     → Gives longer later at so_far procedure looks last given y
 
@@ -40,7 +40,7 @@ LastIsPrinted A =
     (all : History) (stop : Option ℕ) (at : ℕ) (procedure : Procedure A) (looks : List (Option ℕ)) (last : ℕ)
     (given : List (ℕ × Event)) (y : A)
     → Gives all stop at [] procedure looks last given y
-    → last ≡ max (last_of at (printed looks)) (last_of at (numbers given))
+    → last ≡ max (last_of at (printed_looks looks)) (last_of at (numbers given))
 
 -- the events that a procedure gives are those of the history with their numbers, in order between its first position
 -- and its last
@@ -60,8 +60,8 @@ abbrev pub PrintedLooksDetermine : (A : Type 0) → Type 0
 PrintedLooksDetermine A =
     (base all : History) (stop : Option ℕ) (at at_too : ℕ) (procedure : Procedure A)
     (looks looks_too : List (Option ℕ)) (last last_too : ℕ) (given given_too : List (ℕ × Event)) (y z : A)
-    → Steady false base procedure → Begins base all → AllByRecursion (λ p. position base ≤ p) (printed looks)
-    → StopsAtEnd all stop → printed looks_too ≡ printed looks → Gives all stop at [] procedure looks last given y
+    → Steady false base procedure → Begins base all → AllByRecursion (λ p. position base ≤ p) (printed_looks looks)
+    → StopsAtEnd all stop → printed_looks looks_too ≡ printed_looks looks → Gives all stop at [] procedure looks last given y
     → Gives all stop at_too [] procedure looks_too last_too given_too z → SameReading y z given given_too
 
 -- ---- walks
@@ -74,7 +74,7 @@ pub record IsGiven {A : Type 0} (old new : State) (at : ℕ) (procedure : Proced
   pub last : ℕ
   pub given : List (ℕ × Event)
   pub gives : Gives new.history (stop_of new) at [] procedure looks last given y
-  pub seen : AllByRecursion (λ p. position old.history ≤ p) (printed looks)
+  pub seen : AllByRecursion (λ p. position old.history ≤ p) (printed_looks looks)
   pub made : new.made ≡ old.made ++ numbers given
   pub within : last ≤ position new.history
 

@@ -13,10 +13,10 @@ pub mod Stopped
 pub mod Named
 pub mod Looks
 pub mod Actors
-pub mod Begun
+pub mod CutRefreshes
 pub mod Held
 pub mod Holding
-pub mod Tried
+pub mod CallOutcomes
 pub mod Jobs
 pub mod Sessions
 pub mod Sound
@@ -24,4 +24,4 @@ pub mod Parts
 pub mod Deeds
 pub mod Calls
 pub mod Openings
-pub mod Meant
+pub mod ResolvedNames

@@ -19,15 +19,15 @@ use Rattle.ts_sessions.specs.Procedures.{Procedure, sees, adds, ends}
 use Rattle.ts_sessions.specs.Replies.{reply_to}
 use Rattle.ts_sessions.specs.Script.{LineResult, ScriptState, executes_as, places_of, session_semantics, with_places}
 use Rattle.ts_sessions.specs.Steady.{Steady}
-use Rattle.ts_sessions.specs.Step.{acts, answers, kind_of, makes_event, named, passes_block, step}
-use Rattle.ts_sessions.specs.Walks.{Walks, history_after, ending}
+use Rattle.ts_sessions.specs.Step.{acts, answers, kind_of, makes_event, turn_of_names, passes_block, step}
+use Rattle.ts_sessions.specs.Walks.{Walks, history_after, end_of_walk}
 
 -- where the names of a statement that makes an event passed, it does later what it does with its names looked at then
 abbrev pub NamesStay : Type 0
 NamesStay =
     (p : Places) (bytes : ℕ) (stmt : Stmt) (g h : History) → Begins g h → all_allowed h ≡ true
     → makes_event (kind_of stmt) ≡ true → refusal_of (position g) (roster g) stmt ≡ None
-    → acts p bytes h (action_of (roster g) stmt) ≡ named p bytes stmt h
+    → acts p bytes h (action_of (roster g) stmt) ≡ turn_of_names p bytes stmt h
 
 -- a step is what the reply to its line says: over a store that others change, where the history that it left is
 -- allowed, and over one that is alone
@@ -40,7 +40,7 @@ pub record StepsAreReplies : Type 0 where
       → history_after (reply_to p text skip) h ≡ history_after (step p text skip) h
   pub end :
       (p : Places) (text : List ℕ) (skip : ℕ) (h : History)
-      → ending (reply_to p text skip) h ≡ ending (step p text skip) h
+      → end_of_walk (reply_to p text skip) h ≡ end_of_walk (step p text skip) h
 
 -- a read block began at or before a position
 abbrev pub ReadsWithin : Block → ℕ → Type 0

@@ -8,16 +8,16 @@ use Rattle.ts_sessions.specs.declared.deeds.Deed.TheVariants as deeds
 use Rattle.ts_sessions.specs.declared.deeds.Next.TheVariants as nexts
 use Rattle.ts_sessions.specs.declared.openings.Opening.{Opening}
 use Rattle.ts_sessions.specs.declared.openings.Opening.TheVariants as openings
-use Rattle.ts_sessions.specs.Deeds.{closing, holding, opening, said_once}
+use Rattle.ts_sessions.specs.Deeds.{end_of_block, hold_of, begin_write_block, said_once}
 use Rattle.ts_sessions.specs.Places.{Places}
 use Rattle.ts_sessions.specs.Step.{given_up, refresh_meant}
 
 -- that of a statement of a session with these places
 abbrev pub opening_of : {T J : Type 0} → Places → Stmt → Opening T J
-opening_of p (stmts.Snap number) = openings.Next (nexts.Deed (holding (refresh_meant p number)))
+opening_of p (stmts.Snap number) = openings.Next (nexts.Deed (hold_of (refresh_meant p number)))
 opening_of p (stmts.Finish number) = openings.Finish number
-opening_of p stmts.Begin = openings.Next opening
+opening_of p stmts.Begin = openings.Next begin_write_block
 opening_of p stmts.BeginRead = openings.Next (nexts.Deed (deeds.Look looks_for.BeginRead))
-opening_of p stmts.Commit = openings.Next (closing p.block)
+opening_of p stmts.Commit = openings.Next (end_of_block p.block)
 opening_of p stmts.Rollback = openings.Next (said_once (given_up p.block) (changes.Enters opens.Nothing))
 opening_of p other = openings.Names

@@ -15,7 +15,7 @@ use Rattle.result_text.specs.Replies.{line_fault_text, reply_text}
 use Rattle.ts_sessions.specs.Procedures.{Procedure}
 use Rattle.ts_sessions.specs.Places.{Places, Turn, no_places}
 use Rattle.ts_sessions.specs.Step.{bare, step}
-use Rattle.ts_sessions.specs.Walks.{history_after, ending}
+use Rattle.ts_sessions.specs.Walks.{history_after, end_of_walk}
 
 -- a line that a session executes: its bytes before the comment, and how many of them stand before its statement
 pub record SessionLine : Type 0 where
@@ -82,16 +82,16 @@ has_fault lines = list_any is_fault lines
 -- ---- lines
 
 -- nothing happens, and this is written
-abbrev pub refused : {P : Type 0} → ScriptState P → List ℕ → LineResult P
-refused s text = record { script_state = s; text = text; fault = true; reads = 0 }
+abbrev pub line_of_refusal : {P : Type 0} → ScriptState P → List ℕ → LineResult P
+line_of_refusal s text = record { script_state = s; text = text; fault = true; reads = 0 }
 
 -- a line that has no session is refused by its number
 abbrev pub refused_line : {P : Type 0} → ScriptState P → ℕ → ℕ → LineResult P
-refused_line s n code = refused s (line_fault_text n (bare code))
+refused_line s n code = line_of_refusal s (line_fault_text n (bare code))
 
 -- a session has taken its turn
-abbrev pub turned : {P : Type 0} → ScriptState P → List ℕ → History → Turn P → LineResult P
-turned s name h turn = record {
+abbrev pub line_of_turn : {P : Type 0} → ScriptState P → List ℕ → History → Turn P → LineResult P
+line_of_turn s name h turn = record {
   script_state = record { history = h; sessions = with_places name turn.places s.sessions };
   text = text_of name turn.said;
   fault = has_fault turn.said;
@@ -100,7 +100,7 @@ turned s name h turn = record {
 
 -- a session takes its turn
 abbrev pub takes_turn : {P : Type 0} → ScriptState P → List ℕ → Procedure (Turn P) → LineResult P
-takes_turn s name procedure = turned s name (history_after procedure s.history) (ending procedure s.history)
+takes_turn s name procedure = line_of_turn s name (history_after procedure s.history) (end_of_walk procedure s.history)
 
 -- a line of the session with a name: of one that has appeared, or of a new one, where there are fewer than 64
 abbrev pub executes_as : {P : Type 0} → Semantics P → ScriptState P → List ℕ → List ℕ → ℕ → Option P → LineResult P
@@ -108,7 +108,7 @@ executes_as semantics s name text skip (Some p) = takes_turn s name (semantics.d
 executes_as semantics s name text skip None =
     cond (nat_lt (length s.sessions) most_sessions)
     (takes_turn s name (semantics.does (semantics.opening (length s.sessions)) text skip))
-    (refused s (reply_text name (said.Fault (bare too_many_sessions))))
+    (line_of_refusal s (reply_text name (said.Fault (bare too_many_sessions))))
 
 -- a line of this kind, which has this number
 abbrev pub executes_kind : {P : Type 0} → Semantics P → ScriptState P → ℕ → List ℕ → LineKind → LineResult P

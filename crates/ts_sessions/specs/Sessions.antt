@@ -11,17 +11,17 @@ use Rattle.result_text.specs.declared.replies.Said.{Said}
 use Rattle.ts_sessions.specs.declared.changes.Change.{Change}
 use Rattle.ts_sessions.specs.declared.changes.Change.TheVariants as changes
 use Rattle.ts_sessions.specs.declared.changes.Completion.{Completion}
-use Rattle.ts_sessions.specs.declared.refreshes.Snapped.{Snapped}
-use Rattle.ts_sessions.specs.declared.refreshes.Snapped.TheVariants as snapped
-use Rattle.ts_sessions.specs.declared.tries.Tried.{Tried}
-use Rattle.ts_sessions.specs.declared.tries.Tried.TheVariants as tried
+use Rattle.ts_sessions.specs.declared.refreshes.SnapOutcome.{SnapOutcome}
+use Rattle.ts_sessions.specs.declared.refreshes.SnapOutcome.TheVariants as snapped
+use Rattle.ts_sessions.specs.declared.call_outcomes.Attempt.{Attempt}
+use Rattle.ts_sessions.specs.declared.call_outcomes.Attempt.TheVariants as tried
 use Rattle.ts_sessions.specs.declared.replies.Reply.{Reply as ReplyMade}
 use Rattle.ts_sessions.specs.declared.replies.StepEnd.{StepEnd}
 use Rattle.ts_sessions.specs.declared.replies.StepEnd.TheVariants as steps
 use Rattle.ts_sessions.specs.Procedures.{Procedure}
 use Rattle.ts_sessions.specs.Walks.{Walks, Breaks}
 use Rattle.ts_sessions.specs.Places.{Block, none, writing, reading, Places, Turn, enters, cuts, holds, gives_up}
-use Rattle.ts_sessions.specs.Held.{block_of, queued, most_queued, HoldsBlock, IsJobOf, HoldsOf}
+use Rattle.ts_sessions.specs.Held.{block_of, bytes_queued, most_queued, HoldsBlock, IsJobOf, HoldsOf}
 use Rattle.ts_sessions.specs.Made.{made_in}
 use Rattle.ts_sessions.specs.Script.{text_of, has_fault}
 use Rattle.stmt_reader.specs.declared.faults.Fault.{Fault}
@@ -29,7 +29,7 @@ use Rattle.stmt_syntax.specs.declared.statements.Stmt.{Stmt}
 use Rattle.stmt_syntax.specs.declared.statements.Stmt.TheVariants as stmts
 use Rattle.stmt_reader.specs.Reading.{statement}
 use Rattle.stmt_tokens.specs.Streams.{Stream, stream}
-use Rattle.ts_sessions.specs.Step.{Taken, refresh_meant, taken, takes_snapshot}
+use Rattle.ts_sessions.specs.Step.{Taken, refresh_meant, snapshot_taken, takes_snapshot}
 use Rattle.ts_model.specs.declared.snapshots.Shown.{Ghosts as Shown}
 use Rattle.ts_sessions.specs.declared.sessions.Session.{Session}
 use Rattle.ts_model.specs.declared.backends.Backend.{Ghosts as Backend}
@@ -37,58 +37,58 @@ use Rattle.ts_model.specs.declared.backends.Backend.{Ghosts as Backend}
 -- ---- calls of a store
 
 -- what came of a call
-abbrev pub came : {A : Type 0} → Tried A → Result A Refusal
-came (tried.Done a) = Ok a
-came (tried.Refused r) = Err r
-came (tried.Failed r) = Err r
+abbrev pub result_of : {A : Type 0} → Attempt A → Result A Refusal
+result_of (tried.Done a) = Ok a
+result_of (tried.Refused r) = Err r
+result_of (tried.Failed r) = Err r
 
 -- the disk failed in a call
-abbrev pub has_failed : {A : Type 0} → Tried A → Bool
+abbrev pub has_failed : {A : Type 0} → Attempt A → Bool
 has_failed (tried.Done a) = false
 has_failed (tried.Refused r) = false
 has_failed (tried.Failed r) = true
 
 -- a call ended with the walk of its procedure, or broke off for want of memory
 abbrev pub Tries :
-    {A : Type 0} → Bool → State → Procedure (Result A Refusal) → Result (Tried A) NoMemory → State → Type 0
-Tries alone old procedure (Ok t) new = Walks alone (has_failed t) old procedure new (came t)
+    {A : Type 0} → Bool → State → Procedure (Result A Refusal) → Result (Attempt A) NoMemory → State → Type 0
+Tries alone old procedure (Ok t) new = Walks alone (has_failed t) old procedure new (result_of t)
 Tries alone old procedure (Err e) new = Breaks alone old procedure new
 
 -- what a snapshot for a refresh came to, where so many rows were read
-abbrev pub taken_as : {J : Type 0} → ℕ → Snapped J → Result Taken Refusal
+abbrev pub taken_as : {J : Type 0} → ℕ → SnapOutcome J → Result Taken Refusal
 taken_as read (snapped.Taken at job) = Ok (record { at = at; reads = read })
 taken_as read (snapped.Refused r) = Err r
 
 -- how many rows it read: none where the refresh wasn't pending
-abbrev pub read_by : {J : Type 0} → ℕ → Snapped J → ℕ
+abbrev pub read_by : {J : Type 0} → ℕ → SnapOutcome J → ℕ
 read_by read (snapped.Taken at job) = read
 read_by read (snapped.Refused r) = 0
 
 -- the job of a snapshot fits what was seen, and is that of a snapshot of this refresh
-abbrev pub FitsSnapped : {T J : Type 0} → Shown T J → ℕ → History → Snapped J → Type 0
+abbrev pub FitsSnapped : {T J : Type 0} → Shown T J → ℕ → History → SnapOutcome J → Type 0
 FitsSnapped shown c h (snapped.Taken at job) = IsJobOf shown c at h job
 FitsSnapped shown c h (snapped.Refused r) = ⊤
 
 -- this is what a snapshot of a history for a refresh comes to; the rows that it read were counted
-pub record IsTakenAs {J : Type 0} (h : History) (c : ℕ) (s : Snapped J) (before after : ℕ) : Type 0 where
+pub record IsTakenAs {J : Type 0} (h : History) (c : ℕ) (s : SnapOutcome J) (before after : ℕ) : Type 0 where
   pub read : ℕ
-  pub is : taken_as read s ≡ taken c h
+  pub is : taken_as read s ≡ snapshot_taken c h
   pub counted : after ≡ raised_by (read_by read s) before
 
 -- so, or it broke off for want of memory
-abbrev pub TakenAs : {J : Type 0} → History → ℕ → Result (Snapped J) NoMemory → ℕ → ℕ → Type 0
+abbrev pub TakenAs : {J : Type 0} → History → ℕ → Result (SnapOutcome J) NoMemory → ℕ → ℕ → Type 0
 TakenAs h c (Ok s) before after = IsTakenAs h c s before after
 TakenAs h c (Err e) before after = before ≤ after
 
 -- a snapshot was taken for a refresh, or the refresh isn't pending; the rows that it read were counted
-pub record Snaps {J : Type 0} (alone : Bool) (old : State) (c : ℕ) (s : Snapped J) (new : State)
+pub record Snaps {J : Type 0} (alone : Bool) (old : State) (c : ℕ) (s : SnapOutcome J) (new : State)
     (before after : ℕ) : Type 0 where
   pub read : ℕ
   pub walks : Walks alone false old (takes_snapshot c) new (taken_as read s)
   pub counted : after ≡ raised_by (read_by read s) before
 
 -- so ended a snapshot for a refresh, or it broke off for want of memory
-abbrev pub SnapEnds : {J : Type 0} → Bool → State → ℕ → Result (Snapped J) NoMemory → State → ℕ → ℕ → Type 0
+abbrev pub SnapEnds : {J : Type 0} → Bool → State → ℕ → Result (SnapOutcome J) NoMemory → State → ℕ → ℕ → Type 0
 SnapEnds alone old c (Ok s) new before after = Snaps alone old c s new before after
 SnapEnds alone old c (Err e) new before after = Breaks alone old (takes_snapshot c) new × (before ≤ after)
 
@@ -101,18 +101,18 @@ queued_on op more (writing ops bytes) = writing (ops ++ op ∷ []) (bytes + more
 queued_on op more (reading at) = reading at
 
 -- the places of a session after a change
-abbrev pub changed : {T J : Type 0} → Change T J → Places → Places
-changed changes.Nothing p = p
-changed (changes.Cuts c) p = cuts c p
-changed (changes.Holds c at job) p = holds c at p
-changed (changes.GivesUp c) p = gives_up c p
-changed (changes.Enters b) p = enters (block_of b) p
-changed (changes.Queues op more) p = enters (queued_on op more p.block) p
+abbrev pub places_after : {T J : Type 0} → Change T J → Places → Places
+places_after changes.Nothing p = p
+places_after (changes.Cuts c) p = cuts c p
+places_after (changes.Holds c at job) p = holds c at p
+places_after (changes.GivesUp c) p = gives_up c p
+places_after (changes.Enters b) p = enters (block_of b) p
+places_after (changes.Queues op more) p = enters (queued_on op more p.block) p
 
 -- what a change brings goes with what was seen; an operation that is to wait came from a text of so many bytes
 abbrev pub ChangeHolds : {T J : Type 0} → Shown T J → ℕ → Change T J → History → Type 0
 ChangeHolds shown bytes (changes.Holds c at job) h = IsJobOf shown c at h job
-ChangeHolds shown bytes (changes.Enters b) h = HoldsBlock shown.stands b h × (queued (block_of b) ≡ 0)
+ChangeHolds shown bytes (changes.Enters b) h = HoldsBlock shown.stands b h × (bytes_queued (block_of b) ≡ 0)
 ChangeHolds shown bytes (changes.Queues op more) h = IsOperation h more op × (more ≡ bytes)
 ChangeHolds shown bytes other h = ⊤
 
@@ -127,12 +127,12 @@ HoldsAfter shown change old new =
 
 -- there is room in a queue for what a change brings there
 abbrev pub ChangeFits : {T J : Type 0} → Change T J → Block → Type 0
-ChangeFits (changes.Queues op more) b = queued b + more ≤ most_queued
+ChangeFits (changes.Queues op more) b = bytes_queued b + more ≤ most_queued
 ChangeFits other b = ⊤
 
 -- what a statement came to, with places that it began with, where so many rows were read
 abbrev pub turn_of : {T J : Type 0} → Places → ℕ → Completion T J → Turn Places
-turn_of p read t = record { places = changed t.change p; said = t.said; reads = read }
+turn_of p read t = record { places = places_after t.change p; said = t.said; reads = read }
 
 -- a statement ended with the walk of its procedure, or broke off for want of memory
 abbrev pub EndsAt :

@@ -20,7 +20,7 @@ use Rattle.ts_model.specs.Answers.{answer, with_queue}
 use Rattle.ts_model.specs.Pending.{pending}
 use Rattle.ts_model.specs.Reads.{reads as reads_of, job_reads}
 use Rattle.ts_model.specs.Timely.{has_room}
-use Rattle.ts_model.specs.Calls.{refusal, making_table, making_hyper, making_view, setting_mode, committing, cutting, finishing}
+use Rattle.ts_model.specs.Calls.{refusal, making_table, making_hyper, making_view, setting_mode, act_of_commit, act_of_cut, act_of_finish}
 use Rattle.ts_model.specs.Numbers.{no_token, syntax, bad_number, in_write_block, in_read_block, no_block, no_refresh, no_snapshot, stopped, history_full}
 use Rattle.stmt_reader.specs.declared.faults.Fault.{Fault}
 use Rattle.stmt_reader.specs.declared.faults.Fault.TheVariants as faults
@@ -58,14 +58,14 @@ abbrev pub bare : ℕ → Refusal
 bare code = record { code = code; pos = 0; mark = 0 }
 
 -- a refusal of the text at a place of the line
-abbrev pub placed : ℕ → ℕ → Refusal
-placed code place = record { code = code; pos = 0; mark = place }
+abbrev pub text_refusal_of : ℕ → ℕ → Refusal
+text_refusal_of code place = record { code = code; pos = 0; mark = place }
 
 -- what can't be read is refused at its place
 abbrev pub misread : Fault → Refusal
-misread (faults.NoToken place) = placed no_token place
-misread (faults.Syntax place) = placed syntax place
-misread (faults.BadNumber place) = placed bad_number place
+misread (faults.NoToken place) = text_refusal_of no_token place
+misread (faults.Syntax place) = text_refusal_of syntax place
+misread (faults.BadNumber place) = text_refusal_of bad_number place
 
 -- the kind of a statement, as blocks let it pass or not
 abbrev pub kind_of : Stmt → StatementKind
@@ -118,9 +118,9 @@ block_refusal (reading at) kind = refusal_reading kind
 -- ---- events
 
 -- what came of it is said in one line, and the session stays as it is
-abbrev pub reported : {A : Type 0} → Places → (A → Said) → Result A Refusal → Turn Places
-reported p line (Ok a) = turns p (line a)
-reported p line (Err r) = refuses p r
+abbrev pub turn_of_line : {A : Type 0} → Places → (A → Said) → Result A Refusal → Turn Places
+turn_of_line p line (Ok a) = turns p (line a)
+turn_of_line p line (Err r) = refuses p r
 
 -- ---- refreshes
 
@@ -141,20 +141,20 @@ taken_of h c (Finished f) = Err (refusal no_refresh h f)
 taken_of h c Unknown = Err (refusal no_refresh h 0)
 
 -- a snapshot of a history for a refresh
-abbrev pub taken : ℕ → History → Result Taken Refusal
-taken c h = taken_of h c (pending h c)
+abbrev pub snapshot_taken : ℕ → History → Result Taken Refusal
+snapshot_taken c h = taken_of h c (pending h c)
 
 -- the three phases of a refresh, each with one look. Its cut
 abbrev pub cuts_refresh : ℕ → Option ℤ → Option ℤ → Procedure (Result CutDone Refusal)
-cuts_refresh n lo hi = tries (cutting n lo hi)
+cuts_refresh n lo hi = tries (act_of_cut n lo hi)
 
 -- its snapshot
 abbrev pub takes_snapshot : ℕ → Procedure (Result Taken Refusal)
-takes_snapshot c = looks (λ h. ends (taken c h))
+takes_snapshot c = looks (λ h. ends (snapshot_taken c h))
 
 -- its finish, with the snapshot at a position
 abbrev pub finishes_refresh : ℕ → ℕ → Procedure (Result ℕ Refusal)
-finishes_refresh c at = tries (finishing c at)
+finishes_refresh c at = tries (act_of_finish c at)
 
 -- what a cut is said to have done
 abbrev pub cut_turn : Places → ℤ → Result CutDone Refusal → Turn Places
@@ -167,13 +167,13 @@ abbrev pub cut_refused : Places → ℕ → Span → ℤ → Refusal → ℕ →
 cut_refused p c span min r read = record { places = p; said = said.Cut c span min ∷ said.Fault r ∷ []; reads = read }
 
 -- the finish of a refresh that was cut, with a snapshot
-abbrev pub refreshed : Places → ℕ → Span → ℤ → Taken → Result ℕ Refusal → Turn Places
-refreshed p c span min t (Ok k) = record { places = p; said = said.Refresh c k t.at span min ∷ []; reads = t.reads }
-refreshed p c span min t (Err r) = cut_refused p c span min r t.reads
+abbrev pub turn_of_refresh : Places → ℕ → Span → ℤ → Taken → Result ℕ Refusal → Turn Places
+turn_of_refresh p c span min t (Ok k) = record { places = p; said = said.Refresh c k t.at span min ∷ []; reads = t.reads }
+turn_of_refresh p c span min t (Err r) = cut_refused p c span min r t.reads
 
 -- a refresh goes on after its snapshot
 abbrev pub after_snapshot : Places → ℕ → Span → ℤ → Result Taken Refusal → Procedure (Turn Places)
-after_snapshot p c span min (Ok t) = ending_as (refreshed p c span min t) (finishes_refresh c t.at)
+after_snapshot p c span min (Ok t) = ending_as (turn_of_refresh p c span min t) (finishes_refresh c t.at)
 after_snapshot p c span min (Err r) = ends (cut_refused p c span min r 0)
 
 -- and after its cut
@@ -218,17 +218,17 @@ snap_turn p c (Err r) = refuses p r
 -- a snapshot for the refresh that is meant, if one is
 abbrev pub snaps : Places → History → Option ℕ → Turn Places
 snaps p h None = refuses p (refusal no_refresh h 0)
-snaps p h (Some c) = snap_turn p c (taken c h)
+snaps p h (Some c) = snap_turn p c (snapshot_taken c h)
 
 -- why a refresh that waits can't be finished any more
 abbrev pub lost_code : History → ℕ
 lost_code h = cond (has_room h) stopped history_full
 
 -- why a refresh can't be finished: with this number where it waits
-abbrev pub unfinished : ℕ → History → Pending → Refusal
-unfinished code h (Waiting n) = refusal code h 0
-unfinished code h (Finished f) = refusal no_refresh h f
-unfinished code h Unknown = refusal no_refresh h 0
+abbrev pub unfinished_refusal : ℕ → History → Pending → Refusal
+unfinished_refusal code h (Waiting n) = refusal code h 0
+unfinished_refusal code h (Finished f) = refusal no_refresh h f
+unfinished_refusal code h Unknown = refusal no_refresh h 0
 
 -- a refresh is finished with the snapshot at a position, which the session then gives up
 abbrev pub finish_turn : Places → ℕ → ℕ → Result ℕ Refusal → Turn Places
@@ -237,8 +237,8 @@ finish_turn p c at (Err r) = refuses p r
 
 -- a refresh is finished with the snapshot at this position, if the session holds one for it
 abbrev pub finishes_held : Places → History → ℕ → Option ℕ → Procedure (Turn Places)
-finishes_held p h c None = ends (refuses p (unfinished no_snapshot h (pending h c)))
-finishes_held p h c (Some at) = ending_as (finish_turn p c at) (tries_at h (finishing c at h))
+finishes_held p h c None = ends (refuses p (unfinished_refusal no_snapshot h (pending h c)))
+finishes_held p h c (Some at) = ending_as (finish_turn p c at) (tries_at h (act_of_finish c at h))
 
 -- the refresh that is meant is finished, if one is
 abbrev pub finishes : Places → History → Option ℕ → Procedure (Turn Places)
@@ -302,13 +302,13 @@ answers p h plan =
 -- ---- blocks
 
 -- operations took effect, or they didn't, and the session stays in its block
-abbrev pub committed : Places → Places → Result Committed Refusal → Turn Places
-committed p after (Ok done) = turns after (said.Commit done)
-committed p after (Err r) = refuses p r
+abbrev pub turn_of_commit : Places → Places → Result Committed Refusal → Turn Places
+turn_of_commit p after (Ok done) = turns after (said.Commit done)
+turn_of_commit p after (Err r) = refuses p r
 
 -- operations are to take effect at a history, and the session then has these places
 abbrev pub commits : Places → Places → History → List Op → Procedure (Turn Places)
-commits p after h ops = ending_as (committed p after) (tries_at h (committing ops h))
+commits p after h ops = ending_as (turn_of_commit p after) (tries_at h (act_of_commit ops h))
 
 -- an operation from a text of so many bytes: it takes effect, or waits for its block to end
 abbrev pub changes : Places → ℕ → History → Op → Block → Procedure (Turn Places)
@@ -333,16 +333,16 @@ given_up (reading at) = said.End
 
 -- an action from a text of so many bytes, at the history that the statement looks at
 abbrev pub acts : Places → ℕ → History → Action → Procedure (Turn Places)
-acts p bytes h (actions.Table def) = ending_as (reported p said.Table) (tries_at h (making_table def h))
-acts p bytes h (actions.Hyper t hyper) = ending_as (reported p said.Hypertable) (tries_at h (making_hyper t hyper h))
+acts p bytes h (actions.Table def) = ending_as (turn_of_line p said.Table) (tries_at h (making_table def h))
+acts p bytes h (actions.Hyper t hyper) = ending_as (turn_of_line p said.Hypertable) (tries_at h (making_hyper t hyper h))
 acts p bytes h (actions.View def filled) =
     followed_by (tries_at h (making_view def h)) (after_view p (length (roster h).views) def filled)
-acts p bytes h (actions.Mode n only) = ending_as (reported p said.Mode) (tries_at h (setting_mode n only h))
+acts p bytes h (actions.Mode n only) = ending_as (turn_of_line p said.Mode) (tries_at h (setting_mode n only h))
 acts p bytes h (actions.Change op) = changes p bytes h op p.block
 acts p bytes h (actions.Refresh n lo hi) =
-    followed_by (tries_at h (cutting n lo hi h)) (after_cut p (least_start (view_of (roster h) n)))
+    followed_by (tries_at h (act_of_cut n lo hi h)) (after_cut p (least_start (view_of (roster h) n)))
 acts p bytes h (actions.Cut n lo hi) =
-    ending_as (cut_turn p (least_start (view_of (roster h) n))) (tries_at h (cutting n lo hi h))
+    ending_as (cut_turn p (least_start (view_of (roster h) n))) (tries_at h (act_of_cut n lo hi h))
 acts p bytes h (actions.Snap cut) = ends (snaps p h (refresh_meant p cut))
 acts p bytes h (actions.Finish cut) = finishes p h (refresh_meant p cut)
 acts p bytes h actions.Begin = ends (turns (enters (writing [] 0) p) said.Begin)
@@ -366,8 +366,8 @@ named_as p bytes h stmt other =
     unless p (refusal_of (position h) (roster h) stmt) (acts p bytes h (action_of (roster h) stmt))
 
 -- a statement whose names are looked at in a history
-abbrev pub named : Places → ℕ → Stmt → History → Procedure (Turn Places)
-named p bytes stmt h = named_as p bytes h stmt (upper_read (position h) (roster h) stmt)
+abbrev pub turn_of_names : Places → ℕ → Stmt → History → Procedure (Turn Places)
+turn_of_names p bytes stmt h = named_as p bytes h stmt (upper_read (position h) (roster h) stmt)
 
 -- the history that a session reads: in a read block, as it was when the block began
 abbrev pub read_at : Block → History → History
@@ -419,7 +419,7 @@ prints (reading at) kind r = false
 abbrev pub named_here : Places → ℕ → Stmt → Procedure (Turn Places)
 named_here p bytes stmt =
     sees (λ h. prints p.block (kind_of stmt) (refusal_of (position h) (roster h) stmt))
-    (λ h. named p bytes stmt (read_at p.block h))
+    (λ h. turn_of_names p bytes stmt (read_at p.block h))
 
 -- ---- lines: what is read of a line may pass its session's block or not, and then its names are looked at, and it acts
 

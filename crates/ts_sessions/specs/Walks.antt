@@ -43,7 +43,7 @@ history_after (adds e next stop) h = history_after next (h ▸ e)
 history_after (ends a) h = h
 
 -- and what it ends with
-abbrev pub ending : {A : Type 0} → Procedure A → History → A
-ending (sees shown f) h = ending (f h) h
-ending (adds e next stop) h = ending next (h ▸ e)
-ending (ends a) h = a
+abbrev pub end_of_walk : {A : Type 0} → Procedure A → History → A
+end_of_walk (sees shown f) h = end_of_walk (f h) h
+end_of_walk (adds e next stop) h = end_of_walk next (h ▸ e)
+end_of_walk (ends a) h = a

@@ -1,6 +1,6 @@
 //! Blocks.
 ghost use Rattle.std.specs.Prelude.{◌≡◌, ◌+◌, ◌≤◌, OnOk, OnErr};
-ghost use Rattle.ts_sessions.specs.Held.{block_of, most_queued, pushed, queued as queued_in};
+ghost use Rattle.ts_sessions.specs.Held.{block_of, most_queued, open_with, bytes_queued as queued_in};
 ghost use Rattle.ts_sessions.specs.Places.{block_kind, queue_count as queue_count_of};
 ghost use Rattle.ts_sessions.specs.Sessions.{queued_on};
 ghost use Rattle.ts_sessions.specs.Step.{block_refusal, given_up as given_up_of, refusal_outside, refusal_reading, refusal_writing};
@@ -86,7 +86,7 @@ impl<T> Open<T> {
     pub(crate) fn push(&mut self, op: Op, more: u64) -> Result<(), NoMemory>
         requires { queued_in (block_of self.old) + more ≤ most_queued }
         ensures queued { OnOk result (block_of self.new ≡ queued_on op more (block_of self.old)) }
-        ensures block { OnOk result (self.new ≡ pushed op more self.old) }
+        ensures block { OnOk result (self.new ≡ open_with op more self.old) }
         ensures kept { OnErr result (self.new ≡ self.old) }
     {
         match self {

@@ -6,10 +6,10 @@ ghost use Rattle.ts_sessions.specs.Deeds.{DeedFits, IsLostBy, event_of, making_o
 ghost use Rattle.ts_sessions.specs.Procedures.{tries};
 ghost use Rattle.ts_sessions.specs.Sessions.{Tries};
 
-use crate::deeds::{AfterCut, AfterLook, Deed, Finishing, Line, Making};
+use crate::call_outcomes::{Attempt, outcome_of};
+use crate::deeds::{AfterCut, AfterLook, ChangeLine, Deed, FinishSource, RelationChange};
 use crate::events::{NewView, all_of, commit, new_view, view_number};
-use crate::refreshes::{Asked, cut, finish};
-use crate::tries::{Tried, answered};
+use crate::refreshes::{RefreshRequest, cut, finish};
 use ts_model::{Backend, Committed, CutDone, Gate, Refusal, Shown};
 use ts_schema::NoMemory;
 
@@ -18,7 +18,7 @@ use ts_schema::NoMemory;
 pub enum CallOutcome<T> {
     /// A relation was made or set by the event with a number, or not.
     Number {
-        line: Line,
+        line: ChangeLine,
         came: Result<u64, Refusal>,
     },
     /// Operations took effect, or not.
@@ -33,20 +33,26 @@ pub enum CallOutcome<T> {
         came: Result<u64, Refusal>,
     },
     /// An aggregate that an event made was found.
-    Found { asked: Asked, made: u64 },
+    Found {
+        asked: RefreshRequest,
+        made: u64,
+    },
     /// A refresh was cut, or not.
     Cut {
-        asked: Asked,
+        asked: RefreshRequest,
         then: AfterCut,
         came: Result<CutDone, Refusal>,
     },
     /// A refresh was finished by the event with a number, or not.
     Finish {
-        finishing: Finishing,
+        finishing: FinishSource,
         came: Result<u64, Refusal>,
     },
     /// A snapshot was taken.
-    Look { then: AfterLook, shot: T },
+    Look {
+        then: AfterLook,
+        shot: T,
+    },
 }
 
 /// What the call of a deed came to in a store.
@@ -76,8 +82,8 @@ where
         Deed::Make(making) => {
             let line = making.line();
             let tried = make_one(backend, making)?;
-            let failed = tried.failed();
-            let came = tried.came();
+            let failed = tried.has_disk_fault();
+            let came = tried.into_result();
             Ok(Meeting {
                 outcome: CallOutcome::Number { line, came },
                 failed,
@@ -85,8 +91,8 @@ where
         }
         Deed::Commit { ops, leaves } => {
             let tried = commit(backend, ops)?;
-            let failed = tried.failed();
-            let came = tried.came();
+            let failed = tried.has_disk_fault();
+            let came = tried.into_result();
             Ok(Meeting {
                 outcome: CallOutcome::Commit { leaves, came },
                 failed,
@@ -95,9 +101,9 @@ where
         Deed::View { def, filled } => {
             let new = new_view(&def)?;
             let outcome = backend.make_view(def);
-            let tried = answered(outcome, backend.position())?;
-            let failed = tried.failed();
-            let came = tried.came();
+            let tried = outcome_of(outcome, backend.position())?;
+            let failed = tried.has_disk_fault();
+            let came = tried.into_result();
             Ok(Meeting {
                 outcome: CallOutcome::View { new, filled, came },
                 failed,
@@ -114,8 +120,8 @@ where
         }
         Deed::Cut { asked, then } => {
             let tried = cut(backend, asked.view, asked.lo, asked.hi)?;
-            let failed = tried.failed();
-            let came = tried.came();
+            let failed = tried.has_disk_fault();
+            let came = tried.into_result();
             Ok(Meeting {
                 outcome: CallOutcome::Cut { asked, then, came },
                 failed,
@@ -123,8 +129,8 @@ where
         }
         Deed::Finish { job, finishing } => {
             let tried = finish(backend, gate, session, job)?;
-            let failed = tried.failed();
-            let came = tried.came();
+            let failed = tried.has_disk_fault();
+            let came = tried.into_result();
             Ok(Meeting {
                 outcome: CallOutcome::Finish { finishing, came },
                 failed,
@@ -142,23 +148,23 @@ where
 
 /// Makes a table, or sets one thing of a relation.
 #[tactic(auto, using(crate::proofs::CallWalks::called_tries))]
-fn make_one<B: Backend>(backend: &mut B, making: Making) -> Result<Tried<u64>, NoMemory>
+fn make_one<B: Backend>(backend: &mut B, making: RelationChange) -> Result<Attempt<u64>, NoMemory>
     requires { IsTrue (sound (B.state backend.old).history (event_of making)) }
     ensures tries { Tries B.alone (B.state backend.old) (tries (making_of making)) result (B.state backend.new) }
     ensures kin { B.kin backend.new ≡ B.kin backend.old }
 {
     match making {
-        Making::Table(def) => {
+        RelationChange::Table(def) => {
             let outcome = backend.make_table(def);
-            answered(outcome, backend.position())
+            outcome_of(outcome, backend.position())
         }
-        Making::Hyper { table, hyper } => {
+        RelationChange::Hyper { table, hyper } => {
             let outcome = backend.make_hyper(table, hyper);
-            answered(outcome, backend.position())
+            outcome_of(outcome, backend.position())
         }
-        Making::Mode { view, only } => {
+        RelationChange::Mode { view, only } => {
             let outcome = backend.set_mode(view, only);
-            answered(outcome, backend.position())
+            outcome_of(outcome, backend.position())
         }
     }
 }

@@ -53,7 +53,7 @@ pub(crate) fn one_line(alloc: Global, said: Said) -> Result<Seq<Said>, NoMemory>
 }
 
 /// A statement is refused.
-pub(crate) fn refused<T: Shown + Drop>(
+pub(crate) fn refusal_completion<T: Shown + Drop>(
     alloc: Global,
     refusal: Refusal,
 ) -> Result<Completion<T>, NoMemory>

@@ -10,7 +10,7 @@ use crate::calls::call;
 use crate::changes::Completion;
 use crate::events::NewView;
 use crate::follows::follow;
-use crate::refreshes::Asked;
+use crate::refreshes::RefreshRequest;
 use crate::refusals::lost_code;
 use result_text::Said;
 use std::alloc::Global;
@@ -21,7 +21,7 @@ use ts_schema::{NoMemory, Seq, Steps};
 
 /// A refresh that was cut.
 #[derive(Drop)]
-pub struct Begun {
+pub struct CutRefresh {
     /// Its number.
     pub cut: u64,
     /// Its whole buckets.
@@ -32,16 +32,16 @@ pub struct Begun {
 
 /// A refresh that is finished.
 #[derive(Drop)]
-pub enum Finishing {
+pub enum FinishSource {
     /// The statement cut it, and took its snapshot at a position.
-    Begun { begun: Begun, at: u64 },
+    Begun { begun: CutRefresh, at: u64 },
     /// The session held a snapshot for it.
     Held { cut: u64, at: u64 },
 }
 
 /// What makes a table, or sets one thing of a relation.
 #[derive(Drop)]
-pub enum Making {
+pub enum RelationChange {
     /// A table is made.
     Table(TableDef),
     /// A table becomes a hypertable.
@@ -52,7 +52,7 @@ pub enum Making {
 
 /// The line that says so.
 #[derive(Clone, Copy, Debug, PartialEq, Eq)]
-pub enum Line {
+pub enum ChangeLine {
     /// A table was made.
     Table,
     /// A hypertable.
@@ -63,7 +63,7 @@ pub enum Line {
 
 /// What a session lacks to finish a refresh.
 #[derive(Clone, Copy, Debug, PartialEq, Eq)]
-pub enum Lacks {
+pub enum MissingPart {
     /// A snapshot for it.
     Snapshot,
     /// The job of its snapshot, which a store has taken.
@@ -85,11 +85,11 @@ pub enum AfterLook {
     /// A read block begins, at what is seen then.
     BeginRead,
     /// A refresh that the statement cut gets a snapshot, and is then finished.
-    Snapshot(Begun),
+    Snapshot(CutRefresh),
     /// A refresh gets a snapshot, which the session holds.
     Hold { cut: u64 },
     /// A refresh can't be finished, since the session lacks this: it is refused.
-    Refuse { cut: u64, lacks: Lacks },
+    Refuse { cut: u64, lacks: MissingPart },
     /// No refresh is meant: it is refused.
     Unknown,
 }
@@ -101,17 +101,32 @@ where
     T::Job: Drop,
 {
     /// A relation is made or set.
-    Make(Making),
+    Make(RelationChange),
     /// Operations take effect, which ends a block or not.
-    Commit { ops: Seq<Op>, leaves: bool },
+    Commit {
+        ops: Seq<Op>,
+        leaves: bool,
+    },
     /// An aggregate is made, and then filled or not.
-    View { def: ViewDef, filled: bool },
+    View {
+        def: ViewDef,
+        filled: bool,
+    },
     /// An aggregate that an event made is refreshed over all that there is.
-    Fill { new: NewView, made: u64 },
+    Fill {
+        new: NewView,
+        made: u64,
+    },
     /// A refresh is cut.
-    Cut { asked: Asked, then: AfterCut },
+    Cut {
+        asked: RefreshRequest,
+        then: AfterCut,
+    },
     /// A refresh is finished with a job.
-    Finish { job: T::Job, finishing: Finishing },
+    Finish {
+        job: T::Job,
+        finishing: FinishSource,
+    },
     /// A snapshot is taken.
     Look(AfterLook),
 }
@@ -130,7 +145,7 @@ where
 
 /// What came of a deed.
 #[derive(Drop)]
-pub(crate) struct Advanced<T: Shown>
+pub(crate) struct DeedOutcome<T: Shown>
 where
     T::Job: Drop,
 {
@@ -168,16 +183,16 @@ where
         Next::End(completion) => Ok(completion),
         Next::Deed(deed) => {
             let advanced = advance(rt, alloc, backend, gate, session, deed, steps)?;
-            let Advanced { said, next, failed } = advanced;
+            let DeedOutcome { said, next, failed } = advanced;
             let _so_far = steps.count();
             let completion = carry_out(rt, alloc, backend, gate, session, next, steps)?;
-            joined(completion, said, failed)
+            prepend_line(completion, said, failed)
         }
     }
 }
 
 /// A completion of a statement that may have said a line before, and whose disk may have failed.
-pub fn joined<T: Shown + Drop>(
+pub fn prepend_line<T: Shown + Drop>(
     completion: Completion<T>,
     said: Option<Said>,
     failed: bool,
@@ -213,7 +228,7 @@ fn advance<R: Threads + Sync, B: Backend, G: Gate, L>(
     session: u32,
     deed: Deed<B::Shot>,
     steps: &mut Steps<L>,
-) -> Result<Advanced<B::Shot>, NoMemory>
+) -> Result<DeedOutcome<B::Shot>, NoMemory>
 where
     <B::Shot as Shown>::Job: Drop,
     requires sync { IsSync R.row }
@@ -228,22 +243,22 @@ where
 {
     let meeting = call(backend, gate, session, deed)?;
     let followed = follow(rt, alloc, meeting.outcome, steps)?;
-    Ok(Advanced {
+    Ok(DeedOutcome {
         said: followed.said,
         next: followed.next,
         failed: meeting.failed,
     })
 }
 
-impl Making {
+impl RelationChange {
     /// The line that says it.
-    pub fn line(&self) -> Line
+    pub fn line(&self) -> ChangeLine
         ensures { result ≡ line_of self.now }
     {
         match self {
-            Making::Table(_) => Line::Table,
-            Making::Hyper { .. } => Line::Hyper,
-            Making::Mode { .. } => Line::Mode,
+            RelationChange::Table(_) => ChangeLine::Table,
+            RelationChange::Hyper { .. } => ChangeLine::Hyper,
+            RelationChange::Mode { .. } => ChangeLine::Mode,
         }
     }
 
@@ -252,9 +267,9 @@ impl Making {
         ensures { result ≡ event_of self }
     {
         match self {
-            Making::Table(def) => Event::Table(def),
-            Making::Hyper { table, hyper } => Event::Hyper { table, hyper },
-            Making::Mode { view, only } => Event::Mode { view, only },
+            RelationChange::Table(def) => Event::Table(def),
+            RelationChange::Hyper { table, hyper } => Event::Hyper { table, hyper },
+            RelationChange::Mode { view, only } => Event::Mode { view, only },
         }
     }
 }
@@ -264,11 +279,11 @@ where
     T::Job: Drop,
 {
     /// The refresh whose held job it takes, if it takes one.
-    pub(crate) fn taken(&self) -> Option<u64>
+    pub(crate) fn cut_taken(&self) -> Option<u64>
         ensures { result ≡ taken_next self.now }
     {
         match self {
-            Next::Deed(deed) => deed.taken(),
+            Next::Deed(deed) => deed.cut_taken(),
             Next::End(_) => None,
         }
     }
@@ -279,11 +294,11 @@ where
     T::Job: Drop,
 {
     /// The refresh whose held job it takes, if it takes one.
-    fn taken(&self) -> Option<u64>
+    fn cut_taken(&self) -> Option<u64>
         ensures { result ≡ taken_by self.now }
     {
         match self {
-            Deed::Finish { job: _, finishing } => finishing.held(),
+            Deed::Finish { job: _, finishing } => finishing.held_cut(),
             Deed::Make(_) => None,
             Deed::Commit { .. } => None,
             Deed::View { .. } => None,
@@ -294,26 +309,26 @@ where
     }
 }
 
-impl Lacks {
+impl MissingPart {
     /// Why a refresh that waits is refused at a position.
     pub(crate) fn code(self, position: u64) -> u8
         ensures { (h : History) → position ≡ position_of h → result ≡ lack_code self h }
     {
         match self {
-            Lacks::Snapshot => codes::NO_SNAPSHOT,
-            Lacks::Job => lost_code(position),
+            MissingPart::Snapshot => codes::NO_SNAPSHOT,
+            MissingPart::Job => lost_code(position),
         }
     }
 }
 
-impl Finishing {
+impl FinishSource {
     /// The refresh that a session held a snapshot for.
-    fn held(&self) -> Option<u64>
+    fn held_cut(&self) -> Option<u64>
         ensures { result ≡ held_in self.now }
     {
         match self {
-            Finishing::Begun { .. } => None,
-            Finishing::Held { cut, at: _ } => Some(*cut),
+            FinishSource::Begun { .. } => None,
+            FinishSource::Held { cut, at: _ } => Some(*cut),
         }
     }
 
@@ -322,8 +337,8 @@ impl Finishing {
         ensures { result ≡ cut_in self.now }
     {
         match self {
-            Finishing::Begun { begun, at: _ } => begun.cut,
-            Finishing::Held { cut, at: _ } => *cut,
+            FinishSource::Begun { begun, at: _ } => begun.cut,
+            FinishSource::Held { cut, at: _ } => *cut,
         }
     }
 
@@ -332,8 +347,8 @@ impl Finishing {
         ensures { result ≡ at_in self.now }
     {
         match self {
-            Finishing::Begun { begun: _, at } => *at,
-            Finishing::Held { cut: _, at } => *at,
+            FinishSource::Begun { begun: _, at } => *at,
+            FinishSource::Held { cut: _, at } => *at,
         }
     }
 }

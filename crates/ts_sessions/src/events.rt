@@ -3,13 +3,13 @@ ghost use Rattle.std.specs.Prelude.{◌≡◌, ◌<◌, ◌^◌, ◌∷◌, [], 
 ghost use Rattle.ts_bucket.specs.Bucket.{first_of};
 ghost use Rattle.ts_model.specs.declared.events.Event.TheVariants.{Commit};
 ghost use Rattle.ts_model.specs.Sound.{sound};
-ghost use Rattle.ts_model.specs.Calls.{committing};
+ghost use Rattle.ts_model.specs.Calls.{act_of_commit};
 ghost use Rattle.ts_sessions.specs.Procedures.{tries};
 ghost use Rattle.ts_sessions.specs.Sessions.{Tries};
 ghost use Rattle.ts_sessions.specs.Sound.{number_from};
 
-use crate::refreshes::Asked;
-use crate::tries::{Tried, answered};
+use crate::call_outcomes::{Attempt, outcome_of};
+use crate::refreshes::RefreshRequest;
 use std::alloc::Global;
 use ts_bucket::{Width, first};
 use ts_model::{Backend, Committed, Op, ViewDef};
@@ -20,13 +20,13 @@ use ts_schema::{Name, NoMemory, Seq};
 pub(crate) fn commit<B: Backend>(
     backend: &mut B,
     ops: Seq<Op>,
-) -> Result<Tried<Committed>, NoMemory>
+) -> Result<Attempt<Committed>, NoMemory>
     requires { IsTrue (sound (B.state backend.old).history (Commit ops)) }
-    ensures tries { Tries B.alone (B.state backend.old) (tries (committing ops)) result (B.state backend.new) }
+    ensures tries { Tries B.alone (B.state backend.old) (tries (act_of_commit ops)) result (B.state backend.new) }
     ensures kin { B.kin backend.new ≡ B.kin backend.old }
 {
     let outcome = backend.commit(ops);
-    answered(outcome, backend.position())
+    outcome_of(outcome, backend.position())
 }
 
 /// One operation as a list.
@@ -59,10 +59,10 @@ pub fn new_view(def: &ViewDef) -> Result<NewView, NoMemory>
 }
 
 /// A refresh of all that there is, of the aggregate with a number and a width.
-pub fn all_of(view: u32, width: &Width) -> Asked
+pub fn all_of(view: u32, width: &Width) -> RefreshRequest
     ensures { result ≡ record { view = view; lo = None; hi = None; min = first_of width.now } }
 {
-    Asked {
+    RefreshRequest {
         view,
         lo: None,
         hi: None,

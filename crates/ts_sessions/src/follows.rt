@@ -8,19 +8,21 @@ ghost use Rattle.result_text.specs.declared.replies.Said.TheVariants.{Cut, Fault
 ghost use Rattle.ts_sessions.specs.declared.changes.Change.TheVariants.{Cuts};
 ghost use Rattle.ts_sessions.specs.declared.deeds.Next.TheVariants.{End};
 ghost use Rattle.ts_sessions.specs.Calls.{FollowsTo, LooksTo, OutcomeFits, quiet};
-ghost use Rattle.ts_sessions.specs.Deeds.{Follows, FollowsReading, MadeFits, finished, lack_code, left_by, said_once, says, spent_by, view_leaves};
+ghost use Rattle.ts_sessions.specs.Deeds.{Follows, FollowsReading, MadeFits, turn_of_finish, lack_code, left_by, said_once, says, spent_by, view_leaves};
 ghost use Rattle.ts_sessions.specs.Places.{cuts};
 ghost use Rattle.ts_sessions.specs.Procedures.{ends};
 ghost use Rattle.ts_sessions.specs.Sessions.{FitsSnapped, read_by, taken_as};
 ghost use Rattle.ts_sessions.specs.Sound.{number_at};
-ghost use Rattle.ts_sessions.specs.Step.{after_cut as cut_leaves, after_snapshot as snapshot_leaves, committed, cut_turn, reported, snap_turn, unfinished};
+ghost use Rattle.ts_sessions.specs.Step.{after_cut as cut_leaves, after_snapshot as snapshot_leaves, turn_of_commit, cut_turn, turn_of_line, snap_turn, unfinished_refusal};
 
 use crate::blocks::Open;
-use crate::changes::{Change, Completion, one_line};
 use crate::calls::CallOutcome;
-use crate::deeds::{AfterCut, AfterLook, Begun, Deed, Finishing, Lacks, Line, Next};
+use crate::changes::{Change, Completion, one_line};
+use crate::deeds::{
+    AfterCut, AfterLook, ChangeLine, CutRefresh, Deed, FinishSource, MissingPart, Next,
+};
 use crate::events::NewView;
-use crate::refreshes::{Asked, Snapped, snapshot_of};
+use crate::refreshes::{RefreshRequest, SnapOutcome, snapshot_of};
 use crate::refusals::at;
 use result_text::Said;
 use std::alloc::Global;
@@ -122,7 +124,12 @@ where
             refuse(alloc, shot.pending(cut), shot.position(), lacks)
         }
         AfterLook::Unknown => {
-            refuse(alloc, Pending::Unknown, shot.position(), Lacks::Snapshot)
+            refuse(
+                alloc,
+                Pending::Unknown,
+                shot.position(),
+                MissingPart::Snapshot,
+            )
         }
     }
 }
@@ -130,18 +137,18 @@ where
 /// Ends after a relation was made or set, or not.
 pub fn after_number<T: Shown + Drop>(
     alloc: Global,
-    line: Line,
+    line: ChangeLine,
     came: Result<u64, Refusal>,
 ) -> Result<Next<T>, NoMemory>
 where
     T::Job: Drop,
-    ensures { IfOk result (λ n. Follows T.Shown n 1 (λ p. ends (reported p (says line) came))) }
+    ensures { IfOk result (λ n. Follows T.Shown n 1 (λ p. ends (turn_of_line p (says line) came))) }
 {
     match came {
         Ok(number) => match line {
-            Line::Table => say(alloc, Said::Table(number), Change::Nothing),
-            Line::Hyper => say(alloc, Said::Hypertable(number), Change::Nothing),
-            Line::Mode => say(alloc, Said::Mode(number), Change::Nothing),
+            ChangeLine::Table => say(alloc, Said::Table(number), Change::Nothing),
+            ChangeLine::Hyper => say(alloc, Said::Hypertable(number), Change::Nothing),
+            ChangeLine::Mode => say(alloc, Said::Mode(number), Change::Nothing),
         },
         Err(refusal) => say(alloc, Said::Fault(refusal), Change::Nothing),
     }
@@ -155,7 +162,7 @@ pub fn after_commit<T: Shown + Drop>(
 ) -> Result<Next<T>, NoMemory>
 where
     T::Job: Drop,
-    ensures { IfOk result (λ n. Follows T.Shown n 1 (λ p. ends (committed p (left_by leaves p) came))) }
+    ensures { IfOk result (λ n. Follows T.Shown n 1 (λ p. ends (turn_of_commit p (left_by leaves p) came))) }
 {
     match came {
         Ok(done) => match leaves {
@@ -190,7 +197,7 @@ where
 /// Goes on after the cut of a whole refresh.
 pub fn after_refresh_cut<T: Shown + Drop>(
     alloc: Global,
-    asked: &Asked,
+    asked: &RefreshRequest,
     came: Result<CutDone, Refusal>,
 ) -> Result<Next<T>, NoMemory>
 where
@@ -199,11 +206,13 @@ where
 {
     match came {
         Ok(done) => match done {
-            CutDone::Cut { pos, span } => Ok(Next::Deed(Deed::Look(AfterLook::Snapshot(Begun {
-                cut: pos,
-                span,
-                min: asked.min,
-            })))),
+            CutDone::Cut { pos, span } => Ok(Next::Deed(Deed::Look(AfterLook::Snapshot(
+                CutRefresh {
+                    cut: pos,
+                    span,
+                    min: asked.min,
+                },
+            )))),
             CutDone::Nothing { pos } => say(alloc, Said::Nothing(pos), Change::Nothing),
         },
         Err(refusal) => say(alloc, Said::Fault(refusal), Change::Nothing),
@@ -213,7 +222,7 @@ where
 /// Ends after a cut.
 pub fn after_cut<T: Shown + Drop>(
     alloc: Global,
-    asked: &Asked,
+    asked: &RefreshRequest,
     came: Result<CutDone, Refusal>,
 ) -> Result<Next<T>, NoMemory>
 where
@@ -239,8 +248,8 @@ where
 /// Goes on after the snapshot of a refresh that the statement cut.
 pub fn after_snapshot<T: Shown + Drop>(
     alloc: Global,
-    begun: Begun,
-    snapped: Snapped<T::Job>,
+    begun: CutRefresh,
+    snapped: SnapOutcome<T::Job>,
 ) -> Result<Next<T>, NoMemory>
 where
     T::Job: Drop,
@@ -249,11 +258,11 @@ where
         (λ p read h. snapshot_leaves (cuts begun.cut p) begun.cut begun.span begun.min (taken_as read snapped))) }
 {
     match snapped {
-        Snapped::Taken { at, job } => Ok(Next::Deed(Deed::Finish {
+        SnapOutcome::Taken { at, job } => Ok(Next::Deed(Deed::Finish {
             job,
-            finishing: Finishing::Begun { begun, at },
+            finishing: FinishSource::Begun { begun, at },
         })),
-        Snapped::Refused(refusal) => say_broken(alloc, &begun, refusal),
+        SnapOutcome::Refused(refusal) => say_broken(alloc, &begun, refusal),
     }
 }
 
@@ -261,7 +270,7 @@ where
 pub fn after_hold<T: Shown + Drop>(
     alloc: Global,
     cut: u64,
-    snapped: Snapped<T::Job>,
+    snapped: SnapOutcome<T::Job>,
 ) -> Result<Next<T>, NoMemory>
 where
     T::Job: Drop,
@@ -269,27 +278,27 @@ where
         (λ read. read_by read snapped) (λ p read h. ends (snap_turn p cut (taken_as read snapped)))) }
 {
     match snapped {
-        Snapped::Taken { at, job } => {
+        SnapOutcome::Taken { at, job } => {
             let said = Said::Snap { cut, snap: at };
             say(alloc, said, Change::Holds { cut, at, job })
         }
-        Snapped::Refused(refusal) => say(alloc, Said::Fault(refusal), Change::Nothing),
+        SnapOutcome::Refused(refusal) => say(alloc, Said::Fault(refusal), Change::Nothing),
     }
 }
 
 /// Ends after a finish.
 pub fn after_finish<T: Shown + Drop>(
     alloc: Global,
-    finishing: &Finishing,
+    finishing: &FinishSource,
     came: Result<u64, Refusal>,
 ) -> Result<Next<T>, NoMemory>
 where
     T::Job: Drop,
     ensures { IfOk result (λ n. FollowsReading T.Shown n 1 (λ s. ⊤) (λ read. spent_by read finishing.now)
-        (λ p read h. ends (finished p read finishing.now came))) }
+        (λ p read h. ends (turn_of_finish p read finishing.now came))) }
 {
     match finishing {
-        Finishing::Begun { begun, at } => match came {
+        FinishSource::Begun { begun, at } => match came {
             Ok(pos) => {
                 let said = Said::Refresh {
                     cut: begun.cut,
@@ -302,7 +311,7 @@ where
             }
             Err(refusal) => say_broken(alloc, begun, refusal),
         },
-        Finishing::Held { cut, at } => match came {
+        FinishSource::Held { cut, at } => match came {
             Ok(pos) => {
                 let said = Said::Finish {
                     cut: *cut,
@@ -321,12 +330,12 @@ pub fn refuse<T: Shown + Drop>(
     alloc: Global,
     pending: Pending,
     position: u64,
-    lacks: Lacks,
+    lacks: MissingPart,
 ) -> Result<Next<T>, NoMemory>
 where
     T::Job: Drop,
     ensures { (g : History) → position ≡ position_of g →
-        IfOk result (λ n. n ≡ said_once (Fault (unfinished (lack_code lacks g) g pending)) Change.Nothing) }
+        IfOk result (λ n. n ≡ said_once (Fault (unfinished_refusal (lack_code lacks g) g pending)) Change.Nothing) }
 {
     let refusal = match pending {
         Pending::Waiting(_) => at(lacks.code(position), position, 0),
@@ -356,7 +365,7 @@ where
 /// The statement ends after its cut: its refresh is refused.
 fn say_broken<T: Shown + Drop>(
     alloc: Global,
-    begun: &Begun,
+    begun: &CutRefresh,
     refusal: Refusal,
 ) -> Result<Next<T>, NoMemory>
 where

@@ -1,5 +1,5 @@
 //! Laws of what lines do. Each is the clause of a function that does nothing, at any types.
-ghost use Rattle.ts_sessions.specs.Begun.{GivenBlocksBegin};
+ghost use Rattle.ts_sessions.specs.CutRefreshes.{GivenBlocksBegin};
 ghost use Rattle.ts_sessions.specs.LineLaws.{LinesMakeFewEvents, NamesStay, OnlyCommitsMakeEvents, OthersSeeNoQueue, QueriesShowTheQueue, RepliesAreSteady, StepsAreReplies};
 ghost use Rattle.ts_sessions.specs.Places.{Places};
 ghost use Rattle.ts_sessions.specs.Replies.{reply_to};

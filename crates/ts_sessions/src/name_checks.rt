@@ -8,18 +8,18 @@ ghost use Rattle.stmt_check.specs.Check.{IsNumbered, refusal_of};
 ghost use Rattle.ts_sessions.specs.declared.kinds.StatementKind.TheVariants.{Changes};
 ghost use Rattle.ts_sessions.specs.Deeds.{OpensTo, taken_next};
 ghost use Rattle.ts_sessions.specs.Held.{HoldsOf, places_in};
-ghost use Rattle.ts_sessions.specs.Meant.{asked_by as asked_by_action, asked_for, change_next, checked_as, left_of, looks_at_names, meant_by as meant_by_names, IsLeftOf};
+ghost use Rattle.ts_sessions.specs.ResolvedNames.{asked_by as asked_by_action, asked_for, change_next, checked_as, left_of, looks_at_names, meant_by as meant_by_names, IsLeftOf};
 ghost use Rattle.ts_sessions.specs.Places.{queue_in};
 ghost use Rattle.ts_sessions.specs.Sound.{AsksSoundly, StandsForAllowed, kind_of_action};
 ghost use Rattle.ts_sessions.specs.Step.{block_refusal, kind_of as kind_of_stmt, performs, read_at};
 
 use crate::blocks::Open;
 use crate::changes::Change;
-use crate::deeds::{AfterCut, Deed, Making, Next};
+use crate::deeds::{AfterCut, Deed, Next, RelationChange};
 use crate::events::alone;
 use crate::follows::say;
 use crate::queries::{Plan, answer, calendar_plan, least_start, plan_of, roll_up_plan, unit_of};
-use crate::refreshes::Asked;
+use crate::refreshes::RefreshRequest;
 use crate::sessions::Session;
 use cal_bucket::CalPlan;
 use hier_agg::{UpperRead, read_upper};
@@ -33,7 +33,7 @@ use ts_schema::{NoMemory, Steps};
 
 /// What a statement asks for by its names.
 #[derive(Drop)]
-pub enum Meant<T: Shown>
+pub enum Resolved<T: Shown>
 where
     T::Job: Drop,
 {
@@ -48,12 +48,12 @@ where
 }
 
 /// What a statement asks for by the names of a roster; `pos` is the position looked at.
-pub fn meant_by<T: Shown + Drop>(
+pub fn resolve<T: Shown + Drop>(
     alloc: Global,
     stmt: &Stmt,
     roster: &Roster,
     pos: u64,
-) -> Result<Meant<T>, NoMemory>
+) -> Result<Resolved<T>, NoMemory>
 where
     T::Job: Drop,
     requires numbered { IsNumbered roster.now }
@@ -61,20 +61,20 @@ where
     ensures { IfOk result (λ m. m ≡ meant_by_names pos roster.now stmt.now) }
 {
     match read_upper(alloc, stmt, roster, pos) {
-        UpperRead::Plan(plan) => Ok(Meant::Shows(roll_up_plan(plan))),
-        UpperRead::Refused(refusal) => Ok(Meant::Refused(refusal)),
-        UpperRead::NotUpper => checked(alloc, stmt, roster, pos),
+        UpperRead::Plan(plan) => Ok(Resolved::Shows(roll_up_plan(plan))),
+        UpperRead::Refused(refusal) => Ok(Resolved::Refused(refusal)),
+        UpperRead::NotUpper => check_names(alloc, stmt, roster, pos),
         UpperRead::NoMemory => Err(NoMemory),
     }
 }
 
 /// The same of a statement that is no roll-up.
-fn checked<T: Shown + Drop>(
+fn check_names<T: Shown + Drop>(
     alloc: Global,
     stmt: &Stmt,
     roster: &Roster,
     pos: u64,
-) -> Result<Meant<T>, NoMemory>
+) -> Result<Resolved<T>, NoMemory>
 where
     T::Job: Drop,
     requires numbered { IsNumbered roster.now }
@@ -83,35 +83,44 @@ where
 {
     match check(alloc, stmt, roster, pos) {
         Checked::Ready(action) => asked_by(roster, action),
-        Checked::Refused(refusal) => Ok(Meant::Refused(refusal)),
+        Checked::Refused(refusal) => Ok(Resolved::Refused(refusal)),
         Checked::NoMemory => Err(NoMemory),
     }
 }
 
 /// What an action asks for that looks at names.
-fn asked_by<T: Shown + Drop>(roster: &Roster, action: Action) -> Result<Meant<T>, NoMemory>
+fn asked_by<T: Shown + Drop>(roster: &Roster, action: Action) -> Result<Resolved<T>, NoMemory>
 where
     T::Job: Drop,
     requires { IsTrue (looks_at_names (kind_of_action action)) }
     ensures { IfOk result (λ m. m ≡ asked_by_action roster.now action) }
 {
     match action {
-        Action::Table(def) => Ok(Meant::Does(Deed::Make(Making::Table(def)))),
+        Action::Table(def) => Ok(Resolved::Does(Deed::Make(RelationChange::Table(def)))),
         Action::Hyper { table, hyper } => {
-            Ok(Meant::Does(Deed::Make(Making::Hyper { table, hyper })))
+            Ok(Resolved::Does(Deed::Make(RelationChange::Hyper { table, hyper })))
         }
-        Action::View { def, filled } => Ok(Meant::Does(Deed::View { def, filled })),
-        Action::Mode { view, only } => Ok(Meant::Does(Deed::Make(Making::Mode { view, only }))),
-        Action::Change(op) => Ok(Meant::Changes(op)),
+        Action::View { def, filled } => Ok(Resolved::Does(Deed::View { def, filled })),
+        Action::Mode { view, only } => Ok(Resolved::Does(Deed::Make(RelationChange::Mode {
+            view,
+            only,
+        }))),
+        Action::Change(op) => Ok(Resolved::Changes(op)),
         Action::Refresh { view, lo, hi } => {
             let asked = asked_of(roster, view, lo, hi);
-            Ok(Meant::Does(Deed::Cut { asked, then: AfterCut::Refresh }))
+            Ok(Resolved::Does(Deed::Cut {
+                asked,
+                then: AfterCut::Refresh,
+            }))
         }
         Action::Cut { view, lo, hi } => {
             let asked = asked_of(roster, view, lo, hi);
-            Ok(Meant::Does(Deed::Cut { asked, then: AfterCut::End }))
+            Ok(Resolved::Does(Deed::Cut {
+                asked,
+                then: AfterCut::End,
+            }))
         }
-        Action::Ask(query) => Ok(Meant::Shows(plan_of(roster, query))),
+        Action::Ask(query) => Ok(Resolved::Shows(plan_of(roster, query))),
         Action::Calendar {
             table,
             number,
@@ -126,7 +135,7 @@ where
                 at,
                 fold,
             };
-            Ok(Meant::Shows(calendar_plan(table, cal)?))
+            Ok(Resolved::Shows(calendar_plan(table, cal)?))
         }
         Action::Snap { .. }
         | Action::Finish { .. }
@@ -138,10 +147,10 @@ where
 }
 
 /// A refresh of an aggregate over a window.
-fn asked_of(roster: &Roster, view: u32, lo: Option<i64>, hi: Option<i64>) -> Asked
+fn asked_of(roster: &Roster, view: u32, lo: Option<i64>, hi: Option<i64>) -> RefreshRequest
     ensures { result ≡ asked_for roster.now view lo hi }
 {
-    Asked {
+    RefreshRequest {
         view,
         lo,
         hi,
@@ -155,7 +164,7 @@ where
 {
     /// Looks at the names of a statement of a text of so many bytes: in a read block in its snapshot, and else in
     /// what the store has seen.
-    pub(crate) fn named<R: Threads + Sync, B: Backend<Shot = T>, L>(
+    pub(crate) fn resolve_names<R: Threads + Sync, B: Backend<Shot = T>, L>(
         &self,
         rt: &R,
         alloc: Global,
@@ -177,16 +186,16 @@ where
         ensures kin { B.kin backend.new ≡ B.kin backend.old }
     {
         match &self.block {
-            Open::Read { at: _, shot } => self.at_names(rt, alloc, shot, stmt, bytes, steps),
+            Open::Read { at: _, shot } => self.resolve_at(rt, alloc, shot, stmt, bytes, steps),
             Open::Nothing | Open::Write(_) => {
                 let shot = backend.snap()?;
-                self.at_names(rt, alloc, &shot, stmt, bytes, steps)
+                self.resolve_at(rt, alloc, &shot, stmt, bytes, steps)
             }
         }
     }
 
     /// What a statement is to do whose names are looked at in a snapshot.
-    pub fn at_names<R: Threads + Sync, L>(
+    pub fn resolve_at<R: Threads + Sync, L>(
         &self,
         rt: &R,
         alloc: Global,
@@ -209,11 +218,11 @@ where
             → IfOk result (IsLeftOf T.Shown (places_in self.now) bytes stmt.now h) }
         ensures taken { IfOk result (λ n. taken_next n ≡ None) }
     {
-        match meant_by(alloc, stmt, shot.roster(), shot.position())? {
-            Meant::Refused(refusal) => say(alloc, Said::Fault(refusal), Change::Nothing),
-            Meant::Shows(plan) => answer(rt, alloc, &self.block, shot, plan, steps),
-            Meant::Changes(op) => self.change(alloc, op, bytes),
-            Meant::Does(deed) => Ok(Next::Deed(deed)),
+        match resolve(alloc, stmt, shot.roster(), shot.position())? {
+            Resolved::Refused(refusal) => say(alloc, Said::Fault(refusal), Change::Nothing),
+            Resolved::Shows(plan) => answer(rt, alloc, &self.block, shot, plan, steps),
+            Resolved::Changes(op) => self.change(alloc, op, bytes),
+            Resolved::Does(deed) => Ok(Next::Deed(deed)),
         }
     }
 

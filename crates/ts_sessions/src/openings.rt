@@ -3,8 +3,8 @@ ghost use Rattle.std.specs.Prelude.{◌≡◌, IfOk};
 ghost use Rattle.ts_sessions.specs.Held.{places_in};
 ghost use Rattle.ts_sessions.specs.Openings.{opening_of};
 
+use crate::block_ends::begin;
 use crate::deeds::{AfterLook, Deed, Next};
-use crate::endings::begin;
 use crate::sessions::Session;
 use std::alloc::Global;
 use stmt_syntax::Stmt;
@@ -37,9 +37,7 @@ where
             Stmt::Snap { cut } => Ok(Opening::Next(Next::Deed(self.snap(*cut)))),
             Stmt::Finish { cut } => Ok(Opening::Finish(*cut)),
             Stmt::Begin => Ok(Opening::Next(begin(alloc)?)),
-            Stmt::BeginRead => {
-                Ok(Opening::Next(Next::Deed(Deed::Look(AfterLook::BeginRead))))
-            }
+            Stmt::BeginRead => { Ok(Opening::Next(Next::Deed(Deed::Look(AfterLook::BeginRead)))) }
             Stmt::Commit => Ok(Opening::Next(self.end_block(alloc)?)),
             Stmt::Rollback => Ok(Opening::Next(self.roll_back(alloc)?)),
             Stmt::Table { .. }

@@ -18,7 +18,7 @@ ghost use Rattle.ts_sessions.specs.Procedures.{ends};
 ghost use Rattle.ts_sessions.specs.Places.{Places, queue_in};
 ghost use Rattle.ts_sessions.specs.Sound.{StandsForAllowed};
 ghost use Rattle.ts_sessions.specs.Step.{answers, asked_start as start_asked, in_form as formed, least_start as start_of_view, plan_of as plan_of_query, roll_up_plan as plan_of_roll_up, calendar_plan as plan_of_calendar, shown_in, unit_of as unit_of_word};
-ghost use Rattle.ts_sessions.specs.Meant.{answered_line};
+ghost use Rattle.ts_sessions.specs.ResolvedNames.{answered_line};
 
 use crate::blocks::Open;
 use crate::changes::Change;
@@ -82,7 +82,7 @@ where
     let roster = shot.roster();
     let answer = ask(rt, block, shot, &plan.query, steps)?;
     let shown = in_form(alloc, roster, &plan.form, answer)?;
-    let said = answered(&plan, shown, shot.position(), block.queue_count());
+    let said = answer_line(&plan, shown, shot.position(), block.queue_count());
     say(alloc, said, Change::Nothing)
 }
 
@@ -174,7 +174,7 @@ fn choose_cells(
 }
 
 /// What is said of an answer at a position, with so many operations queued, if in a write block.
-pub fn answered(plan: &Plan, answer: Answer, pos: u64, queue: Option<u64>) -> Said
+pub fn answer_line(plan: &Plan, answer: Answer, pos: u64, queue: Option<u64>) -> Said
     ensures { result ≡ Answered answer pos queue plan.now.min }
 {
     Said::Answered {

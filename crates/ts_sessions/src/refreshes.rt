@@ -8,15 +8,15 @@ ghost use Rattle.ts_model.specs.Roster.{roster, view_of};
 ghost use Rattle.ts_sessions.specs.Sessions.{FitsSnapped, SnapEnds, TakenAs, Tries};
 ghost use Rattle.ts_sessions.specs.Step.{cuts_refresh, finishes_refresh};
 
+use crate::call_outcomes::{Attempt, outcome_of};
 use crate::refusals::at;
-use crate::tries::{Tried, answered};
 use std::thread::Threads;
 use ts_model::{Backend, CutDone, Gate, Pending, Refusal, Shown, codes};
 use ts_schema::{NoMemory, Steps};
 
 /// What came of a snapshot for a refresh.
 #[derive(Drop)]
-pub enum Snapped<J> {
+pub enum SnapOutcome<J> {
     /// It was taken at a position, and this is the job of the refresh.
     Taken { at: u64, job: J },
     /// The refresh isn't pending.
@@ -25,7 +25,7 @@ pub enum Snapped<J> {
 
 /// A refresh that is asked for.
 #[derive(Drop)]
-pub struct Asked {
+pub struct RefreshRequest {
     /// The number of its aggregate.
     pub view: u32,
     /// Where its window begins, or the first bucket.
@@ -43,7 +43,7 @@ pub fn cut<B: Backend>(
     view: u32,
     lo: Option<i64>,
     hi: Option<i64>,
-) -> Result<Tried<CutDone>, NoMemory>
+) -> Result<Attempt<CutDone>, NoMemory>
     requires view { IsSome (view_of (roster (B.state backend.old).history) view) }
     requires low { ForSome lo (λ t. IsTrue (is_time t)) }
     requires high { ForSome hi (λ t. IsTrue (is_time t)) }
@@ -51,7 +51,7 @@ pub fn cut<B: Backend>(
     ensures kin { B.kin backend.new ≡ B.kin backend.old }
 {
     let outcome = backend.cut(view, lo, hi);
-    answered(outcome, backend.position())
+    outcome_of(outcome, backend.position())
 }
 
 /// Takes a snapshot for the refresh with this number, and makes its job. Whether the refresh still
@@ -62,7 +62,7 @@ pub fn take_snapshot<R: Threads + Sync, B: Backend, L>(
     backend: &mut B,
     cut: u64,
     steps: &mut Steps<L>,
-) -> Result<Snapped<<B::Shot as Shown>::Job>, NoMemory>
+) -> Result<SnapOutcome<<B::Shot as Shown>::Job>, NoMemory>
     requires sync { IsSync R.row }
     requires counts { steps.old < 2 ^ 64 }
     ensures snaps { SnapEnds B.alone (B.state backend.old) cut result (B.state backend.new) steps.old steps.new }
@@ -80,7 +80,7 @@ pub fn snapshot_of<R: Threads + Sync, T: Shown, L>(
     shot: &T,
     cut: u64,
     steps: &mut Steps<L>,
-) -> Result<Snapped<T::Job>, NoMemory>
+) -> Result<SnapOutcome<T::Job>, NoMemory>
     requires sync { IsSync R.row }
     requires counts { steps.old < 2 ^ 64 }
     ensures taken { (h : History) → T.stands shot.now h → TakenAs h cut result steps.old steps.new }
@@ -89,17 +89,17 @@ pub fn snapshot_of<R: Threads + Sync, T: Shown, L>(
     match shot.pending(cut) {
         Pending::Waiting(_) => {
             let job = shot.start_job(rt, cut, steps)?;
-            Ok(Snapped::Taken {
+            Ok(SnapOutcome::Taken {
                 at: shot.position(),
                 job,
             })
         }
-        Pending::Finished(finish) => Ok(Snapped::Refused(at(
+        Pending::Finished(finish) => Ok(SnapOutcome::Refused(at(
             codes::NO_REFRESH,
             shot.position(),
             finish,
         ))),
-        Pending::Unknown => Ok(Snapped::Refused(at(codes::NO_REFRESH, shot.position(), 0))),
+        Pending::Unknown => Ok(SnapOutcome::Refused(at(codes::NO_REFRESH, shot.position(), 0))),
     }
 }
 
@@ -111,7 +111,7 @@ pub fn finish<B: Backend, G: Gate>(
     gate: &G,
     session: u32,
     job: <B::Shot as Shown>::Job,
-) -> Result<Tried<u64>, NoMemory>
+) -> Result<Attempt<u64>, NoMemory>
     requires fits { B.Shot.fits job (B.state backend.old).history }
     ensures tries { Tries B.alone (B.state backend.old) (finishes_refresh (B.Shot.cut_of job) (B.Shot.snap_of job))
         result (B.state backend.new) }
@@ -119,5 +119,5 @@ pub fn finish<B: Backend, G: Gate>(
 {
     gate.between(session);
     let outcome = backend.finish(job);
-    answered(outcome, backend.position())
+    outcome_of(outcome, backend.position())
 }

@@ -3,7 +3,7 @@ ghost use Rattle.std.specs.Prelude.{◌≡◌, cond, nat_lt};
 ghost use Rattle.ts_model.specs.Calls.{refusal as refusal_at};
 ghost use Rattle.ts_model.specs.Numbers.{stopped, history_full};
 ghost use Rattle.ts_model.specs.Limits.{last_position};
-ghost use Rattle.ts_sessions.specs.Step.{bare as bare_refusal, placed as placed_refusal};
+ghost use Rattle.ts_sessions.specs.Step.{bare as bare_refusal, text_refusal_of as placed_refusal};
 
 use ts_model::limits::LAST_POSITION;
 use ts_model::{Refusal, codes};
@@ -20,7 +20,7 @@ pub fn bare(code: u8) -> Refusal
 }
 
 /// A refusal of the text at a place of the line.
-pub fn placed(code: u8, place: u32) -> Refusal
+pub fn text_refusal(code: u8, place: u32) -> Refusal
     ensures { result ≡ placed_refusal code place }
 {
     Refusal {

@@ -33,7 +33,7 @@ pub enum StepEnd {
 }
 
 /// The answer with this reply, where the disk failed or not.
-pub fn replied(reply: Reply, failed: bool) -> StepEnd
+pub fn step_end(reply: Reply, failed: bool) -> StepEnd
     ensures { IsReplied failed reply result }
 {
     match failed {

@@ -6,7 +6,7 @@ ghost use Rattle.std.specs.BTreeMap.{is_at};
 ghost use Rattle.ts_model.specs.States.{State};
 ghost use Rattle.ts_sessions.specs.Held.{Carries, HoldsOf, places_in, waiting_bytes};
 ghost use Rattle.ts_sessions.specs.Places.{no_places, block_kind, held_for};
-ghost use Rattle.ts_sessions.specs.Sessions.{ChangeFits, changed, HoldsAfter};
+ghost use Rattle.ts_sessions.specs.Sessions.{ChangeFits, places_after, HoldsAfter};
 ghost use Rattle.ts_sessions.specs.Step.{natural as natural_of, refresh_meant};
 ghost use Rattle.ts_sessions.specs.Jobs.{with_job};
 
@@ -89,7 +89,7 @@ where
     }
 
     /// The refresh that a statement means: the one with its number, or the last that the session cut.
-    pub fn meant(&self, number: Option<i64>) -> Option<u64>
+    pub fn refresh_named(&self, number: Option<i64>) -> Option<u64>
         ensures { result ≡ refresh_meant (places_in self.now) number }
     {
         match number {
@@ -111,7 +111,7 @@ where
     /// Changes as a statement says, or, where there is no memory, stays as it is.
     pub fn settle(&mut self, change: Change<T>) -> Result<(), NoMemory>
         requires fits { ChangeFits change (places_in self.old).block }
-        ensures places { OnOk result (places_in self.new ≡ changed change (places_in self.old)) }
+        ensures places { OnOk result (places_in self.new ≡ places_after change (places_in self.old)) }
         ensures kept { OnErr result (Carries self.old self.new) }
         ensures name { self.new.name ≡ self.old.name }
         ensures number { self.new.number ≡ self.old.number }

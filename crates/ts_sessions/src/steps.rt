@@ -5,16 +5,16 @@ ghost use Rattle.stmt_syntax.specs.Limits.{longest_line};
 ghost use Rattle.ts_sessions.specs.Deeds.{OpensTo, Takes};
 ghost use Rattle.ts_sessions.specs.Held.{Carries, HoldsOf, most_queued, places_in, waiting_bytes};
 ghost use Rattle.ts_sessions.specs.Places.{none};
-ghost use Rattle.ts_sessions.specs.Sessions.{AnswersSo, Brings, ChangeFits, DoesReading, HoldsAfter, IfAnswered, IfNoMemory, IsReplied, Spares, Stepped, changed, finish_in, finish_meant};
+ghost use Rattle.ts_sessions.specs.Sessions.{AnswersSo, Brings, ChangeFits, DoesReading, HoldsAfter, IfAnswered, IfNoMemory, IsReplied, Spares, Stepped, places_after, finish_in, finish_meant};
 ghost use Rattle.ts_sessions.specs.Sound.{AsksSoundly};
 ghost use Rattle.ts_sessions.specs.Step.{block_refusal, kind_of as kind_of_stmt, performs, step as step_of};
 
-use crate::changes::{Change, Completion, refused};
+use crate::changes::{Change, Completion, refusal_completion};
 use crate::deeds::{Next, carry_out};
 use crate::kinds::kind_of;
 use crate::openings::Opening;
-use crate::refusals::placed;
-use crate::replies::{Reply, StepEnd, replied, write_reply};
+use crate::refusals::text_refusal;
+use crate::replies::{Reply, StepEnd, step_end, write_reply};
 use crate::sessions::Session;
 use std::alloc::Global;
 use std::thread::Threads;
@@ -69,7 +69,7 @@ where
     fn answer(&mut self, alloc: Global, completion: Completion<T>) -> StepEnd
         requires fits { ChangeFits completion.change (places_in self.old).block }
         ensures answers { AnswersSo self.old.name completion.said completion.failed result }
-        ensures places { IfAnswered result (places_in self.new ≡ changed completion.change (places_in self.old)) }
+        ensures places { IfAnswered result (places_in self.new ≡ places_after completion.change (places_in self.old)) }
         ensures kept { IfNoMemory result (Carries self.old self.new) }
         ensures name { self.new.name ≡ self.old.name }
         ensures number { self.new.number ≡ self.old.number }
@@ -85,14 +85,14 @@ where
     fn close(&mut self, change: Change<T>, failed: bool, reply: Reply) -> StepEnd
         requires fits { ChangeFits change (places_in self.old).block }
         ensures replied { IfAnswered result (IsReplied failed reply result) }
-        ensures places { IfAnswered result (places_in self.new ≡ changed change (places_in self.old)) }
+        ensures places { IfAnswered result (places_in self.new ≡ places_after change (places_in self.old)) }
         ensures kept { IfNoMemory result (Carries self.old self.new) }
         ensures name { self.new.name ≡ self.old.name }
         ensures number { self.new.number ≡ self.old.number }
         ensures holds { HoldsAfter T.Shown change self.old self.new }
     {
         match self.settle(change) {
-            Ok(()) => replied(reply, failed),
+            Ok(()) => step_end(reply, failed),
             Err(NoMemory) => StepEnd::NoMemory,
         }
     }
@@ -126,12 +126,21 @@ where
     {
         match read_stmt(alloc, text, skip) {
             ReadStmt::Stmt(stmt) => match self.block.barrier(kind_of(&stmt)) {
-                Some(refusal) => refused(alloc, refusal),
+                Some(refusal) => refusal_completion(alloc, refusal),
                 None => { self.perform(rt, alloc, backend, gate, &stmt, text.len() as u64, steps) }
             },
-            ReadStmt::NoToken(place) => refused(alloc, placed(codes::NO_TOKEN, place)),
-            ReadStmt::Syntax(place) => refused(alloc, placed(codes::SYNTAX, place)),
-            ReadStmt::BadNumber(place) => refused(alloc, placed(codes::BAD_NUMBER, place)),
+            ReadStmt::NoToken(place) => refusal_completion(
+                alloc,
+                text_refusal(codes::NO_TOKEN, place),
+            ),
+            ReadStmt::Syntax(place) => refusal_completion(
+                alloc,
+                text_refusal(codes::SYNTAX, place),
+            ),
+            ReadStmt::BadNumber(place) => refusal_completion(
+                alloc,
+                text_refusal(codes::BAD_NUMBER, place),
+            ),
             ReadStmt::NoMemory => Err(NoMemory),
         }
     }
@@ -165,7 +174,7 @@ where
     {
         let next = self.first(rt, alloc, backend, stmt, bytes, steps)?;
         let _so_far = steps.count();
-        let taken = next.taken();
+        let taken = next.cut_taken();
         match carry_out(rt, alloc, backend, gate, self.number, next, steps) {
             Ok(completion) => Ok(completion),
             Err(NoMemory) => {
@@ -202,7 +211,7 @@ where
         let opening = self.opening(alloc, stmt)?;
         match opening {
             Opening::Next(next) => Ok(next),
-            Opening::Names => self.named(rt, alloc, backend, stmt, bytes, steps),
+            Opening::Names => self.resolve_names(rt, alloc, backend, stmt, bytes, steps),
             Opening::Finish(number) => Ok(Next::Deed(self.finish(number))),
         }
     }

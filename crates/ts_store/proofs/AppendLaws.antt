@@ -4,15 +4,15 @@ use Rattle.ts_schema.specs.Faults.{Rose}
 use Rattle.txn_journal.specs.Calls.{Ends, IsCounted, IfDone, IfStopped}
 use Rattle.txn_journal.specs.declared.journals.Append.{Append}
 use Rattle.txn_journal.specs.declared.journals.Append.TheVariants.{Done, DiskFault, Stopped}
-use Rattle.txn_journal.specs.declared.journals.Standing.{Standing}
-use Rattle.txn_journal.specs.declared.journals.Standing.TheVariants.{Ready, Still}
+use Rattle.txn_journal.specs.declared.journals.JournalState.{JournalState}
+use Rattle.txn_journal.specs.declared.journals.JournalState.TheVariants.{Ready, Still}
 use Rattle.ts_store.specs.Arming.{armed_after}
 
 ready_apart : Ready ≡ Still → ⊥
 ready_apart is = cc is
 
 -- after a header that is there, an answer is that of the payload alone
-pub ends_on : (answer : Append) (before mid now : Standing) → Ends Done before mid → Ends answer mid now → Ends answer before now
+pub ends_on : (answer : Append) (before mid now : JournalState) → Ends Done before mid → Ends answer mid now → Ends answer before now
 ends_on Done before mid now first second = (first.0, second.1)
 ends_on DiskFault before mid now first second = (first.0, second.1)
 ends_on Stopped before mid now first second = absurd (ready_apart (sym first.1 ∙ second.0))
@@ -22,7 +22,7 @@ counted_on Done before mid now first second = second ∙ first
 counted_on DiskFault before mid now first second = subst (λ (n : ℕ). Rose n now) first second
 counted_on Stopped before mid now first second = second ∙ first
 
-pub stopped_on : (answer : Append) (before mid now : Standing) (P Q : Type 0) → Ends Done before mid → Ends answer mid now → IfStopped answer P → IfStopped answer Q
+pub stopped_on : (answer : Append) (before mid now : JournalState) (P Q : Type 0) → Ends Done before mid → Ends answer mid now → IfStopped answer P → IfStopped answer Q
 stopped_on Done before mid now P Q first second stopped = tt
 stopped_on DiskFault before mid now P Q first second stopped = tt
 stopped_on Stopped before mid now P Q first second stopped = absurd (ready_apart (sym first.1 ∙ second.0))

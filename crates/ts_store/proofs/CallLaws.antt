@@ -9,7 +9,7 @@ use Rattle.ts_model.specs.declared.outcomes.Outcome.{Outcome}
 use Rattle.ts_model.specs.declared.outcomes.Outcome.TheVariants.{Done, DiskFault, NoMemory, Refused}
 use Rattle.ts_model.specs.declared.outcomes.Refusal.{Refusal}
 use Rattle.ts_model.specs.Allowed.{allowed}
-use Rattle.ts_model.specs.Calls.{Act, Answered, Looked, making, makes, refusal, refuses, returns}
+use Rattle.ts_model.specs.Calls.{Act, Answered, Looked, act_of_event, makes, refusal, refuses, returns}
 use Rattle.ts_model.specs.Numbers.{stopped, history_full}
 use Rattle.ts_model.specs.History.{History, ◌▸◌, position, prefix, same}
 use Rattle.ts_model.specs.Timely.{has_room}
@@ -21,7 +21,7 @@ use Rattle.engine_core.specs.Effects.{effect_of}
 use Rattle.engine_core.specs.Histories.{history_of, with_event}
 use Rattle.engine_core.proofs.ActLaws.{free_where_allowed, room_where_free}
 use Rattle.engine_core.proofs.StoreLaws.{kept_by_any, history_push}
-use Rattle.ts_store.specs.Stores.{StoreValue, StoreDoes, IsKept, numbers_above, seen, state_of}
+use Rattle.ts_store.specs.Stores.{StoreValue, StoreDoes, IsKept, numbers_above, history_seen, state_of}
 
 -- a store that is alone finds what it saw
 finds_itself : (s : State) → s.origin.faults ≤ s.faults → (IsTrue (stands_still s) → Rose s.origin.faults s.faults) → Found true s s
@@ -69,16 +69,16 @@ module _ {D : Type 0} (bytes : D → Option (List ℕ)) (may_leave : D → List 
   pub makes_state : (old new : StoreValue D) (e : Event) → Kept old → old.failed ≡ None → new.failed ≡ None → new.engine.past ≡ with_event old.engine.past e
       → faults new.journal.disk ≡ faults old.journal.disk → new.begun ≡ old.begun → new.opened ≡ old.opened → Makes e (state old) (state new)
   makes_state old new e kept going goes with count begun opened =
-      let now : seen new ≡ (seen old ▸ e) = ap history_of with ∙ history_push old.engine.past e in
-      let within : old.opened ≤ position (seen old) = kept.from in
+      let now : history_seen new ≡ (history_seen old ▸ e) = ap history_of with ∙ history_push old.engine.past e in
+      let within : old.opened ≤ position (history_seen old) = kept.from in
       record {
         went_on = going;
         history = now;
         failed = goes;
         faults = count;
-        made = (λ k. numbers_above (opened k) (now k)) ∙ number_push old.opened (seen old) e within;
+        made = (λ k. numbers_above (opened k) (now k)) ∙ number_push old.opened (history_seen old) e within;
         origin = (λ k. record { faults = faults (begun k); opening = prefix (now k) (opened k); moment = moment (begun k) })
-            ∙ ap (λ (h : History). record { faults = faults old.begun; opening = h; moment = moment old.begun }) (prefix_further (seen old) e old.opened within);
+            ∙ ap (λ (h : History). record { faults = faults old.begun; opening = h; moment = moment old.begun }) (prefix_further (history_seen old) e old.opened within);
       }
 
   pub fails_state : (old new : StoreValue D) (e : Event) → old.failed ≡ None → new.failed ≡ Some e → new.engine.past ≡ old.engine.past
@@ -94,44 +94,44 @@ module _ {D : Type 0} (bytes : D → Option (List ℕ)) (may_leave : D → List 
 
   -- ---- calls
 
-  does_of : {A : Type 0} (act : History → Act A) (old new : StoreValue D) (outcome : Outcome A) → Kept old → Answered (act (seen old)) (state old) outcome (state new) → StoreDoes faults moment act old outcome new
+  does_of : {A : Type 0} (act : History → Act A) (old new : StoreValue D) (outcome : Outcome A) → Kept old → Answered (act (history_seen old)) (state old) outcome (state new) → StoreDoes faults moment act old outcome new
   does_of act old new outcome kept answered = record { found = state old; finds = finds_itself (state old) kept.counted kept.fell; answered = answered }
 
-  does_by : {A : Type 0} (act : History → Act A) (a : Act A) (old new : StoreValue D) (outcome : Outcome A) → Kept old → act (seen old) ≡ a → Answered a (state old) outcome (state new) → StoreDoes faults moment act old outcome new
+  does_by : {A : Type 0} (act : History → Act A) (a : Act A) (old new : StoreValue D) (outcome : Outcome A) → Kept old → act (history_seen old) ≡ a → Answered a (state old) outcome (state new) → StoreDoes faults moment act old outcome new
   does_by act a old new outcome kept is answered = does_of act old new outcome kept (subst (λ x. Answered x (state old) outcome (state new)) (sym is) answered)
 
   -- no call refuses an event that is allowed
   makes_allowed : (h : History) (e : Event) → allowed h e ≡ true → making_event e h ≡ makes e (effect_of h e)
   makes_allowed h e fits =
       let free = free_where_allowed h e fits in
-      ap (λ o. unless o (making h e (effect_of h e))) free
+      ap (λ o. unless o (act_of_event h e (effect_of h e))) free
       ∙ cond-true (has_room h) (makes e (effect_of h e)) (refuses (refusal history_full h 0)) (room_where_free h e free)
 
-  pub does_made : (old new : StoreValue D) (e : Event) (effect : Committed) → Kept old → allowed (seen old) e ≡ true → effect ≡ effect_of (seen old) e → Makes e (state old) (state new)
+  pub does_made : (old new : StoreValue D) (e : Event) (effect : Committed) → Kept old → allowed (history_seen old) e ≡ true → effect ≡ effect_of (history_seen old) e → Makes e (state old) (state new)
       → StoreDoes faults moment (making_event e) old (Done effect) new
-  does_made old new e effect kept fits told made = does_by (making_event e) (makes e (effect_of (seen old) e)) old new (Done effect) kept (makes_allowed (seen old) e fits) (told, made)
+  does_made old new e effect kept fits told made = does_by (making_event e) (makes e (effect_of (history_seen old) e)) old new (Done effect) kept (makes_allowed (history_seen old) e fits) (told, made)
 
-  pub does_failed : (old new : StoreValue D) (e : Event) → Kept old → allowed (seen old) e ≡ true → Fails e (state old) (state new) → StoreDoes faults moment (making_event e) old DiskFault new
-  does_failed old new e kept fits failed = does_by (making_event e) (makes e (effect_of (seen old) e)) old new DiskFault kept (makes_allowed (seen old) e fits) failed
+  pub does_failed : (old new : StoreValue D) (e : Event) → Kept old → allowed (history_seen old) e ≡ true → Fails e (state old) (state new) → StoreDoes faults moment (making_event e) old DiskFault new
+  does_failed old new e kept fits failed = does_by (making_event e) (makes e (effect_of (history_seen old) e)) old new DiskFault kept (makes_allowed (history_seen old) e fits) failed
 
-  pub does_stopped : (old new : StoreValue D) (e : Event) (q : Refusal) → Kept old → allowed (seen old) e ≡ true → is_some old.failed ≡ true → q ≡ refusal stopped (seen old) 0 → Same faults old new
+  pub does_stopped : (old new : StoreValue D) (e : Event) (q : Refusal) → Kept old → allowed (history_seen old) e ≡ true → is_some old.failed ≡ true → q ≡ refusal stopped (history_seen old) 0 → Same faults old new
       → StoreDoes faults moment (making_event e) old (Refused q) new
-  does_stopped old new e q kept fits still told is = does_by (making_event e) (makes e (effect_of (seen old) e)) old new (Refused q) kept (makes_allowed (seen old) e fits) (still, told, keeps_state old new is)
+  does_stopped old new e q kept fits still told is = does_by (making_event e) (makes e (effect_of (history_seen old) e)) old new (Refused q) kept (makes_allowed (history_seen old) e fits) (still, told, keeps_state old new is)
 
-  pub does_refused : (old new : StoreValue D) (e : Event) (r : Refusal) → Kept old → call_refusal (seen old) e ≡ Some r → Same faults old new → StoreDoes faults moment (making_event e) old (Refused r) new
+  pub does_refused : (old new : StoreValue D) (e : Event) (r : Refusal) → Kept old → call_refusal (history_seen old) e ≡ Some r → Same faults old new → StoreDoes faults moment (making_event e) old (Refused r) new
   does_refused old new e r kept refused is =
-      does_by (making_event e) (refuses r) old new (Refused r) kept (ap (λ o. unless o (making (seen old) e (effect_of (seen old) e))) refused) (refl, keeps_state old new is)
+      does_by (making_event e) (refuses r) old new (Refused r) kept (ap (λ o. unless o (act_of_event (history_seen old) e (effect_of (history_seen old) e))) refused) (refl, keeps_state old new is)
 
   pub does_without_memory : {A : Type 0} (act : History → Act A) (old new : StoreValue D) → Kept old → Same faults old new → StoreDoes faults moment act old NoMemory new
-  does_without_memory act old new kept is = does_of act old new NoMemory kept (kept_by_any (act (seen old)) (state old) (state new) (keeps_state old new is))
+  does_without_memory act old new kept is = does_of act old new NoMemory kept (kept_by_any (act (history_seen old)) (state old) (state new) (keeps_state old new is))
 
   -- a call said something, or was refused, and nothing changed
-  pub does_say : {A : Type 0} (act : History → Act A) (old new : StoreValue D) (a b : A) → Kept old → act (seen old) ≡ returns a → b ≡ a → Same faults old new → StoreDoes faults moment act old (Done b) new
+  pub does_say : {A : Type 0} (act : History → Act A) (old new : StoreValue D) (a b : A) → Kept old → act (history_seen old) ≡ returns a → b ≡ a → Same faults old new → StoreDoes faults moment act old (Done b) new
   does_say act old new a b kept is told same_state = does_by act (returns a) old new (Done b) kept is (told, keeps_state old new same_state)
 
-  pub does_refuse : {A : Type 0} (act : History → Act A) (old new : StoreValue D) (r q : Refusal) → Kept old → act (seen old) ≡ refuses r → q ≡ r → Same faults old new → StoreDoes faults moment act old (Refused q) new
+  pub does_refuse : {A : Type 0} (act : History → Act A) (old new : StoreValue D) (r q : Refusal) → Kept old → act (history_seen old) ≡ refuses r → q ≡ r → Same faults old new → StoreDoes faults moment act old (Refused q) new
   does_refuse act old new r q kept is told same_state = does_by act (refuses r) old new (Refused q) kept is (told, keeps_state old new same_state)
 
   -- what is looked at where nothing changed
-  pub looks : (Tells : History → Type 0) (old new : StoreValue D) → Kept old → Same faults old new → Tells (seen old) → Looked true (state old) Tells (state new)
+  pub looks : (Tells : History → Type 0) (old new : StoreValue D) → Kept old → Same faults old new → Tells (history_seen old) → Looked true (state old) Tells (state new)
   looks Tells old new kept is told = record { found = state old; finds = finds_itself (state old) kept.counted kept.fell; keeps = keeps_state old new is; tells = told }

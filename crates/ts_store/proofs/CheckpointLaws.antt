@@ -6,7 +6,7 @@ use Rattle.ts_model.specs.History.{History, start, resumed, ◌▸◌, Begins, s
 use Rattle.ts_model.specs.declared.events.Event.{Event}
 use Rattle.event_codec.specs.Spelling as spelling
 use Rattle.txn_journal.specs.Calls.{IsAtRest, Logged}
-use Rattle.txn_journal.specs.Contents.{Content, has_base, is_base, raised}
+use Rattle.txn_journal.specs.Contents.{Content, has_base, is_base, content_of_version_2}
 use Rattle.txn_journal.specs.Frames.{StandsFor, StandsForEither as StandsForOne, WithOrWithout}
 use Rattle.txn_journal.specs.Reading.{based_on}
 use Rattle.txn_journal.specs.declared.versions.Version.{Version}
@@ -25,22 +25,22 @@ use Rattle.ts_store.proofs.HistoryLaws.{no_event_is_base, sound_resumed}
 -- ---- a base behind a journal
 
 -- with a base nothing else counts
-base_alone : (version : Version) (content : Content) (frame c : List ℕ) → version ≡ Two → is_base Two frame ≡ true → raised content ≡ content
-    → WithOrWithout version (raised content) frame c → StandsForOne content (based_on frame) c
+base_alone : (version : Version) (content : Content) (frame c : List ℕ) → version ≡ Two → is_base Two frame ≡ true → content_of_version_2 content ≡ content
+    → WithOrWithout version (content_of_version_2 content) frame c → StandsForOne content (based_on frame) c
 base_alone version content frame c two base stays (inl stands) = inl (subst (StandsFor c) stays stands)
 base_alone version content frame c two base stays (inr stands) =
-    inr (subst (StandsFor c) (base_counts version (raised content) frame (ap (λ (v : Version). is_base v frame) two ∙ base)) stands)
+    inr (subst (StandsFor c) (base_counts version (content_of_version_2 content) frame (ap (λ (v : Version). is_base v frame) two ∙ base)) stands)
 
-raised_alone : (content : Content) (frame c : List ℕ) → raised content ≡ content → StandsForOne content (raised content) c → StandsForOne content (based_on frame) c
+raised_alone : (content : Content) (frame c : List ℕ) → content_of_version_2 content ≡ content → StandsForOne content (content_of_version_2 content) c → StandsForOne content (based_on frame) c
 raised_alone content frame c stays (inl stands) = inl stands
 raised_alone content frame c stays (inr stands) = inl (subst (StandsFor c) stays stands)
 
 pub base_run : {D : Type 0} (moment : D → ℕ) (left_since : D → ℕ → List ℕ → Type 0) (old mid new : D) (version : Version) (content : Content) (frame : List ℕ)
-    → version ≡ Two → is_base Two frame ≡ true → raised content ≡ content
-    → LeavesOnly moment left_since old mid (StandsForOne content (raised content)) → LeavesOnly moment left_since mid new (WithOrWithout version (raised content) frame)
+    → version ≡ Two → is_base Two frame ≡ true → content_of_version_2 content ≡ content
+    → LeavesOnly moment left_since old mid (StandsForOne content (content_of_version_2 content)) → LeavesOnly moment left_since mid new (WithOrWithout version (content_of_version_2 content) frame)
     → LeavesOnly moment left_since old new (StandsForOne content (based_on frame))
 base_run moment left_since old mid new version content frame two base stays first second =
-    follows moment left_since old mid new (StandsForOne content (raised content)) (WithOrWithout version (raised content) frame) (StandsForOne content (based_on frame)) first second
+    follows moment left_since old mid new (StandsForOne content (content_of_version_2 content)) (WithOrWithout version (content_of_version_2 content) frame) (StandsForOne content (based_on frame)) first second
     (λ c either. raised_alone content frame c stays either)
     (λ c either. base_alone version content frame c two base stays either)
 
@@ -51,7 +51,7 @@ no_bases start = refl
 no_bases (resumed i) = refl
 no_bases (h ▸ e) = none_of_both Two (payloads_of h) (spelling.event e ∷ []) (no_bases h) (none_of_one Two (spelling.event e) (no_event_is_base Two e))
 
-pub counts_raised : (h : History) → raised (content_of h) ≡ content_of h
+pub counts_raised : (h : History) → content_of_version_2 (content_of h) ≡ content_of h
 counts_raised h = raised_same (content_of h) (no_bases h)
 
 image_stands : (h : History) (frame c : List ℕ) → IsImageOf h frame → StandsFor c (based_on frame) → StandsForImage h c

@@ -1,6 +1,6 @@
 -- A store and its snapshots may cross threads where its disk may: the parts of an engine one by one, since one search through all of them has no end.
 use Rattle.std.proofs.Crossing
-use Rattle.chunk_catalog.proofs.piles.Pile.TheLaws.TheKnot as PileKnot
+use Rattle.chunk_catalog.proofs.segment_trees.SegmentTree.TheLaws.TheKnot as PileKnot
 use Rattle.chunk_catalog.proofs.trees.Tree.TheLaws.TheKnot as TreeKnot
 use denote.RattleType.{RattleType}
 use Rattle.std.specs.contracts.option.Option as Option
@@ -10,7 +10,7 @@ use Rattle.ts_model.specs.contracts.events.Event as Event
 use Rattle.ts_model.specs.contracts.images.Image as Image
 use Rattle.ts_model.specs.contracts.images.SavedView as SavedView
 use Rattle.txn_journal.specs.contracts.journals.Journal as Journal
-use Rattle.ts_store.specs.contracts.begun.Begun as Begun
+use Rattle.ts_store.specs.contracts.initial_value.InitialValue as Begun
 use Rattle.ts_store.specs.contracts.recorders.Recorder as Recorder
 use Rattle.ts_store.specs.contracts.stores.Store as Store
 use Rattle.ts_store.specs.contracts.stores.Store.TheInside as Inside

@@ -19,7 +19,7 @@ use Rattle.event_codec.specs.Formed.{IsFormed}
 use Rattle.event_codec.specs.Reading.{whole_event}
 use Rattle.event_codec.specs.Spelling as spelling
 use Rattle.event_codec.proofs.Decodings.{is_formed, is_no_event, is_spelled}
-use Rattle.txn_journal.specs.Contents.{counted, has_base, nothing, version_of, with_payload}
+use Rattle.txn_journal.specs.Contents.{content_from, has_base, nothing, version_of, with_payload}
 use Rattle.txn_journal.specs.Frames.{AllFit, Follows, IsShort, counted_before, front, magic}
 use Rattle.txn_journal.specs.Reading.{HasFrames, IsHead, based_on}
 use Rattle.txn_journal.specs.declared.heads.Head.{Head}
@@ -185,7 +185,7 @@ module _ (file : List ℕ) (bytes : AreBytes file) where
     )
 
     -- all payloads counted, so the end tells
-    end_judged : (h : History) → IsSound h → content_of h ≡ counted version frames.all → IsJudged file
+    end_judged : (h : History) → IsSound h → content_of h ≡ content_from version frames.all → IsJudged file
     end_judged h sound counts = ⊎_elim
         (λ shut. inl (
           h,
@@ -223,8 +223,8 @@ module _ (file : List ℕ) (bytes : AreBytes file) where
         frames.stops
 
     -- behind those that counted there is no base
-    events_judged : (h : History) (seen todo : List (List ℕ)) → IsSound h → frames.all ≡ seen ++ todo → content_of h ≡ counted version seen → has_base version todo ≡ false → IsJudged file
-    events_judged h seen [] sound is counts none = end_judged h sound (counts ∙ ap (counted version) (sym (is ∙ append-nil seen)))
+    events_judged : (h : History) (seen todo : List (List ℕ)) → IsSound h → frames.all ≡ seen ++ todo → content_of h ≡ content_from version seen → has_base version todo ≡ false → IsJudged file
+    events_judged h seen [] sound is counts none = end_judged h sound (counts ∙ ap (content_from version) (sym (is ∙ append-nil seen)))
     events_judged h seen (payload ∷ todo) sound is counts none =
         let kinds = head_and_rest version payload todo none in
         let joined : frames.all ≡ (seen ++ payload ∷ []) ++ todo = is ∙ sym (append_assoc seen (payload ∷ []) todo) in
@@ -234,7 +234,7 @@ module _ (file : List ℕ) (bytes : AreBytes file) where
         ∙ (λ k. with_payload version (counts k) (sym next.1.spelled k))
         ∙ sym (payloads_push version nothing seen payload))
         kinds.1)
-        (λ no_event. wrong_at h seen todo payload sound joined (counts ∙ sym (cond-false _ nothing (counted version seen) kinds.0)) kinds.1 (inr (kinds.0, no_event)))
+        (λ no_event. wrong_at h seen todo payload sound joined (counts ∙ sym (cond-false _ nothing (content_from version seen) kinds.0)) kinds.1 (inr (kinds.0, no_event)))
         (next_or_none h payload)
 
     -- the last base is the image that the history begins with
@@ -242,10 +242,10 @@ module _ (file : List ℕ) (bytes : AreBytes file) where
     base_judged last = ⊎_elim
         (λ image.
         let i = image.0 in
-        let counts : content_of (resumed i) ≡ counted version (last.before ++ last.payload ∷ []) =
-        ap based_on (sym image.1.2) ∙ sym (base_counts version (counted version last.before) last.payload last.base) ∙ sym (payloads_push version nothing last.before last.payload) in
+        let counts : content_of (resumed i) ≡ content_from version (last.before ++ last.payload ∷ []) =
+        ap based_on (sym image.1.2) ∙ sym (base_counts version (content_from version last.before) last.payload last.base) ∙ sym (payloads_push version nothing last.before last.payload) in
         events_judged (resumed i) (last.before ++ last.payload ∷ []) last.behind (sound_resumed i image.1.0 image.1.1) last.split counts last.none)
-        (λ no_image. wrong_at start last.before last.behind last.payload sound_start last.split (sym (cond-true _ nothing (counted version last.before) last.base)) last.none (inl (last.base, no_image)))
+        (λ no_image. wrong_at start last.before last.behind last.payload sound_start last.split (sym (cond-true _ nothing (content_from version last.before) last.base)) last.none (inl (last.base, no_image)))
         (image_or_none last.payload)
 
     frames_judged : IsJudged file

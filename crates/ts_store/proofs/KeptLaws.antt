@@ -13,13 +13,13 @@ use Rattle.ts_disk.specs.CrashImage.{LeavesOnly, Only}
 use Rattle.ts_disk.specs.Disk.{Keeps}
 use Rattle.ts_disk.proofs.Told.{some_also, some_is, the_told}
 use Rattle.txn_journal.specs.Calls.{Logged, IsAtRest, IsTold}
-use Rattle.txn_journal.specs.declared.journals.Standing.{Standing}
-use Rattle.txn_journal.specs.declared.journals.Standing.TheVariants.{Bare, Ready, Still}
+use Rattle.txn_journal.specs.declared.journals.JournalState.{JournalState}
+use Rattle.txn_journal.specs.declared.journals.JournalState.TheVariants.{Bare, Ready, Still}
 use Rattle.txn_journal.proofs.JournalLaws.{lies_ready, lies_stands}
 use Rattle.ts_store.specs.Images.{HasHeader, IsBetween, IsDurable, StandsForEither, latest}
 use Rattle.ts_store.specs.Safe.{IsSafe}
 use Rattle.ts_store.specs.Stands.{Stands, IsSound, content_of}
-use Rattle.ts_store.specs.Stores.{StoreValue, IsKept, Rests, Tells, is_still, opening, seen}
+use Rattle.ts_store.specs.Stores.{StoreValue, IsKept, Rests, Tells, is_still, opening_history, history_seen}
 use Rattle.ts_store.proofs.ImageLaws.{begin_on, begins_latest, between_either, between_on, either_more, holds_header, shown_told}
 
 -- ---- counts of faults
@@ -39,7 +39,7 @@ rose_above a b few rose =
 
 -- ---- journals
 
-pub not_still : (s : Standing) → s ≢ Still → false ≡ is_still s
+pub not_still : (s : JournalState) → s ≢ Still → false ≡ is_still s
 not_still Bare going = refl
 not_still Ready going = refl
 not_still Still going = absurd (going refl)
@@ -51,18 +51,18 @@ ready_apart is = cc is
 still_apart : Still ≡ Bare → ⊥
 still_apart is = cc is
 
-pub ready_headed : (s : Standing) → s ≡ Ready → s ≢ Bare
+pub ready_headed : (s : JournalState) → s ≡ Ready → s ≢ Bare
 ready_headed s ready bare = ready_apart (sym ready ∙ bare)
 
-pub still_headed : (s : Standing) → s ≡ Still → s ≢ Bare
+pub still_headed : (s : JournalState) → s ≡ Still → s ≢ Bare
 still_headed s still bare = still_apart (sym still ∙ bare)
 
 -- a store failed exactly where its journal stopped
-pub none_of_going : (failed : Option Event) (s : Standing) → is_some failed ≡ is_still s → s ≢ Still → failed ≡ None
+pub none_of_going : (failed : Option Event) (s : JournalState) → is_some failed ≡ is_still s → s ≢ Still → failed ≡ None
 none_of_going None s is going = refl
 none_of_going (Some e) s is going = absurd (true≢false (is ∙ sym (not_still s going)))
 
-pub some_of_still : (failed : Option Event) (s : Standing) → is_some failed ≡ is_still s → s ≡ Still → is_some failed ≡ true
+pub some_of_still : (failed : Option Event) (s : JournalState) → is_some failed ≡ is_still s → s ≡ Still → is_some failed ≡ true
 some_of_still failed s is still = is ∙ ap is_still still
 
 -- ---- histories
@@ -82,14 +82,14 @@ module _ {D : Type 0} (bytes : D → Option (List ℕ)) (may_leave : D → List 
   Safe old new = IsSafe bytes may_leave moment left_since old new
 
   -- a call is safe whose images are those of the history at entry, or of the one with its event
-  pub safe_of : (old new : StoreValue D) → (Rests bytes may_leave old → LeavesOnly moment left_since old.journal.disk new.journal.disk (StandsForEither (seen old) (latest (seen new) new.failed)))
-      → Begins (seen old) (seen new) → (Tells bytes old → new.failed ≡ None → Tells bytes new) → (Rests bytes may_leave old → new.failed ≡ None → Rests bytes may_leave new)
-      → (seen new ≡ seen old → new.failed ≡ old.failed → new.journal ≡ old.journal) → Safe old new
+  pub safe_of : (old new : StoreValue D) → (Rests bytes may_leave old → LeavesOnly moment left_since old.journal.disk new.journal.disk (StandsForEither (history_seen old) (latest (history_seen new) new.failed)))
+      → Begins (history_seen old) (history_seen new) → (Tells bytes old → new.failed ≡ None → Tells bytes new) → (Rests bytes may_leave old → new.failed ≡ None → Rests bytes may_leave new)
+      → (history_seen new ≡ history_seen old → new.failed ≡ old.failed → new.journal ≡ old.journal) → Safe old new
   safe_of old new run goes tells rests untouched = record {
     any_moment = run;
     earlier = λ t h rest begins le begin.
-        begin_on bytes may_leave moment left_since old.journal.disk new.journal.disk (StandsForEither (seen old) (latest (seen new) new.failed)) t h (run rest)
-        (λ c either. either_more h (seen old) (latest (seen new) new.failed) c begins (begins_trans begins (begins_trans goes (begins_latest (seen new) new.failed))) either)
+        begin_on bytes may_leave moment left_since old.journal.disk new.journal.disk (StandsForEither (history_seen old) (latest (history_seen new) new.failed)) t h (run rest)
+        (λ c either. either_more h (history_seen old) (latest (history_seen new) new.failed) c begins (begins_trans begins (begins_trans goes (begins_latest (history_seen new) new.failed))) either)
         le begin;
     tells = tells;
     rests = rests;
@@ -101,41 +101,41 @@ module _ {D : Type 0} (bytes : D → Option (List ℕ)) (may_leave : D → List 
   stood disk P here = record { later = omega arith; each = here; before = λ t c le left. inl left; keeps = λ t c le left. left }
 
   -- a call that leaves events, journal and failure as they were
-  pub safe_same : ((disk : D) (c : List ℕ) → left_since disk (moment disk) c → may_leave disk c) → (old new : StoreValue D) → IsSound (seen old)
+  pub safe_same : ((disk : D) (c : List ℕ) → left_since disk (moment disk) c → may_leave disk c) → (old new : StoreValue D) → IsSound (history_seen old)
       → new.engine.past ≡ old.engine.past → new.journal ≡ old.journal → new.failed ≡ old.failed → Safe old new
   safe_same only_now old new sound events journal failed =
-      let same_history : seen new ≡ seen old = ap history_of events in
-      let run : Rests bytes may_leave old → LeavesOnly moment left_since old.journal.disk old.journal.disk (StandsForEither (seen old) (latest (seen new) new.failed)) = λ rest.
-      stood old.journal.disk (StandsForEither (seen old) (latest (seen new) new.failed))
-      (λ c left. inl (subst (λ (file : List ℕ). Stands file (seen old)) (sym (rest.durable c (only_now old.journal.disk c left))) (stands_at_rest old sound rest))) in
+      let same_history : history_seen new ≡ history_seen old = ap history_of events in
+      let run : Rests bytes may_leave old → LeavesOnly moment left_since old.journal.disk old.journal.disk (StandsForEither (history_seen old) (latest (history_seen new) new.failed)) = λ rest.
+      stood old.journal.disk (StandsForEither (history_seen old) (latest (history_seen new) new.failed))
+      (λ c left. inl (subst (λ (file : List ℕ). Stands file (history_seen old)) (sym (rest.durable c (only_now old.journal.disk c left))) (stands_at_rest old sound rest))) in
       safe_of old new
-      (λ rest. subst (λ (j : Logged D). LeavesOnly moment left_since old.journal.disk j.disk (StandsForEither (seen old) (latest (seen new) new.failed))) (sym journal) (run rest))
-      (subst (λ (h : History). Begins (seen old) h) (sym same_history) same)
-      (λ tells none. subst (λ (h : History). IsTold bytes new.journal (content_of h)) (sym same_history) (subst (λ (j : Logged D). IsTold bytes j (content_of (seen old))) (sym journal) tells))
-      (λ rest none. subst (λ (h : History). IsAtRest bytes may_leave new.journal (content_of h)) (sym same_history) (subst (λ (j : Logged D). IsAtRest bytes may_leave j (content_of (seen old))) (sym journal) rest))
+      (λ rest. subst (λ (j : Logged D). LeavesOnly moment left_since old.journal.disk j.disk (StandsForEither (history_seen old) (latest (history_seen new) new.failed))) (sym journal) (run rest))
+      (subst (λ (h : History). Begins (history_seen old) h) (sym same_history) same)
+      (λ tells none. subst (λ (h : History). IsTold bytes new.journal (content_of h)) (sym same_history) (subst (λ (j : Logged D). IsTold bytes j (content_of (history_seen old))) (sym journal) tells))
+      (λ rest none. subst (λ (h : History). IsAtRest bytes may_leave new.journal (content_of h)) (sym same_history) (subst (λ (j : Logged D). IsAtRest bytes may_leave j (content_of (history_seen old))) (sym journal) rest))
       (λ _ _. journal)
     where
-      stands_at_rest : (s : StoreValue D) (sound : IsSound (seen s)) (rest : Rests bytes may_leave s) → Stands rest.tells.file (seen s)
-      stands_at_rest s sound rest = record { holds = lies_stands s.journal.standing s.journal.version rest.tells.file s.journal.end (content_of (seen s)) rest.tells.lies; sound = sound }
+      stands_at_rest : (s : StoreValue D) (sound : IsSound (history_seen s)) (rest : Rests bytes may_leave s) → Stands rest.tells.file (history_seen s)
+      stands_at_rest s sound rest = record { holds = lies_stands s.journal.standing s.journal.version rest.tells.file s.journal.end (content_of (history_seen s)) rest.tells.lies; sound = sound }
 
   -- ---- what is true of a store stays so over a call whose images are those of the history at entry, or of the one with its event
 
   pub kept_after : (old new : StoreValue D) → Kept old → old.failed ≡ None
-      → (Rests bytes may_leave old → LeavesOnly moment left_since old.journal.disk new.journal.disk (StandsForEither (seen old) (latest (seen new) new.failed)))
+      → (Rests bytes may_leave old → LeavesOnly moment left_since old.journal.disk new.journal.disk (StandsForEither (history_seen old) (latest (history_seen new) new.failed)))
       → (Tells bytes old → new.failed ≡ None → Tells bytes new)
       → (Rests bytes may_leave old → new.failed ≡ None → Rests bytes may_leave new) → new.begun ≡ old.begun → new.opened ≡ old.opened
-      → Begins (seen old) (seen new) → IsSound (seen new) → position (seen old) ≤ position (seen new)
+      → Begins (history_seen old) (history_seen new) → IsSound (history_seen new) → position (history_seen old) ≤ position (history_seen new)
       → faults old.begun ≤ faults new.journal.disk → (IsTrue (is_some new.failed) → Rose (faults old.begun) (faults new.journal.disk))
       → is_some new.failed ≡ is_still new.journal.standing → (new.armed ≡ true → old.armed ≡ true) → (old.journal.standing ≢ Bare → new.journal.standing ≢ Bare)
-      → (Tells bytes old → IsSomeAnd (bytes new.journal.disk) (StandsForEither (seen new) (latest (seen new) new.failed)))
+      → (Tells bytes old → IsSomeAnd (bytes new.journal.disk) (StandsForEither (history_seen new) (latest (history_seen new) new.failed)))
       → Kept new
   kept_after old new kept going runs told_on rested_on begun opened goes sound longer counted fell still armed headed shown =
       let durable : IsDurable bytes may_leave new.begun → IsDurable bytes may_leave old.begun = subst (λ (d : D). IsDurable bytes may_leave d) begun in
       let known : IsSome (bytes new.begun) → IsSome (bytes old.begun) = subst (λ (d : D). IsSome (bytes d)) begun in
       let told : IsSome (bytes new.begun) → Tells bytes old = λ some. kept.tells (known some) going in
       let rested : IsDurable bytes may_leave new.begun → Rests bytes may_leave old = λ d. kept.rests (durable d) going in
-      let within : old.opened ≤ position (seen old) = kept.from in
-      let same_opening : opening new ≡ opening old = ap (λ (n : ℕ). prefix (seen new) n) opened ∙ opening_stays (seen old) (seen new) old.opened goes within in
+      let within : old.opened ≤ position (history_seen old) = kept.from in
+      let same_opening : opening_history new ≡ opening_history old = ap (λ (n : ℕ). prefix (history_seen new) n) opened ∙ opening_stays (history_seen old) (history_seen new) old.opened goes within in
       record {
         sound = sound;
         from = omega (arith, opened, kept.from, longer);
@@ -152,9 +152,9 @@ module _ {D : Type 0} (bytes : D → Option (List ℕ)) (may_leave : D → List 
             let run = runs (rested d) in
             let since : left_since new.journal.disk (moment old.begun) c = subst (λ (b : D). left_since new.journal.disk (moment b) c) begun left in
             ⊎_elim
-            (λ past. between_on (opening old) (opening new) (seen old) (seen new) new.failed c same_opening goes
-            (subst (λ (o : Option Event). IsBetween (opening old) (seen old) o c) going (kept.images (durable d) c past)))
-            (λ now. between_either (opening new) (seen old) (seen new) new.failed c (subst (λ (h : History). Begins h (seen old)) (sym same_opening) (begins_prefix (seen old) old.opened)) goes now)
+            (λ past. between_on (opening_history old) (opening_history new) (history_seen old) (history_seen new) new.failed c same_opening goes
+            (subst (λ (o : Option Event). IsBetween (opening_history old) (history_seen old) o c) going (kept.images (durable d) c past)))
+            (λ now. between_either (opening_history new) (history_seen old) (history_seen new) new.failed c (subst (λ (h : History). Begins h (history_seen old)) (sym same_opening) (begins_prefix (history_seen old) old.opened)) goes now)
             (run.before (moment old.begun) c (kept.later (durable d)) since);
       }
 
@@ -198,7 +198,7 @@ module _ {D : Type 0} (bytes : D → Option (List ℕ)) (may_leave : D → List 
   pub shows_header : (s : StoreValue D) → Kept s → s.armed ≡ true → s.failed ≡ None → IsSome (bytes s.begun) → IsSomeAnd (bytes s.journal.disk) HasHeader
   shows_header s kept armed going some =
       let tells = kept.tells some going in
-      some_is (bytes s.journal.disk) tells.file HasHeader tells.told (holds_header tells.file (content_of (seen s)) (lies_ready s.journal.standing s.journal.version tells.file s.journal.end (content_of (seen s)) (kept.headed armed) tells.lies).holds)
+      some_is (bytes s.journal.disk) tells.file HasHeader tells.told (holds_header tells.file (content_of (history_seen s)) (lies_ready s.journal.standing s.journal.version tells.file s.journal.end (content_of (history_seen s)) (kept.headed armed) tells.lies).holds)
 
   -- ---- the start
 

@@ -24,7 +24,7 @@ use Rattle.txn_journal.specs.declared.journals.Append.TheVariants.{Done, DiskFau
 use Rattle.ts_store.specs.Arming.{armed_after}
 use Rattle.txn_journal.specs.Contents.{Content, with_payload}
 use Rattle.txn_journal.specs.Frames.{StandsFor, WithOrWithout}
-use Rattle.txn_journal.specs.declared.journals.Standing.TheVariants.{Bare, Ready, Still}
+use Rattle.txn_journal.specs.declared.journals.JournalState.TheVariants.{Bare, Ready, Still}
 use Rattle.txn_journal.proofs.Moments.{weaker}
 use Rattle.ts_store.specs.Drafts.{IsDraft}
 use Rattle.ts_store.specs.Images.{StandsForEither, latest}
@@ -32,7 +32,7 @@ use Rattle.ts_store.specs.Recorders.{store_of, ArmsSafely, DoesIn, IsKeptIn, IsS
 use Rattle.ts_store.specs.Safe.{IsSafe}
 use Rattle.ts_store.specs.Stands.{Stands, IsSound, content_of}
 use Rattle.ts_store.specs.Stores.{is_still}
-use Rattle.ts_store.specs.declared.drafts.Draft.{Draft}
+use Rattle.ts_store.specs.declared.drafts.FramedEvent.{FramedEvent}
 use Rattle.ts_store.specs.declared.recorders.Recorder.{Recorder}
 use Rattle.ts_store.proofs.CallLaws.{does_failed, does_made, fails_state, makes_state}
 use Rattle.ts_store.proofs.HistoryLaws.{event_counts, sound_push}
@@ -210,7 +210,7 @@ module _ {D : Type 0} (bytes : D → Option (List ℕ)) (may_leave : D → List 
         (λ file stands. inl (subst (λ (h : History). Stands file h) (sym same_there) (record { holds = stands; sound = sound }))) (shown (content_of there) told))
 
 -- a draft is one of the event that it holds
-pub own_draft : (h : History) (e : Event) (draft : Draft) → IsDraft h e draft → IsDraft h draft.prepared.event draft
+pub own_draft : (h : History) (e : Event) (draft : FramedEvent) → IsDraft h e draft → IsDraft h draft.prepared.event draft
 own_draft h e draft is = record {
   event = refl;
   fits = subst (λ (x : Event). IsTrue (allowed h x)) (sym is.event) is.fits;

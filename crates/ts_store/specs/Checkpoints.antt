@@ -17,8 +17,8 @@ use Rattle.ts_store.specs.Stands.{Stands}
 use Rattle.ts_store.specs.Stores.{stop_at}
 use Rattle.ts_store.specs.declared.checkpoints.CheckEnd.{CheckEnd}
 use Rattle.ts_store.specs.declared.checkpoints.CheckEnd.TheVariants.{Done, Nothing, TooLong, DiskFault, Stopped, NoMemory}
-use Rattle.ts_store.specs.declared.saves.Saved.{Saved}
-use Rattle.ts_store.specs.declared.saves.Saved.TheVariants as saved
+use Rattle.ts_store.specs.declared.image_writes.SaveOutcome.{SaveOutcome}
+use Rattle.ts_store.specs.declared.image_writes.SaveOutcome.TheVariants as saved
 
 -- ---- the image
 
@@ -41,7 +41,7 @@ abbrev pub held_rows : History → ℕ → List Row
 held_rows h t = rows t h
 
 -- the frame of the image is made, or the image is too long
-abbrev pub Saves : Saved → History → ℕ → Type 0
+abbrev pub Saves : SaveOutcome → History → ℕ → Type 0
 Saves (saved.Framed frame bytes) h most = IsImageOf h frame × HasImage h bytes × (bytes ≤ most)
 Saves (saved.TooLong bytes) h most = HasImage h bytes × (most < bytes)
 Saves saved.NoMemory h most = ⊤

@@ -6,10 +6,10 @@ use Rattle.ts_model.specs.History.{History}
 use Rattle.event_codec.specs.Formed.{IsFormed}
 use Rattle.event_codec.specs.Spelling as spelling
 use Rattle.engine_core.specs.Effects.{IsPreparedFor}
-use Rattle.ts_store.specs.declared.drafts.Draft.{Draft}
+use Rattle.ts_store.specs.declared.drafts.FramedEvent.{FramedEvent}
 
 -- an event that may come next after a history is in its frame and prepared
-pub record IsDraft (h : History) (e : Event) (draft : Draft) : Type 0 where
+pub record IsDraft (h : History) (e : Event) (draft : FramedEvent) : Type 0 where
   pub event : draft.prepared.event ≡ e
   pub fits : IsTrue (allowed h e)
   pub formed : IsFormed e

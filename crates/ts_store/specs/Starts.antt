@@ -6,13 +6,13 @@ use Rattle.engine_core.specs.Histories.{history_of}
 use Rattle.engine_core.specs.Ledgers.{LedgerValue}
 use Rattle.engine_core.specs.Values.{EngineValue, Past}
 use Rattle.txn_journal.specs.Calls.{Logged, IsAtRest, IsTold}
-use Rattle.txn_journal.specs.declared.journals.Standing.TheVariants.{Still}
+use Rattle.txn_journal.specs.declared.journals.JournalState.TheVariants.{Still}
 use Rattle.ts_store.specs.Stands.{Stands, IsDamagedAt, IsSound, content_of}
-use Rattle.ts_store.specs.Stores.{StoreValue, opening, seen}
+use Rattle.ts_store.specs.Stores.{StoreValue, opening_history, history_seen}
 use Rattle.ts_store.specs.declared.histories.HistoryRead.{HistoryRead}
 use Rattle.ts_store.specs.declared.histories.HistoryRead.TheVariants as read
-use Rattle.ts_store.specs.declared.replays.Replayed.{Replayed}
-use Rattle.ts_store.specs.declared.replays.Replayed.TheVariants as replayed
+use Rattle.ts_store.specs.declared.replays.ReplayOutcome.{ReplayOutcome}
+use Rattle.ts_store.specs.declared.replays.ReplayOutcome.TheVariants as replayed
 use Rattle.ts_store.specs.declared.starts.Started.{Started}
 use Rattle.ts_store.specs.declared.starts.Started.TheVariants as started
 
@@ -25,49 +25,49 @@ past_of e = e.past
 abbrev pub told_to : LedgerValue → Past
 told_to l = l.past
 
-abbrev pub disk_of_replayed : {D T : Type 0} → Replayed D T → D
+abbrev pub disk_of_replayed : {D T : Type 0} → ReplayOutcome D T → D
 disk_of_replayed (replayed.Ready journal follower) = journal.disk
 disk_of_replayed (replayed.Damaged disk at) = disk
 disk_of_replayed (replayed.DiskFault disk) = disk
 disk_of_replayed (replayed.NoMemory disk) = disk
 
 -- the file stands for the history that was followed, or is damaged at this place
-abbrev pub Replays : {D T : Type 0} → (T → Past) → Replayed D T → List ℕ → Type 0
+abbrev pub Replays : {D T : Type 0} → (T → Past) → ReplayOutcome D T → List ℕ → Type 0
 Replays past (replayed.Ready journal follower) file = Stands file (history_of (past follower))
 Replays past (replayed.Damaged disk at) file = IsDamagedAt file at
 Replays past (replayed.DiskFault disk) file = ⊤
 Replays past (replayed.NoMemory disk) file = ⊤
 
 -- the count of faults rises with a fault, and else stays
-abbrev pub CountsReplayed : {D T : Type 0} → Replayed D T → ℕ → ℕ → Type 0
+abbrev pub CountsReplayed : {D T : Type 0} → ReplayOutcome D T → ℕ → ℕ → Type 0
 CountsReplayed (replayed.Ready journal follower) before now = now ≡ before
 CountsReplayed (replayed.Damaged disk at) before now = now ≡ before
 CountsReplayed (replayed.DiskFault disk) before now = Rose before now
 CountsReplayed (replayed.NoMemory disk) before now = now ≡ before
 
 -- P of the journal and of the history that was followed
-abbrev pub IfReplayed : {D T : Type 0} → (T → Past) → Replayed D T → (Logged D → History → Type 0) → Type 0
+abbrev pub IfReplayed : {D T : Type 0} → (T → Past) → ReplayOutcome D T → (Logged D → History → Type 0) → Type 0
 IfReplayed past (replayed.Ready journal follower) P = P journal (history_of (past follower))
 IfReplayed past (replayed.Damaged disk at) P = ⊤
 IfReplayed past (replayed.DiskFault disk) P = ⊤
 IfReplayed past (replayed.NoMemory disk) P = ⊤
 
 -- reads of the journal give the events of the history
-abbrev pub TellsReplayed : {D T : Type 0} → (T → Past) → (D → Option (List ℕ)) → Replayed D T → Type 0
+abbrev pub TellsReplayed : {D T : Type 0} → (T → Past) → (D → Option (List ℕ)) → ReplayOutcome D T → Type 0
 TellsReplayed past bytes found = IfReplayed past found (λ journal h. IsTold bytes journal (content_of h))
 
 -- and the journal is at rest with them
 abbrev pub RestsReplayed :
-    {D T : Type 0} → (T → Past) → (D → Option (List ℕ)) → (D → List ℕ → Type 0) → Replayed D T → Type 0
+    {D T : Type 0} → (T → Past) → (D → Option (List ℕ)) → (D → List ℕ → Type 0) → ReplayOutcome D T → Type 0
 RestsReplayed past bytes may_leave found =
     IfReplayed past found (λ journal h. IsAtRest bytes may_leave journal (content_of h))
 
 -- the history may stand in a journal
-abbrev pub SoundReplayed : {D T : Type 0} → (T → Past) → Replayed D T → Type 0
+abbrev pub SoundReplayed : {D T : Type 0} → (T → Past) → ReplayOutcome D T → Type 0
 SoundReplayed past found = IfReplayed past found (λ journal h. IsSound h)
 
 -- the journal didn't stop
-abbrev pub GoesOn : {D T : Type 0} → Replayed D T → Type 0
+abbrev pub GoesOn : {D T : Type 0} → ReplayOutcome D T → Type 0
 GoesOn (replayed.Ready journal follower) = journal.standing ≢ Still
 GoesOn (replayed.Damaged disk at) = ⊤
 GoesOn (replayed.DiskFault disk) = ⊤
@@ -104,7 +104,7 @@ disk_of (started.NoMemory disk) = disk
 
 -- the file stands for the store's history, or is damaged at this place
 abbrev pub Starts : {D : Type 0} → Started D → List ℕ → Type 0
-Starts (started.Ready store) file = Stands file (seen store)
+Starts (started.Ready store) file = Stands file (history_seen store)
 Starts (started.Damaged disk at) file = IsDamagedAt file at
 Starts (started.DiskFault disk) file = ⊤
 Starts (started.NoMemory disk) file = ⊤
@@ -128,5 +128,5 @@ pub record IsNew {D : Type 0} (disk : D) (store : StoreValue D) : Type 0 where
   pub begun : store.begun ≡ disk
   pub goes_on : store.failed ≡ None
   pub unarmed : store.armed ≡ false
-  pub opened : store.opened ≡ position (seen store)
-  pub whole : opening store ≡ seen store
+  pub opened : store.opened ≡ position (history_seen store)
+  pub whole : opening_history store ≡ history_seen store

@@ -9,8 +9,8 @@ use Rattle.ts_model.specs.States.{Origin, State}
 use Rattle.engine_core.specs.Histories.{history_of}
 use Rattle.engine_core.specs.Values.{EngineValue}
 use Rattle.txn_journal.specs.Calls.{Logged, IsAtRest, IsTold}
-use Rattle.txn_journal.specs.declared.journals.Standing.{Standing}
-use Rattle.txn_journal.specs.declared.journals.Standing.TheVariants.{Bare, Ready, Still}
+use Rattle.txn_journal.specs.declared.journals.JournalState.{JournalState}
+use Rattle.txn_journal.specs.declared.journals.JournalState.TheVariants.{Bare, Ready, Still}
 use Rattle.ts_store.specs.Images.{IsDurable, IsBetween, StandsForEither, latest}
 use Rattle.ts_store.specs.Stands.{IsSound, content_of}
 
@@ -45,12 +45,12 @@ abbrev pub known_of : {D : Type 0} → StoreValue D → Known D
 known_of s = record { disk = s.begun; armed = s.armed }
 
 -- its history
-abbrev pub seen : {D : Type 0} → StoreValue D → History
-seen s = history_of s.engine.past
+abbrev pub history_seen : {D : Type 0} → StoreValue D → History
+history_seen s = history_of s.engine.past
 
 -- the history that it was opened with
-abbrev pub opening : {D : Type 0} → StoreValue D → History
-opening s = prefix (seen s) s.opened
+abbrev pub opening_history : {D : Type 0} → StoreValue D → History
+opening_history s = prefix (history_seen s) s.opened
 
 -- the numbers of the events of a history above a position, in order
 abbrev pub numbers_above : ℕ → History → List ℕ
@@ -60,7 +60,7 @@ numbers_above p (h ▸ e) = cond (nat_lt (position h) p) [] (numbers_above p h +
 
 -- the moment of its origin is that of the disk at the start, and its count of faults is the disk's
 abbrev pub origin_of : {D : Type 0} → (D → ℕ) → (D → ℕ) → StoreValue D → Origin
-origin_of faults moment s = record { faults = faults s.begun; opening = opening s; moment = moment s.begun }
+origin_of faults moment s = record { faults = faults s.begun; opening = opening_history s; moment = moment s.begun }
 
 -- the position at which it stands still, if it does
 abbrev pub stop_at : History → Option Event → Option ℕ
@@ -69,33 +69,33 @@ stop_at h failed = cond (is_some failed) (Some (position h)) None
 -- its state: it has made each event after those that it was opened with
 abbrev pub state_of : {D : Type 0} → (D → ℕ) → (D → ℕ) → StoreValue D → State
 state_of faults moment s = record {
-  history = seen s;
+  history = history_seen s;
   failed = s.failed;
   faults = faults s.journal.disk;
-  made = numbers_above s.opened (seen s);
+  made = numbers_above s.opened (history_seen s);
   origin = origin_of faults moment s;
 }
 
 -- a journal stopped
-abbrev pub is_still : Standing → Bool
+abbrev pub is_still : JournalState → Bool
 is_still Bare = false
 is_still Ready = false
 is_still Still = true
 
 -- its journal didn't stop, and reads of it give the events of the history
 abbrev pub Tells : {D : Type 0} → (D → Option (List ℕ)) → StoreValue D → Type 0
-Tells bytes s = IsTold bytes s.journal (content_of (seen s))
+Tells bytes s = IsTold bytes s.journal (content_of (history_seen s))
 
 -- and all of it is on the disk
 abbrev pub Rests : {D : Type 0} → (D → Option (List ℕ)) → (D → List ℕ → Type 0) → StoreValue D → Type 0
-Rests bytes may_leave s = IsAtRest bytes may_leave s.journal (content_of (seen s))
+Rests bytes may_leave s = IsAtRest bytes may_leave s.journal (content_of (history_seen s))
 
 -- what is true of each store. Where the disk told its bytes at the start, it tells of what reads give, and where all of
 -- them were on the disk, of each image since then
 pub record IsKept {D : Type 0} (bytes : D → Option (List ℕ)) (may_leave : D → List ℕ → Type 0) (moment : D → ℕ)
     (left_since : D → ℕ → List ℕ → Type 0) (faults : D → ℕ) (s : StoreValue D) : Type 0 where
-  pub sound : IsSound (seen s)
-  pub from : s.opened ≤ position (seen s)
+  pub sound : IsSound (history_seen s)
+  pub from : s.opened ≤ position (history_seen s)
   -- the count is a number of 64 bits, it hasn't fallen, and it rose where the store stands still
   pub bounded : faults s.begun < 2 ^ 64
   pub counted : faults s.begun ≤ faults s.journal.disk
@@ -108,9 +108,9 @@ pub record IsKept {D : Type 0} (bytes : D → Option (List ℕ)) (may_leave : D 
   pub rests : IsDurable bytes may_leave s.begun → s.failed ≡ None → Rests bytes may_leave s
   -- what reads give
   pub shown : IsSome (bytes s.begun)
-      → IsSomeAnd (bytes s.journal.disk) (StandsForEither (seen s) (latest (seen s) s.failed))
+      → IsSomeAnd (bytes s.journal.disk) (StandsForEither (history_seen s) (latest (history_seen s) s.failed))
   pub images : IsDurable bytes may_leave s.begun → (c : List ℕ) → left_since s.journal.disk (moment s.begun) c
-      → IsBetween (opening s) (seen s) s.failed c
+      → IsBetween (opening_history s) (history_seen s) s.failed c
 
 -- a call that does this, on a store that nobody else changes
 abbrev pub StoreDoes :

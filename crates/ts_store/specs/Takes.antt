@@ -8,8 +8,8 @@ use Rattle.base_image.specs.Spelling as images
 use Rattle.engine_core.specs.Histories.{history_of, past_from, with_event}
 use Rattle.engine_core.specs.Values.{Past}
 use Rattle.ts_store.specs.Stands.{IsNextEvent, IsNoEvent, IsNoImage}
-use Rattle.ts_store.specs.declared.replays.Applied.{Applied}
-use Rattle.ts_store.specs.declared.replays.Applied.TheVariants.{Done, NoEvent, NoMemory}
+use Rattle.ts_store.specs.declared.replays.PayloadOutcome.{PayloadOutcome}
+use Rattle.ts_store.specs.declared.replays.PayloadOutcome.TheVariants.{Done, NoEvent, NoMemory}
 
 -- the event of a payload took effect
 pub record IsTaken (payload : List ℕ) (old new : Past) : Type 0 where
@@ -18,7 +18,7 @@ pub record IsTaken (payload : List ℕ) (old new : Past) : Type 0 where
   pub past : new ≡ with_event old event
 
 -- the event of a payload took effect, or there is none that may come next
-abbrev pub Takes : Applied → List ℕ → Past → Past → Type 0
+abbrev pub Takes : PayloadOutcome → List ℕ → Past → Past → Type 0
 Takes Done payload old new = IsTaken payload old new
 Takes NoEvent payload old new = IsNoEvent (history_of old) payload
 Takes NoMemory payload old new = ⊤
@@ -32,7 +32,7 @@ pub record IsResumed (payload : List ℕ) (new : Past) : Type 0 where
   pub past : new ≡ past_from (Some image)
 
 -- the image of a base took the place of what was there, or the base is no valid image
-abbrev pub Resumes : Applied → List ℕ → Past → Type 0
+abbrev pub Resumes : PayloadOutcome → List ℕ → Past → Type 0
 Resumes Done payload new = IsResumed payload new
 Resumes NoEvent payload new = IsNoImage payload
 Resumes NoMemory payload new = ⊤

@@ -3,18 +3,18 @@ ghost use Rattle.std.specs.Prelude.{◌≡◌, ◌≢◌, ◌<◌, ◌^◌, IsSo
 ghost use Rattle.ts_disk.specs.CrashImage.{LeavesOnly};
 ghost use Rattle.engine_core.specs.Histories.{history_of};
 ghost use Rattle.txn_journal.specs.Calls.{Ends, IfDone, IsAtRest, IsCounted, IsTold};
-ghost use Rattle.txn_journal.specs.Contents.{Content, is_base, raised};
+ghost use Rattle.txn_journal.specs.Contents.{Content, is_base, content_of_version_2};
 ghost use Rattle.txn_journal.specs.Frames.{StandsForEither};
 ghost use Rattle.txn_journal.specs.Reading.{based_on};
-ghost use Rattle.txn_journal.specs.declared.journals.Standing.TheVariants.{Bare, Still};
+ghost use Rattle.txn_journal.specs.declared.journals.JournalState.TheVariants.{Bare, Still};
 ghost use Rattle.txn_journal.specs.declared.versions.Version.TheVariants.{Two};
 ghost use Rattle.ts_store.specs.Checkpoints.{CountsEnd, EndsAs, HoldsImage, IfSaved, IfUntouched, IfWritten, StandsSaved};
 ghost use Rattle.ts_store.specs.Recorders.{RestsIn, TellsIn};
 ghost use Rattle.ts_store.specs.Stands.{IsSound, content_of};
 ghost use Rattle.ts_store.specs.Stores.{is_still};
 
+use crate::image_writes::{SaveOutcome, save};
 use crate::recorders::Recorder;
-use crate::saves::{Saved, save};
 use std::alloc::Global;
 use ts_disk::Disk;
 use txn_journal::{Append, Frame, Journal};
@@ -68,7 +68,7 @@ pub(crate) fn checkpoint<D: Disk>(
     ensures counted { CountsEnd result.end (D.faults recorder.journal.disk) (D.faults result.disk) }
 {
     let mut recorder = recorder;
-    let end = put(alloc, &mut recorder, most);
+    let end = write_image(alloc, &mut recorder, most);
     Checkpointed {
         disk: recorder.into_disk(),
         end,
@@ -76,7 +76,7 @@ pub(crate) fn checkpoint<D: Disk>(
 }
 
 /// The same, and the recorder stays. After a fault of the disk it is of no use.
-fn put<D: Disk>(alloc: Global, recorder: &mut Recorder<D>, most: u64) -> CheckEnd
+fn write_image<D: Disk>(alloc: Global, recorder: &mut Recorder<D>, most: u64) -> CheckEnd
     requires history { IsSound (history_of recorder.old.engine.past) }
     requires still { is_some recorder.old.failed ≡ is_still recorder.old.journal.standing }
     requires headed { recorder.old.journal.standing ≢ Bare }
@@ -100,13 +100,13 @@ fn put<D: Disk>(alloc: Global, recorder: &mut Recorder<D>, most: u64) -> CheckEn
         return CheckEnd::Nothing { pos };
     }
     match save(alloc, &recorder.engine, most) {
-        Saved::Framed { frame, bytes } => match put_base(&mut recorder.journal, &frame) {
+        SaveOutcome::Framed { frame, bytes } => match put_base(&mut recorder.journal, &frame) {
             Append::Done => CheckEnd::Done { pos, bytes },
             Append::DiskFault => CheckEnd::DiskFault,
             Append::Stopped => CheckEnd::Stopped(pos),
         },
-        Saved::TooLong(bytes) => CheckEnd::TooLong { pos, bytes },
-        Saved::NoMemory => CheckEnd::NoMemory,
+        SaveOutcome::TooLong(bytes) => CheckEnd::TooLong { pos, bytes },
+        SaveOutcome::NoMemory => CheckEnd::NoMemory,
     }
 }
 
@@ -117,10 +117,10 @@ fn put_base<D: Disk>(journal: &mut Journal<D>, frame: &Frame) -> Append
     ensures done { (content : Content) → IsTold D.bytes journal.old content
         → IfDone result (IsAtRest D.bytes D.may_leave journal.new (based_on frame.now)) }
     ensures any_moment { (content : Content) → IsAtRest D.bytes D.may_leave journal.old content
-        → raised content ≡ content
+        → content_of_version_2 content ≡ content
         → LeavesOnly D.moment D.left_since journal.old.disk journal.new.disk
         (StandsForEither content (based_on frame.now)) }
-    ensures shown { (content : Content) → IsTold D.bytes journal.old content → raised content ≡ content
+    ensures shown { (content : Content) → IsTold D.bytes journal.old content → content_of_version_2 content ≡ content
         → IsSomeAnd (D.bytes journal.new.disk) (StandsForEither content (based_on frame.now)) }
     ensures ends { Ends result journal.old.standing journal.new.standing }
     ensures counted { IsCounted result (D.faults journal.old.disk) (D.faults journal.new.disk) }

@@ -21,7 +21,7 @@ use txn_journal::{Frame, close_frame, open_frame};
 
 /// An event that is allowed next, in its frame and prepared.
 #[derive(Drop)]
-pub(crate) struct Draft {
+pub(crate) struct FramedEvent {
     pub prepared: Prepared,
     pub frame: Frame,
 }
@@ -56,7 +56,7 @@ pub(crate) fn draft_of(
     engine: &mut Engine,
     event: Event,
     job: Option<Job>,
-) -> Result<Draft, NoMemory>
+) -> Result<FramedEvent, NoMemory>
     requires sound { IsSound (history_of engine.old.past) }
     requires allowed { IsTrue (allowed (history_of engine.old.past) event) }
     requires job { JobIsFor (history_of engine.old.past) event job }
@@ -67,5 +67,5 @@ pub(crate) fn draft_of(
     spelling_law(engine, &event);
     let frame = frame_of(alloc, &event)?;
     let prepared = engine.prepare(event, job)?;
-    Ok(Draft { prepared, frame })
+    Ok(FramedEvent { prepared, frame })
 }

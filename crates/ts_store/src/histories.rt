@@ -4,12 +4,12 @@ ghost use Rattle.std.specs.Thread.{IsSync};
 ghost use Rattle.ts_disk.specs.Disk.{Keeps};
 ghost use Rattle.ts_store.specs.Starts.{CountsRead, CountsReplayed, ReadsHistory, Replays, disk_of_read, disk_of_replayed, told_to};
 
-use crate::replays::{Replayed, replay};
+use crate::replays::{ReplayOutcome, replay};
 use engine_core::Ledger;
 use std::alloc::Global;
 use std::thread::Threads;
 use ts_disk::Disk;
-use txn_journal::{Opened, Reader};
+use txn_journal::{OpenOutcome, Reader};
 
 /// What reading the history of a journal found.
 #[derive(Drop)]
@@ -34,25 +34,30 @@ pub fn read_history<R: Threads + Sync, D: Disk>(rt: &R, alloc: Global, disk: D) 
     ensures counted { CountsRead result (D.faults disk) (D.faults (disk_of_read result)) }
 {
     match Reader::open(alloc, disk) {
-        Opened::Reading(reader) => closed(replay(rt, alloc, reader, Ledger::new(alloc))),
-        Opened::Damaged { disk, at } => HistoryRead::Damaged { disk, at },
-        Opened::DiskFault(disk) => HistoryRead::DiskFault(disk),
+        OpenOutcome::Reading(reader) => close_replayed(replay(
+            rt,
+            alloc,
+            reader,
+            Ledger::new(alloc),
+        )),
+        OpenOutcome::Damaged { disk, at } => HistoryRead::Damaged { disk, at },
+        OpenOutcome::DiskFault(disk) => HistoryRead::DiskFault(disk),
     }
 }
 
 /// What was read of a journal, which is closed.
-fn closed<D: Disk>(replayed: Replayed<D, Ledger>) -> HistoryRead<D>
+fn close_replayed<D: Disk>(replayed: ReplayOutcome<D, Ledger>) -> HistoryRead<D>
     ensures reads { (file : List ℕ) → Replays told_to replayed file → ReadsHistory result file }
     ensures disk { disk_of_read result ≡ disk_of_replayed replayed }
     ensures counted { (before now : ℕ) → CountsReplayed replayed before now → CountsRead result before now }
 {
     match replayed {
-        Replayed::Ready { journal, follower } => HistoryRead::Ready {
+        ReplayOutcome::Ready { journal, follower } => HistoryRead::Ready {
             disk: journal.close(),
             ledger: follower,
         },
-        Replayed::Damaged { disk, at } => HistoryRead::Damaged { disk, at },
-        Replayed::DiskFault(disk) => HistoryRead::DiskFault(disk),
-        Replayed::NoMemory(disk) => HistoryRead::NoMemory(disk),
+        ReplayOutcome::Damaged { disk, at } => HistoryRead::Damaged { disk, at },
+        ReplayOutcome::DiskFault(disk) => HistoryRead::DiskFault(disk),
+        ReplayOutcome::NoMemory(disk) => HistoryRead::NoMemory(disk),
     }
 }

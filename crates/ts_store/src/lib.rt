@@ -11,14 +11,14 @@
 
 mod appends;
 mod backends;
-mod begun;
 mod checkpoints;
 mod drafts;
 mod histories;
+mod image_writes;
+mod initial_value;
 pub mod laws;
 mod recorders;
 mod replays;
-mod saves;
 mod starts;
 mod stores;
 

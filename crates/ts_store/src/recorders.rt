@@ -8,7 +8,7 @@ ghost use Rattle.refresh_build.specs.Fitting.{JobIsFor};
 ghost use Rattle.engine_core.specs.Acts.{making_event};
 ghost use Rattle.engine_core.specs.Histories.{history_of};
 ghost use Rattle.txn_journal.specs.Calls.{IfStopped, IsCounted};
-ghost use Rattle.txn_journal.specs.declared.journals.Standing.TheVariants.{Bare};
+ghost use Rattle.txn_journal.specs.declared.journals.JournalState.TheVariants.{Bare};
 ghost use Rattle.ts_store.specs.Recorders.{ArmsSafely, DoesKept, IsSafeIn, StaysKept};
 ghost use Rattle.ts_store.specs.Drafts.{IsDraft};
 ghost use Rattle.ts_store.specs.Safe.{StopsBy};
@@ -16,7 +16,7 @@ ghost use Rattle.ts_store.specs.Stands.{IsSound};
 ghost use Rattle.ts_store.specs.Stores.{is_still, stop_at};
 
 use crate::appends::append_armed;
-use crate::drafts::{Draft, draft_of};
+use crate::drafts::{FramedEvent, draft_of};
 use engine_core::Engine;
 use refresh_build::Job;
 use std::alloc::Global;
@@ -77,12 +77,12 @@ impl<D: Disk> Recorder<D> {
     {
         match self.engine.check_sound(&event) {
             Err(refusal) => Outcome::Refused(refusal),
-            Ok(()) => self.make_allowed(alloc, event, job),
+            Ok(()) => self.make_checked(alloc, event, job),
         }
     }
 
     /// Makes an event that is allowed next, unless the journal stopped.
-    fn make_allowed(&mut self, alloc: Global, event: Event, job: Option<Job>) -> Outcome<Committed>
+    fn make_checked(&mut self, alloc: Global, event: Event, job: Option<Job>) -> Outcome<Committed>
         requires history { IsSound (history_of self.old.engine.past) }
         requires allowed { IsTrue (allowed (history_of self.old.engine.past) event) }
         requires job { JobIsFor (history_of self.old.engine.past) event job }
@@ -93,12 +93,12 @@ impl<D: Disk> Recorder<D> {
     {
         match self.failed {
             Some(_) => Outcome::Refused(self.stop_refusal()),
-            None => self.make_going(alloc, event, job),
+            None => self.append_event(alloc, event, job),
         }
     }
 
     /// Makes an event that is allowed next, where the journal didn't stop.
-    fn make_going(&mut self, alloc: Global, event: Event, job: Option<Job>) -> Outcome<Committed>
+    fn append_event(&mut self, alloc: Global, event: Event, job: Option<Job>) -> Outcome<Committed>
         requires history { IsSound (history_of self.old.engine.past) }
         requires allowed { IsTrue (allowed (history_of self.old.engine.past) event) }
         requires job { JobIsFor (history_of self.old.engine.past) event job }
@@ -115,7 +115,7 @@ impl<D: Disk> Recorder<D> {
     }
 
     /// Puts an event onto the disk, and then lets it count. It takes no memory.
-    fn put(&mut self, draft: Draft) -> Outcome<Committed>
+    fn put(&mut self, draft: FramedEvent) -> Outcome<Committed>
         requires history { IsSound (history_of self.old.engine.past) }
         requires draft { IsDraft (history_of self.old.engine.past) draft.prepared.event draft }
         requires room { 0 < self.old.engine.room }

@@ -25,7 +25,7 @@ use txn_journal::{Journal, Next, Reader};
 
 /// What reading the events of a journal found.
 #[derive(Drop)]
-pub(crate) enum Replayed<D: Disk, T> {
+pub(crate) enum ReplayOutcome<D: Disk, T> {
     /// The journal, and what followed its history.
     Ready { journal: Journal<D>, follower: T },
     /// The first damaged place.
@@ -38,7 +38,7 @@ pub(crate) enum Replayed<D: Disk, T> {
 
 /// What became of a payload.
 #[derive(Clone, Copy)]
-pub(crate) enum Applied {
+pub(crate) enum PayloadOutcome {
     /// Its event took effect, or its image took the place of what was there.
     Done,
     /// It is the bytes of no event that may come next, or of no valid image.
@@ -53,7 +53,7 @@ pub(crate) fn replay<R: Threads + Sync, D: Disk, T: Follower + Drop>(
     alloc: Global,
     reader: Reader<D>,
     follower: T,
-) -> Replayed<D, T>
+) -> ReplayOutcome<D, T>
     requires sync { IsSync R.row }
     requires empty { T.past follower ≡ past_from None }
     ensures replays { (file : List ℕ) → HasRead D.bytes reader file nothing → Replays T.past result file }
@@ -70,45 +70,49 @@ pub(crate) fn replay<R: Threads + Sync, D: Disk, T: Follower + Drop>(
     'events: loop {
         match reader.next() {
             Next::Base(at) => match take_base(alloc, &mut follower, reader.take_out(alloc)) {
-                Applied::Done => {}
-                Applied::NoEvent => {
-                    return Replayed::Damaged {
+                PayloadOutcome::Done => {}
+                PayloadOutcome::NoEvent => {
+                    return ReplayOutcome::Damaged {
                         disk: reader.close(),
                         at,
                     };
                 }
-                Applied::NoMemory => return Replayed::NoMemory(reader.close()),
+                PayloadOutcome::NoMemory => return ReplayOutcome::NoMemory(reader.close()),
             },
             Next::Payload(at) => match take_payload(rt, alloc, &mut follower, reader.payload()) {
-                Applied::Done => {}
-                Applied::NoEvent => {
-                    return Replayed::Damaged {
+                PayloadOutcome::Done => {}
+                PayloadOutcome::NoEvent => {
+                    return ReplayOutcome::Damaged {
                         disk: reader.close(),
                         at,
                     };
                 }
-                Applied::NoMemory => return Replayed::NoMemory(reader.close()),
+                PayloadOutcome::NoMemory => return ReplayOutcome::NoMemory(reader.close()),
             },
             Next::End => {
-                return Replayed::Ready {
+                return ReplayOutcome::Ready {
                     journal: reader.finish(),
                     follower,
                 };
             }
             Next::Damaged(at) => {
-                return Replayed::Damaged {
+                return ReplayOutcome::Damaged {
                     disk: reader.close(),
                     at,
                 };
             }
-            Next::DiskFault => return Replayed::DiskFault(reader.close()),
-            Next::NoMemory => return Replayed::NoMemory(reader.close()),
+            Next::DiskFault => return ReplayOutcome::DiskFault(reader.close()),
+            Next::NoMemory => return ReplayOutcome::NoMemory(reader.close()),
         }
     }
 }
 
 /// Begins anew at the image of a base. The base's bytes are given back before that.
-fn take_base<T: Follower + Drop>(alloc: Global, follower: &mut T, payload: Seq<u8>) -> Applied
+fn take_base<T: Follower + Drop>(
+    alloc: Global,
+    follower: &mut T,
+    payload: Seq<u8>,
+) -> PayloadOutcome
     ensures resumed { Resumes result payload (T.past follower.new) }
 {
     let found = read(alloc, payload.items());
@@ -117,12 +121,12 @@ fn take_base<T: Follower + Drop>(alloc: Global, follower: &mut T, payload: Seq<u
         ReadImage::Image(image) => match T::begin(alloc, image) {
             Ok(made) => {
                 *follower = made;
-                Applied::Done
+                PayloadOutcome::Done
             }
-            Err(NoMemory) => Applied::NoMemory,
+            Err(NoMemory) => PayloadOutcome::NoMemory,
         },
-        ReadImage::BadImage => Applied::NoEvent,
-        ReadImage::NoMemory => Applied::NoMemory,
+        ReadImage::BadImage => PayloadOutcome::NoEvent,
+        ReadImage::NoMemory => PayloadOutcome::NoMemory,
     }
 }
 
@@ -132,29 +136,33 @@ fn take_payload<R: Threads + Sync, T: Follower>(
     alloc: Global,
     follower: &mut T,
     payload: &[u8],
-) -> Applied
+) -> PayloadOutcome
     requires sync { IsSync R.row }
     ensures taken { Takes result payload.now (T.past follower.old) (T.past follower.new) }
 {
     match decode(alloc, payload) {
         Decoded::Event(event) => take_event(rt, follower, event),
-        Decoded::BadEvent(_) => Applied::NoEvent,
-        Decoded::NoMemory => Applied::NoMemory,
+        Decoded::BadEvent(_) => PayloadOutcome::NoEvent,
+        Decoded::NoMemory => PayloadOutcome::NoMemory,
     }
 }
 
 /// Lets an event take effect, where it is allowed next.
-fn take_event<R: Threads + Sync, T: Follower>(rt: &R, follower: &mut T, event: Event) -> Applied
+fn take_event<R: Threads + Sync, T: Follower>(
+    rt: &R,
+    follower: &mut T,
+    event: Event,
+) -> PayloadOutcome
     requires sync { IsSync R.row }
     requires formed { IsFormed event }
     ensures taken { Takes result (spelling.event event) (T.past follower.old) (T.past follower.new) }
-    ensures memory { result ≡ Applied.NoMemory → IsTrue (allowed (history_of (T.past follower.old)) event) }
+    ensures memory { result ≡ PayloadOutcome.NoMemory → IsTrue (allowed (history_of (T.past follower.old)) event) }
 {
     match follower.check_next(&event) {
         Ok(()) => match follower.follow(rt, event) {
-            Ok(()) => Applied::Done,
-            Err(NoMemory) => Applied::NoMemory,
+            Ok(()) => PayloadOutcome::Done,
+            Err(NoMemory) => PayloadOutcome::NoMemory,
         },
-        Err(_) => Applied::NoEvent,
+        Err(_) => PayloadOutcome::NoEvent,
     }
 }

@@ -7,15 +7,15 @@ ghost use Rattle.ts_store.specs.Starts.{CountsReplayed, CountsStarted, GoesOn, I
 ghost use Rattle.ts_store.specs.Starts.{Starts, TellsReplayed, disk_of, disk_of_replayed, past_of};
 ghost use Rattle.ts_store.specs.Stores.{Rests, Tells};
 
-use crate::begun::Begun;
-use crate::replays::{Replayed, replay};
+use crate::initial_value::InitialValue;
+use crate::replays::{ReplayOutcome, replay};
 use crate::stores::Store;
 use engine_core::Engine;
 use std::alloc::Global;
 use std::thread::Threads;
 use ts_disk::Disk;
 use ts_schema::NoMemory;
-use txn_journal::{Opened, Reader};
+use txn_journal::{OpenOutcome, Reader};
 
 /// What the start of a store found.
 #[derive(Drop)]
@@ -45,20 +45,20 @@ impl<D: Disk> Store<D> {
         ensures kept { Keeps D.bytes D.may_leave D.moment D.left_since disk (disk_of result) }
         ensures counted { CountsStarted result (D.faults disk) (D.faults (disk_of result)) }
     {
-        let begun = Begun::of(&disk);
+        let begun = InitialValue::of(&disk);
         // A count that is read has 64 bits.
         let _faults = disk.faults();
         let Ok(engine) = Engine::new(alloc) else {
             return Started::NoMemory(disk);
         };
         match Reader::open(alloc, disk) {
-            Opened::Reading(reader) => from_replayed(
+            OpenOutcome::Reading(reader) => from_replayed(
                 alloc,
                 begun,
                 replay(rt, alloc, reader, engine),
             ),
-            Opened::Damaged { disk, at } => Started::Damaged { disk, at },
-            Opened::DiskFault(disk) => Started::DiskFault(disk),
+            OpenOutcome::Damaged { disk, at } => Started::Damaged { disk, at },
+            OpenOutcome::DiskFault(disk) => Started::DiskFault(disk),
         }
     }
 }
@@ -66,8 +66,8 @@ impl<D: Disk> Store<D> {
 /// What the start of a store found, on a disk whose journal was read so.
 fn from_replayed<D: Disk>(
     alloc: Global,
-    begun: Begun<D>,
-    replayed: Replayed<D, Engine>,
+    begun: InitialValue<D>,
+    replayed: ReplayOutcome<D, Engine>,
 ) -> Started<D>
     requires bounded { D.faults begun < 2 ^ 64 }
     requires replays { (file : List ℕ) → D.bytes begun ≡ Some file → Replays past_of replayed file }
@@ -87,11 +87,11 @@ fn from_replayed<D: Disk>(
     ensures counted { CountsStarted result (D.faults begun) (D.faults (disk_of result)) }
 {
     match replayed {
-        Replayed::Ready { journal, follower } => {
+        ReplayOutcome::Ready { journal, follower } => {
             Started::Ready(Store::new(alloc, follower, journal, begun))
         }
-        Replayed::Damaged { disk, at } => Started::Damaged { disk, at },
-        Replayed::DiskFault(disk) => Started::DiskFault(disk),
-        Replayed::NoMemory(disk) => Started::NoMemory(disk),
+        ReplayOutcome::Damaged { disk, at } => Started::Damaged { disk, at },
+        ReplayOutcome::DiskFault(disk) => Started::DiskFault(disk),
+        ReplayOutcome::NoMemory(disk) => Started::NoMemory(disk),
     }
 }

@@ -12,10 +12,10 @@ ghost use Rattle.ts_store.specs.Checkpoints.{StandsForImage, StandsSaved};
 ghost use Rattle.ts_store.specs.Images.{BeginSince, HasHeader, IsBetween, IsDurable, StandsForEither, latest};
 ghost use Rattle.ts_store.specs.Safe.{IsSafe, StopsBy};
 ghost use Rattle.ts_store.specs.Stands.{Stands};
-ghost use Rattle.ts_store.specs.Stores.{StoreDoes, IsKept, Rests, Tells, known_of, opening, seen, stop_at, store_at_start};
+ghost use Rattle.ts_store.specs.Stores.{StoreDoes, IsKept, Rests, Tells, known_of, opening_history, history_seen, stop_at, store_at_start};
 
-use crate::begun::Begun;
 use crate::checkpoints::{Checkpointed, checkpoint};
+use crate::initial_value::InitialValue;
 use crate::recorders::Recorder;
 use engine_core::Engine;
 use refresh_build::Job;
@@ -33,7 +33,7 @@ pub struct Store<D: Disk> {
     alloc: Global,
     recorder: Recorder<D>,
     /// The disk as it was at the start.
-    begun: Begun<D>,
+    begun: InitialValue<D>,
     /// The position at which it was opened.
     opened: u64,
     /// Whether the header stands on the disk since a call of `arm`.
@@ -58,7 +58,7 @@ impl<D: Disk> Store<D> {
         alloc: Global,
         engine: Engine,
         journal: Journal<D>,
-        begun: Begun<D>,
+        begun: InitialValue<D>,
     ) -> Store<D>
         requires kept { IsKept D.bytes D.may_leave D.moment D.left_since D.faults
             (store_at_start engine journal begun) }
@@ -97,12 +97,12 @@ impl<D: Disk> Store<D> {
         // A crash at any moment leaves a file that stands for the history.
         ensures any_moment { Rests D.bytes D.may_leave self.old
             → LeavesOnly D.moment D.left_since self.old.journal.disk self.new.journal.disk
-            (λ file. Stands file (seen self.old)) }
+            (λ file. Stands file (history_seen self.old)) }
         // So does what reads give, whether all of it was on the disk or not.
         ensures shown { Tells D.bytes self.old
-            → IsSomeAnd (D.bytes self.new.journal.disk) (λ file. Stands file (seen self.old)) }
+            → IsSomeAnd (D.bytes self.new.journal.disk) (λ file. Stands file (history_seen self.old)) }
         // And since each earlier moment at which there was this one, a crash leaves one that begins with it.
-        ensures earlier { (t : ℕ) (h : History) → Rests D.bytes D.may_leave self.old → Begins h (seen self.old)
+        ensures earlier { (t : ℕ) (h : History) → Rests D.bytes D.may_leave self.old → Begins h (history_seen self.old)
             → t ≤ D.moment self.old.journal.disk
             → BeginSince D.left_since self.old.journal.disk t h → BeginSince D.left_since self.new.journal.disk t h }
         ensures ends { StopsBy result self.old.failed self.new.failed }
@@ -122,14 +122,14 @@ impl<D: Disk> Store<D> {
         ensures disk { result ≡ self.journal.disk }
         // Where the disk told its bytes at the start, this is what reads give.
         ensures shown { IsSome (D.bytes self.begun)
-            → IsSomeAnd (D.bytes result) (StandsForEither (seen self) (latest (seen self) self.failed)) }
+            → IsSomeAnd (D.bytes result) (StandsForEither (history_seen self) (latest (history_seen self) self.failed)) }
         // Where the store was armed, that begins with the header.
         ensures header { self.armed ≡ true → self.failed ≡ None → IsSome (D.bytes self.begun)
             → IsSomeAnd (D.bytes result) HasHeader }
         // And where all was on the disk then, this is what a crash at each moment since might have left.
         ensures images { IsDurable D.bytes D.may_leave self.begun
             → (c : List ℕ) → D.left_since result (D.moment self.begun) c
-            → IsBetween (opening self) (seen self) self.failed c }
+            → IsBetween (opening_history self) (history_seen self) self.failed c }
     {
         let recorder = self.recorder;
         recorder.into_disk()
@@ -145,22 +145,22 @@ impl<D: Disk> Store<D> {
         ensures untouched { IfUntouched result.end (result.disk ≡ self.journal.disk) }
         // A crash at any moment leaves the history, or its image.
         ensures any_moment { Rests D.bytes D.may_leave self → IfWritten result.end
-            (LeavesOnly D.moment D.left_since self.journal.disk result.disk (StandsSaved (seen self))) }
+            (LeavesOnly D.moment D.left_since self.journal.disk result.disk (StandsSaved (history_seen self))) }
         // So does what reads give, whether all of it was on the disk or not.
         ensures shown { Tells D.bytes self → IfWritten result.end
-            (IsSomeAnd (D.bytes result.disk) (StandsSaved (seen self))) }
+            (IsSomeAnd (D.bytes result.disk) (StandsSaved (history_seen self))) }
         // After `Done` it is the image, and nothing else may be left.
         ensures done { Tells D.bytes self → IfSaved result.end
-            (HoldsImage D.bytes D.may_leave result.disk (seen self)) }
+            (HoldsImage D.bytes D.may_leave result.disk (history_seen self)) }
         // And since each earlier moment at which there was one that this begins with, it leaves a history that
         // begins with that, or the image of one.
-        ensures earlier { (t : ℕ) (h : History) → Rests D.bytes D.may_leave self → Begins h (seen self)
+        ensures earlier { (t : ℕ) (h : History) → Rests D.bytes D.may_leave self → Begins h (history_seen self)
             → t ≤ D.moment self.journal.disk → BeginSince D.left_since self.journal.disk t h
             → (c : List ℕ) → D.left_since result.disk t c → BeginsSaved h c }
         // Where all was on the disk at the start, this is what a crash since then might have left.
         ensures images { IsDurable D.bytes D.may_leave self.begun
             → (c : List ℕ) → D.left_since result.disk (D.moment self.begun) c
-            → IsBetween (opening self) (seen self) self.failed c ⊎ StandsForImage (seen self) c }
+            → IsBetween (opening_history self) (history_seen self) self.failed c ⊎ StandsForImage (history_seen self) c }
         // Where nothing was written, what reads give begins with the header.
         ensures header { self.failed ≡ None → IsSome (D.bytes self.begun)
             → IfUntouched result.end (IsSomeAnd (D.bytes result.disk) HasHeader) }
@@ -171,8 +171,8 @@ impl<D: Disk> Store<D> {
 
     /// Makes an event, unless its call is refused. The job of a finish is given up on every answer.
     pub(crate) fn make(&mut self, event: Event, job: Option<Job>) -> Outcome<Committed>
-        requires sound { IsTrue (sound (seen self.old) event) }
-        requires job { JobIsFor (seen self.old) event job }
+        requires sound { IsTrue (sound (history_seen self.old) event) }
+        requires job { JobIsFor (history_seen self.old) event job }
         ensures does { StoreDoes D.faults D.moment (making_event event) self.old result self.new }
         ensures known { known_of self.new ≡ known_of self.old }
         ensures safe { IsSafe D.bytes D.may_leave D.moment D.left_since self.old self.new }
@@ -189,7 +189,7 @@ impl<D: Disk> Store<D> {
 
     /// The position at which the store stands still, if it does.
     pub(crate) fn stop(&self) -> Option<u64>
-        ensures { result ≡ stop_at (seen self.now) self.now.failed }
+        ensures { result ≡ stop_at (history_seen self.now) self.now.failed }
     {
         self.recorder.stop()
     }

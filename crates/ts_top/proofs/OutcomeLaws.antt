@@ -11,8 +11,8 @@ use Rattle.ts_sessions.specs.Script.{opening_script_state}
 use Rattle.ts_top.specs.Scripts.{program_semantics}
 use Rattle.ts_store.specs.Images.{IsBetween, StandsForEither, latest}
 use Rattle.ts_store.specs.Stands.{Stands}
-use Rattle.script_run.specs.Runs.{Left, Executed, StoppedBefore, StoppedWriting, StoppedAtEvent, StoppedWithin, Ran as RanScript, executed, is_read_fault as is_read_fault_of, is_write_fault as is_write_fault_of, is_disk_fault as is_disk_fault_of}
-use Rattle.script_run.specs.Went.{FailedBetween}
+use Rattle.script_run.specs.Runs.{Left, Executed, StoppedBefore, StoppedWriting, StoppedAtEvent, StoppedWithin, Ran as RanScript, executed_lines, is_read_fault as is_read_fault_of, is_write_fault as is_write_fault_of, is_disk_fault as is_disk_fault_of}
+use Rattle.script_run.specs.RunStates.{FailedBetween}
 use Rattle.script_run.proofs.LineLaws.{line_begins}
 use Rattle.script_run.specs.declared.ends.RunEnd.{RunEnd}
 use Rattle.script_run.specs.declared.ends.RunEnd.TheVariants as ends
@@ -139,19 +139,19 @@ module _ (told : Type 0) (left : List ℕ → Type 0) (unread unprinted kept : T
   -- what the call has done whose script ended so
   pub told_run : (end : RunEnd) → stands_still s ≡ is_disk_fault_of end → IfSome o.file_before (λ file. Stands file h) → IfSome o.input (λ input. RanScript end program_semantics h input o.rest (left_of s o)) → RanTo (status_of end) told left unread unprinted kept o
   told_run ends.Done still stood ran =
-      record { opening = h; stood = stood; ran = if_some o.input _ _ (λ input r. (r.0, r.2, ran_whole (executed input) (none_there s.failed still) r.1)) ran }
+      record { opening = h; stood = stood; ran = if_some o.input _ _ (λ input r. (r.0, r.2, ran_whole (executed_lines input) (none_there s.failed still) r.1)) ran }
   told_run ends.Refused still stood ran =
-      record { opening = h; stood = stood; ran = if_some o.input _ _ (λ input r. (r.0, r.2, ran_whole (executed input) (none_there s.failed still) r.1)) ran }
+      record { opening = h; stood = stood; ran = if_some o.input _ _ (λ input r. (r.0, r.2, ran_whole (executed_lines input) (none_there s.failed still) r.1)) ran }
   told_run ends.ReadFault still stood ran =
-      record { opening = h; stood = stood; ran = if_some o.input _ _ (λ input r. ran_before (executed input) (none_there s.failed still) r) ran }
+      record { opening = h; stood = stood; ran = if_some o.input _ _ (λ input r. ran_before (executed_lines input) (none_there s.failed still) r) ran }
   told_run ends.WriteFault still stood ran =
-      record { opening = h; stood = stood; ran = if_some o.input _ _ (λ input r. ran_writing (executed input) (none_there s.failed still) r) ran }
+      record { opening = h; stood = stood; ran = if_some o.input _ _ (λ input r. ran_writing (executed_lines input) (none_there s.failed still) r) ran }
   told_run ends.DiskFault still stood ran =
-      inr (record { opening = h; stood = stood; ran = if_some o.input _ _ (λ input r. ran_at_event (executed input) r) ran })
+      inr (record { opening = h; stood = stood; ran = if_some o.input _ _ (λ input r. ran_at_event (executed_lines input) r) ran })
   told_run ends.NoMemory still stood ran =
-      inr (record { opening = h; stood = stood; ran = if_some o.input _ _ (λ input r. ran_within (executed input) (none_there s.failed still) r) ran })
+      inr (record { opening = h; stood = stood; ran = if_some o.input _ _ (λ input r. ran_within (executed_lines input) (none_there s.failed still) r) ran })
   told_run ends.InputLong still stood ran =
-      record { opening = h; stood = stood; ran = if_some o.input _ _ (λ input r. (r.0, ran_whole (executed input) (none_there s.failed still) r.1)) ran }
+      record { opening = h; stood = stood; ran = if_some o.input _ _ (λ input r. (r.0, ran_whole (executed_lines input) (none_there s.failed still) r.1)) ran }
 
 -- a run that read its source went on from a header, where the disk didn't fail
 pub headed : (end : RunEnd) (P : Type 0) → (is_disk_fault_of end ≡ false → P) → IfWentOn (status_of end) P

@@ -13,11 +13,11 @@ use Rattle.ts_model.proofs.HistoryLaws.{position_begins}
 use Rattle.shared_store.specs.Wrapped.{GoesOn}
 use Rattle.ts_store.specs.Images.{IsBetween, StandsForEither, StandsForMore, latest}
 use Rattle.ts_store.specs.Stands.{Stands}
-use Rattle.par_lines.specs.Sorted.{sorted}
+use Rattle.par_lines.specs.Sorted.{sorted_lines}
 use Rattle.ts_top.specs.Scripts.{first_places, program_replies}
 use Rattle.par_run.specs.Crews.{LinesRan}
 use Rattle.par_run.specs.Outputs.{Output}
-use Rattle.run_transcript.specs.Made.{transcript_in}
+use Rattle.par_transcript.specs.Made.{transcript_in}
 use Rattle.audit_laws.specs.Laws.{ExplainedUnlessPolicies}
 use Rattle.audit_laws.proofs.RunLaws.{runs_explained}
 use Rattle.par_run.specs.Ends.{is_disk_fault as is_disk_fault_of}
@@ -64,7 +64,7 @@ either_more h seen failed file b (inr stands) = record { all = latest seen faile
 
 module _ (told : Type 0) (left : List ℕ → Type 0) (sink_failed : Type 0) (h : History) (input : List ℕ) (reads : ℕ) (before written file : Option (List ℕ)) (s : State) (out : Output) (closed : Closed told left h s file) where
   abbrev pub Ran : Type 0
-  Ran = LinesRan program_replies first_places h (sorted input) s out reads
+  Ran = LinesRan program_replies first_places h (sorted_lines input) s out reads
 
   by_workers : (stopped : Bool) (Faulted : Bool → Type 0) (Wrote : History → Output → Type 0) → Ran → stands_still s ≡ stopped → Faulted out.fault → Wrote s.history out → ByWorkers told left h input reads stopped Faulted Wrote file
   by_workers stopped Faulted Wrote ran stops faulted wrote = record {

@@ -38,11 +38,11 @@ of_words word next =
     else None
 
 -- the command that words are
-abbrev pub named : List (List ℕ) → Option Command
-named [] = None
-named (word ∷ []) = of_word word
-named (word ∷ next ∷ []) = of_words word next
-named (word ∷ next ∷ last ∷ more) = None
+abbrev pub command_of_words : List (List ℕ) → Option Command
+command_of_words [] = None
+command_of_words (word ∷ []) = of_word word
+command_of_words (word ∷ next ∷ []) = of_words word next
+command_of_words (word ∷ next ∷ last ∷ more) = None
 
 -- the words without a first `--`
 abbrev pub after_dashes : List (List ℕ) → List (List ℕ)
@@ -51,7 +51,7 @@ after_dashes (word ∷ words) = if bytes_eq word (codes "--") then words else wo
 
 -- what words ask for
 abbrev pub command_of : List (List ℕ) → Option Command
-command_of words = named (after_dashes words)
+command_of words = command_of_words (after_dashes words)
 
 -- whether a command writes to the journal
 abbrev pub writes : Command → Bool

@@ -7,7 +7,7 @@ use Rattle.ts_model.specs.History.{History, Begins}
 use Rattle.ts_schema.specs.Counts.{raised_by}
 use Rattle.ts_store.specs.Images.{HasHeader, IsDurable}
 use Rattle.ts_store.specs.Stands.{Stands, IsDamagedAt}
-use Rattle.script_run.specs.Runs.{ReadWhole, executed}
+use Rattle.script_run.specs.Runs.{ReadWhole, executed_lines}
 use Rattle.ts_top.specs.Scripts.{replies_of, reply_after, history_after, rows_read, is_faulted}
 use Rattle.ts_top.specs.declared.endings.Status.{Status}
 use Rattle.ts_top.specs.declared.endings.Status.TheVariants.{Done, Refused, BadWords, ReadFault, WriteFault, DiskFault, Damaged, NoMemory, InputLong}
@@ -133,23 +133,23 @@ IsDamaged at o = IfSome o.file_before (λ file. IsDamagedAt file at)
 abbrev pub RanTo : Status → Type 0 → (List ℕ → Type 0) → Type 0 → Type 0 → Type 0 → Outside → Type 0
 RanTo Done told left unread unprinted kept o =
     OverScript o
-    (λ h input. ReadWhole input o.rest × (is_faulted h input ≡ false) × RanWhole told left h (executed input) o)
+    (λ h input. ReadWhole input o.rest × (is_faulted h input ≡ false) × RanWhole told left h (executed_lines input) o)
 RanTo Refused told left unread unprinted kept o =
     OverScript o
-    (λ h input. ReadWhole input o.rest × (is_faulted h input ≡ true) × RanWhole told left h (executed input) o)
+    (λ h input. ReadWhole input o.rest × (is_faulted h input ≡ true) × RanWhole told left h (executed_lines input) o)
 RanTo BadWords told left unread unprinted kept o = ⊥
 RanTo ReadFault told left unread unprinted kept o =
-    OverScript o (λ h input. RanBefore told left h (executed input) o)
+    OverScript o (λ h input. RanBefore told left h (executed_lines input) o)
 RanTo WriteFault told left unread unprinted kept o =
-    OverScript o (λ h input. RanWriting told left h (executed input) o)
+    OverScript o (λ h input. RanWriting told left h (executed_lines input) o)
 RanTo DiskFault told left unread unprinted kept o =
     NotBegun told left unread unprinted kept o
-    ⊎ OverScript o (λ h input. RanWithin told left h (executed input) o)
+    ⊎ OverScript o (λ h input. RanWithin told left h (executed_lines input) o)
 RanTo (Damaged at) told left unread unprinted kept o = Untouched unread unprinted kept × IsDamaged at o
 RanTo NoMemory told left unread unprinted kept o =
-    Untouched unread unprinted kept ⊎ OverScript o (λ h input. RanWithin told left h (executed input) o)
+    Untouched unread unprinted kept ⊎ OverScript o (λ h input. RanWithin told left h (executed_lines input) o)
 RanTo InputLong told left unread unprinted kept o =
-    OverScript o (λ h input. (INPUT_LIMIT < length input) × RanWhole told left h (executed input) o)
+    OverScript o (λ h input. (INPUT_LIMIT < length input) × RanWhole told left h (executed_lines input) o)
 
 -- P of a call that opened the journal, and that neither the disk nor want of memory ended
 abbrev pub IfWentOn : Status → Type 0 → Type 0

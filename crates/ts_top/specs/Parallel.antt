@@ -10,7 +10,7 @@ use Rattle.ts_top.specs.Scripts.{first_places, program_replies}
 use Rattle.ts_store.specs.Images.{IsBetween, StandsForEither, StandsForMore, latest}
 use Rattle.ts_store.specs.Stands.{Stands}
 use Rattle.script_run.specs.Runs.{ReadWhole}
-use Rattle.par_lines.specs.Sorted.{sorted}
+use Rattle.par_lines.specs.Sorted.{sorted_lines}
 use Rattle.par_run.specs.Crews.{LinesRan}
 use Rattle.par_run.specs.Outputs.{Output}
 use Rattle.par_run.specs.declared.ends.ParStop.{ParStop}
@@ -18,11 +18,11 @@ use Rattle.par_run.specs.declared.ends.ParStop.TheVariants as stops
 use Rattle.transcript.specs.Ascii.{is_ascii_transcript}
 use Rattle.transcript.specs.Text.{transcript_text}
 use Rattle.transcript.specs.declared.transcripts.Transcript.{Transcript}
-use Rattle.run_transcript.specs.Made.{transcript_in}
+use Rattle.par_transcript.specs.Made.{transcript_in}
 use Rattle.audit_laws.specs.Laws.{ExplainedUnlessPolicies}
 use Rattle.ts_top.specs.declared.parallel.Replies.{Replies}
 use Rattle.ts_top.specs.declared.parallel.Replies.TheVariants.{Plain, Json}
-use Rattle.ts_top.specs.declared.parallel.Replied.{Replied}
+use Rattle.ts_top.specs.declared.parallel.RunReplies.{RunReplies}
 use Rattle.ts_top.specs.declared.endings.Status.{Status}
 use Rattle.ts_top.specs.declared.endings.Status.TheVariants.{Done, Refused, BadWords, ReadFault, WriteFault, DiskFault, Damaged, NoMemory, InputLong}
 use Rattle.ts_top.specs.Endings.{is_disk_fault, is_write_fault, status_answered}
@@ -31,7 +31,7 @@ use Rattle.ts_top.specs.Outcomes.{Outside, Holds, IsDamaged, NotBegun, Over, Ove
 -- ---- what is printed
 
 -- what the sessions of a run were replied, as an output
-abbrev pub output_in : Replied → Output
+abbrev pub output_in : RunReplies → Output
 output_in r = record { text = r.text; fault = r.fault; names = r.names; lines = r.lines }
 
 -- this was written of the text of a transcript, which is ASCII and begins at a position of 64 bits
@@ -72,7 +72,7 @@ pub record ByWorkers (told : Type 0) (left : List ℕ → Type 0) (h : History) 
     (file : Option (List ℕ)) : Type 0 where
   pub state : State
   pub out : Output
-  pub ran : LinesRan program_replies first_places h (sorted input) state out reads
+  pub ran : LinesRan program_replies first_places h (sorted_lines input) state out reads
   pub stops : stands_still state ≡ stopped
   pub faulted : Faulted out.fault
   pub wrote : Wrote state.history out

@@ -6,7 +6,7 @@ use Rattle.ts_sessions.specs.Procedures.{Procedure}
 use Rattle.ts_sessions.specs.Replies.{reply_to}
 use Rattle.ts_sessions.specs.Script.{Semantics, session_semantics}
 use Rattle.policy_jobs.specs.Turns.{PolicyPlaces, policy_does, policy_semantics}
-use Rattle.script_run.specs.Runs.{executed, has_fault, history_of, output_of, result_after, reads_of}
+use Rattle.script_run.specs.Runs.{executed_lines, has_fault, history_of, output_of, result_after, reads_of}
 
 -- what the lines of the program mean: those of sessions with policies
 abbrev pub program_semantics : Semantics (PolicyPlaces Places)
@@ -38,4 +38,4 @@ rows_read h lines = reads_of program_semantics h lines
 
 -- one of the replies to a script is a FAULT
 abbrev pub is_faulted : History → List ℕ → Bool
-is_faulted h input = has_fault program_semantics h (executed input)
+is_faulted h input = has_fault program_semantics h (executed_lines input)

@@ -4,7 +4,7 @@ ghost use Rattle.ts_disk.specs.Disk.{Keeps};
 ghost use Rattle.ts_io.specs.Faults.{Counted};
 ghost use Rattle.ts_store.specs.Images.{IsDurable};
 ghost use Rattle.ts_store.specs.Stands.{Stands};
-ghost use Rattle.ts_store.specs.Stores.{Rests, Tells, opening, seen};
+ghost use Rattle.ts_store.specs.Stores.{Rests, Tells, opening_history, history_seen};
 ghost use Rattle.ts_top.specs.Checkpoints.{CheckpointTo, Prints, TellsEnd, nothing_text, saved_text, too_long_text};
 ghost use Rattle.ts_top.specs.Endings.{is_disk_fault, is_read_fault, is_write_fault};
 ghost use Rattle.ts_top.specs.Outcomes.{HeaderAfter, IfWentOn, LeftAfter};
@@ -99,12 +99,12 @@ fn tell_end<K: Sink>(sink: &mut K, end: CheckEnd) -> Status
 fn save<K: Sink, D: Disk>(sink: &mut K, store: Store<D>) -> Ended<D>
     requires goes_on { store.failed ≡ None }
     requires armed { store.armed ≡ true }
-    requires whole { opening store ≡ seen store }
-    requires stands { (file : List ℕ) → D.bytes store.begun ≡ Some file → Stands file (seen store) }
+    requires whole { opening_history store ≡ history_seen store }
+    requires stands { (file : List ℕ) → D.bytes store.begun ≡ Some file → Stands file (history_seen store) }
     requires tells { IsSome (D.bytes store.begun) → Tells D.bytes store }
     requires rests { IsDurable D.bytes D.may_leave store.begun → Rests D.bytes D.may_leave store }
     requires images { (c : List ℕ)
-        → LeftAfter D.bytes D.may_leave D.moment D.left_since store.begun store.journal.disk c → Stands c (seen store) }
+        → LeftAfter D.bytes D.may_leave D.moment D.left_since store.begun store.journal.disk c → Stands c (history_seen store) }
     ensures outcome { (input rest : Option (List ℕ)) → CheckpointTo result.status
         (IsSome (D.bytes store.begun)) (LeftAfter D.bytes D.may_leave D.moment D.left_since store.begun result.disk)
         (sink.new ≡ sink.old) ⊥ (record {

@@ -1,6 +1,6 @@
 //! What the words of the command line ask for.
 ghost use Rattle.std.specs.Prelude.{◌≡◌, map, string_bytes};
-ghost use Rattle.ts_top.specs.Commands.{command_of, demo_number, is_digit, named, number_from, of_word, of_words, writes};
+ghost use Rattle.ts_top.specs.Commands.{command_of, demo_number, is_digit, command_of_words, number_from, of_word, of_words, writes};
 
 /// What there is to ask for.
 #[derive(Clone, Copy, Debug, PartialEq, Eq)]
@@ -116,8 +116,8 @@ fn of_words(word: &str, next: &str) -> Option<Command>
 }
 
 /// The command that these words are.
-fn named(words: &[String]) -> Option<Command>
-    ensures { result ≡ named (map string_bytes words.now) }
+fn command_named(words: &[String]) -> Option<Command>
+    ensures { result ≡ command_of_words (map string_bytes words.now) }
 {
     match words {
         [word] => of_word(word.as_str()),
@@ -131,7 +131,7 @@ pub fn command_of(words: &[String]) -> Option<Command>
     ensures { result ≡ command_of (map string_bytes words.now) }
 {
     match words {
-        [first, rest @ ..] if first.as_str() == "--" => named(rest),
-        _ => named(words),
+        [first, rest @ ..] if first.as_str() == "--" => command_named(rest),
+        _ => command_named(words),
     }
 }

@@ -4,7 +4,7 @@ ghost use Rattle.ts_disk.specs.Disk.{Keeps};
 ghost use Rattle.ts_io.specs.Faults.{Counted};
 ghost use Rattle.ts_store.specs.Images.{IsDurable};
 ghost use Rattle.ts_store.specs.Stands.{Stands};
-ghost use Rattle.ts_store.specs.Stores.{Rests, Tells, opening, seen};
+ghost use Rattle.ts_store.specs.Stores.{Rests, Tells, opening_history, history_seen};
 ghost use Rattle.ts_top.specs.Endings.{is_disk_fault};
 ghost use Rattle.ts_top.specs.Openings.{NotOpened};
 ghost use Rattle.ts_top.specs.Outcomes.{LeftAfter};
@@ -17,14 +17,14 @@ use ts_store::{Started, Store};
 use txn_journal::Append;
 
 /// Writes the header of the journal of a store at its start, where there is none.
-fn armed<D: Disk>(mut store: Store<D>) -> Result<Store<D>, Ended<D>>
+fn write_header<D: Disk>(mut store: Store<D>) -> Result<Store<D>, Ended<D>>
     requires goes_on { store.failed ≡ None }
-    requires whole { opening store ≡ seen store }
+    requires whole { opening_history store ≡ history_seen store }
     ensures begun { IfOk result (λ ready. ready.begun ≡ store.begun) }
-    ensures history { IfOk result (λ ready. seen ready ≡ seen store) }
+    ensures history { IfOk result (λ ready. history_seen ready ≡ history_seen store) }
     ensures goes_on { IfOk result (λ ready. ready.failed ≡ None) }
     ensures armed { IfOk result (λ ready. ready.armed ≡ true) }
-    ensures whole { IfOk result (λ ready. opening ready ≡ seen ready) }
+    ensures whole { IfOk result (λ ready. opening_history ready ≡ history_seen ready) }
     ensures tells { (IsSome (D.bytes store.begun) → Tells D.bytes store)
         → IfOk result (λ ready. IsSome (D.bytes store.begun) → Tells D.bytes ready) }
     ensures rests { (IsDurable D.bytes D.may_leave store.begun → Rests D.bytes D.may_leave store)
@@ -32,10 +32,10 @@ fn armed<D: Disk>(mut store: Store<D>) -> Result<Store<D>, Ended<D>>
     ensures images { (IsDurable D.bytes D.may_leave store.begun → Rests D.bytes D.may_leave store)
         → Keeps D.bytes D.may_leave D.moment D.left_since store.begun store.journal.disk
         → IfOk result (λ ready. (c : List ℕ)
-        → LeftAfter D.bytes D.may_leave D.moment D.left_since store.begun ready.journal.disk c → Stands c (seen ready)) }
+        → LeftAfter D.bytes D.may_leave D.moment D.left_since store.begun ready.journal.disk c → Stands c (history_seen ready)) }
     ensures counted { IfOk result (λ ready. D.faults ready.journal.disk ≡ D.faults store.journal.disk) }
     ensures ended { IfErr result (λ end. (before : Option (List ℕ))
-        → IfSome before (λ file. Stands file (seen store))
+        → IfSome before (λ file. Stands file (history_seen store))
         → (IsSome (D.bytes store.begun) → Tells D.bytes store)
         → (IsDurable D.bytes D.may_leave store.begun → Rests D.bytes D.may_leave store)
         → Keeps D.bytes D.may_leave D.moment D.left_since store.begun store.journal.disk
@@ -70,15 +70,15 @@ pub(crate) fn open<R: Threads + Sync, D: Disk>(
     disk: D,
 ) -> Result<Store<D>, Ended<D>>
     ensures begun { IfOk result (λ store. store.begun ≡ disk) }
-    ensures stands { IfOk result (λ store. (file : List ℕ) → D.bytes disk ≡ Some file → Stands file (seen store)) }
+    ensures stands { IfOk result (λ store. (file : List ℕ) → D.bytes disk ≡ Some file → Stands file (history_seen store)) }
     ensures goes_on { IfOk result (λ store. store.failed ≡ None) }
     ensures armed { IfOk result (λ store. store.armed ≡ true) }
-    ensures whole { IfOk result (λ store. opening store ≡ seen store) }
+    ensures whole { IfOk result (λ store. opening_history store ≡ history_seen store) }
     ensures tells { IfOk result (λ store. IsSome (D.bytes disk) → Tells D.bytes store) }
     ensures rests { IfOk result (λ store.
         IsDurable D.bytes D.may_leave disk → Rests D.bytes D.may_leave store) }
     ensures images { IfOk result (λ store. (c : List ℕ)
-        → LeftAfter D.bytes D.may_leave D.moment D.left_since disk store.journal.disk c → Stands c (seen store)) }
+        → LeftAfter D.bytes D.may_leave D.moment D.left_since disk store.journal.disk c → Stands c (history_seen store)) }
     ensures counted { IfOk result (λ store. D.faults store.journal.disk ≡ D.faults disk) }
     ensures ended { IfErr result (λ end. NotOpened end.status
         (IsSome (D.bytes disk)) (LeftAfter D.bytes D.may_leave D.moment D.left_since disk end.disk)
@@ -87,7 +87,7 @@ pub(crate) fn open<R: Threads + Sync, D: Disk>(
     ensures disk { IfErr result (λ end. Counted (D.faults disk) (D.faults end.disk) (is_disk_fault end.status)) }
 {
     match Store::start(rt, alloc, disk) {
-        Started::Ready(store) => armed(store),
+        Started::Ready(store) => write_header(store),
         Started::Damaged { disk, at } => Err(Ended {
             status: Status::Damaged(at),
             disk,

@@ -9,14 +9,14 @@ ghost use Rattle.ts_model.specs.History.{position};
 ghost use Rattle.ts_model.specs.States.{stands_still};
 ghost use Rattle.ts_top.specs.Scripts.{first_places, program_replies};
 ghost use Rattle.shared_store.specs.Wrapped.{GoesOn};
-ghost use Rattle.par_lines.specs.Sorted.{sorted};
+ghost use Rattle.par_lines.specs.Sorted.{sorted_lines};
 ghost use Rattle.par_run.specs.Crews.{LinesRan};
 ghost use Rattle.par_run.specs.Ends.{is_disk_fault};
 ghost use Rattle.par_run.specs.Outputs.{output_of};
 ghost use Rattle.ts_store.specs.Images.{HasHeader};
 ghost use Rattle.ts_store.specs.Stands.{Stands};
-ghost use Rattle.ts_store.specs.Stores.{opening, seen};
-ghost use Rattle.run_transcript.specs.Made.{transcript_in, transcript_of};
+ghost use Rattle.ts_store.specs.Stores.{opening_history, history_seen};
+ghost use Rattle.par_transcript.specs.Made.{transcript_in, transcript_of};
 ghost use Rattle.transcript.specs.Ascii.{is_ascii_transcript};
 ghost use Rattle.ts_top.specs.Endings.{is_read_fault, is_write_fault};
 ghost use Rattle.ts_top.specs.Outcomes.{Holds, HeaderAfter, LeftAfter};
@@ -25,8 +25,8 @@ ghost use Rattle.ts_top.specs.Parallel.{CountedAfterDisk, CountedAfterPrinting, 
 use crate::endings::{Ended, Status, status_answered};
 use crate::openings::open;
 use par_run::{ParEnd, ParLine, ParStop, par as run_in_parallel};
+use par_transcript::transcript_of;
 use policy_jobs::PolicySession;
-use run_transcript::transcript_of;
 use std::alloc::Global;
 use std::mem::forget;
 use std::sync::Wait;
@@ -50,7 +50,7 @@ pub(crate) enum Replies {
 
 /// What the sessions of a parallel run were replied.
 #[derive(Drop)]
-struct Replied {
+struct RunReplies {
     /// The position at which the run began.
     start: u64,
     /// The refusals of lines that no session answers, and then all replies.
@@ -66,14 +66,14 @@ struct Replied {
 }
 
 /// A call that ended so without a statement, over a store whose journal has its header.
-fn closed<D: Disk>(store: Store<D>, status: Status) -> Ended<D>
+fn close_store<D: Disk>(store: Store<D>, status: Status) -> Ended<D>
     requires goes_on { store.failed ≡ None }
     requires armed { store.armed ≡ true }
-    requires whole { opening store ≡ seen store }
+    requires whole { opening_history store ≡ history_seen store }
     ensures status { result.status ≡ status }
-    ensures holds { IsSome (D.bytes store.begun) → Holds (D.bytes result.disk) (seen store) }
+    ensures holds { IsSome (D.bytes store.begun) → Holds (D.bytes result.disk) (history_seen store) }
     ensures images { (c : List ℕ)
-        → LeftAfter D.bytes D.may_leave D.moment D.left_since store.begun result.disk c → Stands c (seen store) }
+        → LeftAfter D.bytes D.may_leave D.moment D.left_since store.begun result.disk c → Stands c (history_seen store) }
     ensures header { IsSome (D.bytes store.begun) → IsSomeAnd (D.bytes result.disk) HasHeader }
     ensures counted { D.faults result.disk ≡ D.faults store.journal.disk }
 {
@@ -160,12 +160,12 @@ fn print_executed<K: Sink>(
 
 /// Prints the transcript of a parallel run, and tells how the call ends. Where the disk failed, or memory ran
 /// out, nothing is printed.
-fn print_transcript<K: Sink>(alloc: Global, sink: &mut K, replied: Replied) -> Status
+fn print_transcript<K: Sink>(alloc: Global, sink: &mut K, replied: RunReplies) -> Status
     ensures prints { PrintsTranscript replied.stop replied.fault (transcript_in replied.start (output_in replied))
         result (K.written sink.old) (K.written sink.new) }
     ensures counted { Counted (K.faults sink.old) (K.faults sink.new) (is_write_fault result) }
 {
-    let Replied {
+    let RunReplies {
         start,
         text,
         fault,
@@ -183,7 +183,7 @@ fn print_transcript<K: Sink>(alloc: Global, sink: &mut K, replied: Replied) -> S
 }
 
 /// Prints a parallel run, and tells how the call ends.
-fn print_run<K: Sink>(alloc: Global, replies: Replies, sink: &mut K, replied: Replied) -> Status
+fn print_run<K: Sink>(alloc: Global, replies: Replies, sink: &mut K, replied: RunReplies) -> Status
     ensures prints { Prints replies replied.stop replied.start (output_in replied) result
         (Rose (K.faults sink.old) (K.faults sink.new)) (K.written sink.old) (K.written sink.new) }
     ensures counted { CountedAfterPrinting replies result (K.faults sink.old) (K.faults sink.new) }
@@ -212,7 +212,7 @@ where
     requires going { stands_still (B.state backend) ≡ false }
     requires within { length input.now ≤ INPUT_LIMIT }
     ensures ran { result.stop ≢ ParStop.NoMemory → LinesRan program_replies first_places
-        (B.state backend).history (sorted input.now) (B.state result.backend) (output_of result) result.reads }
+        (B.state backend).history (sorted_lines input.now) (B.state result.backend) (output_of result) result.reads }
     ensures start { result.start ≡ position (B.state backend).history }
     ensures stop { result.stop ≢ ParStop.NoMemory
         → stands_still (B.state result.backend) ≡ is_disk_fault result.stop }
@@ -239,11 +239,11 @@ where
     G: Gate + Sync,
     requires goes_on { store.failed ≡ None }
     requires armed { store.armed ≡ true }
-    requires whole { opening store ≡ seen store }
+    requires whole { opening_history store ≡ history_seen store }
     requires within { length input.now ≤ INPUT_LIMIT }
     ensures ran { InputTo replies result.status
         (IsSome (D.bytes store.begun)) (LeftAfter D.bytes D.may_leave D.moment D.left_since store.begun result.disk)
-        (Rose (K.faults sink.old) (K.faults sink.new)) (seen store) input.now result.reads
+        (Rose (K.faults sink.old) (K.faults sink.new)) (history_seen store) input.now result.reads
         (K.written sink.old) (K.written sink.new) (D.bytes result.disk) }
     ensures header { HeaderAfter result.status (IsSome (D.bytes store.begun)) (D.bytes result.disk) }
     ensures writes { CountedAfterPrinting replies result.status (K.faults sink.old) (K.faults sink.new) }
@@ -259,7 +259,7 @@ where
         reads,
         stop,
     } = run_sessions(rt, alloc, store, input, gate);
-    let replied = Replied {
+    let replied = RunReplies {
         start,
         text,
         fault,
@@ -295,8 +295,8 @@ where
     requires untold { S.ended source.old ≡ false }
     requires goes_on { store.failed ≡ None }
     requires armed { store.armed ≡ true }
-    requires whole { opening store ≡ seen store }
-    ensures outcome { (before : Option (List ℕ)) → IfSome before (λ file. Stands file (seen store))
+    requires whole { opening_history store ≡ history_seen store }
+    ensures outcome { (before : Option (List ℕ)) → IfSome before (λ file. Stands file (history_seen store))
         → ParTo replies result.status
         (IsSome (D.bytes store.begun)) (LeftAfter D.bytes D.may_leave D.moment D.left_since store.begun result.disk)
         (Rose (K.faults sink.old) (K.faults sink.new))
@@ -317,9 +317,9 @@ where
     let mut input = Vec::new(alloc);
     match read_all(source, &mut input) {
         AllEnd::End => run_input(rt, alloc, replies, &input, sink, store, gate),
-        AllEnd::InputLong => closed(store, Status::InputLong),
-        AllEnd::ReadFault => closed(store, Status::ReadFault),
-        AllEnd::NoMemory => closed(store, Status::NoMemory),
+        AllEnd::InputLong => close_store(store, Status::InputLong),
+        AllEnd::ReadFault => close_store(store, Status::ReadFault),
+        AllEnd::NoMemory => close_store(store, Status::NoMemory),
     }
 }
 

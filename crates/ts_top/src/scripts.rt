@@ -3,7 +3,7 @@ ghost use Rattle.std.specs.Prelude.{◌≡◌, ℕ, List, None, Option, false, t
 ghost use Rattle.ts_disk.specs.Disk.{Keeps};
 ghost use Rattle.ts_io.specs.Faults.{Counted};
 ghost use Rattle.ts_store.specs.Stands.{Stands};
-ghost use Rattle.ts_store.specs.Stores.{opening, seen};
+ghost use Rattle.ts_store.specs.Stores.{opening_history, history_seen};
 ghost use Rattle.ts_top.specs.Endings.{is_disk_fault, is_read_fault, is_write_fault};
 ghost use Rattle.ts_top.specs.Outcomes.{RanTo, HeaderAfter, LeftAfter};
 
@@ -34,8 +34,8 @@ fn run_lines<R: Threads + Sync, S: Source, K: Sink, D: Disk>(
     requires untold { S.ended source.old ≡ false }
     requires goes_on { store.failed ≡ None }
     requires armed { store.armed ≡ true }
-    requires whole { opening store ≡ seen store }
-    ensures outcome { (before : Option (List ℕ)) → IfSome before (λ file. Stands file (seen store))
+    requires whole { opening_history store ≡ history_seen store }
+    ensures outcome { (before : Option (List ℕ)) → IfSome before (λ file. Stands file (history_seen store))
         → RanTo result.status
         (IsSome (D.bytes store.begun)) (LeftAfter D.bytes D.may_leave D.moment D.left_since store.begun result.disk)
         ⊥ ⊥ ⊥ (record {

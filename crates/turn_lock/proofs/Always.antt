@@ -10,7 +10,7 @@ use lib.ListN.{get_elem?}
 use Rattle.atomic_table.specs.Table.{State}
 use Rattle.turn_lock.specs.declared.view.Stage.{Stage}
 use Rattle.turn_lock.specs.declared.view.Stage.TheVariants.{Idle, Waiting, Turn}
-use Rattle.turn_lock.specs.declared.view.Knows.{Knows}
+use Rattle.turn_lock.specs.declared.view.PassState.{PassState}
 use Rattle.turn_lock.specs.declared.opening.Opening.{Opening}
 use Rattle.turn_lock.specs.Positions.{positions_between, times, end_of}
 use Rattle.turn_lock.specs.Rule.{HasTicket, HasTurn, InPlace, Rules, IsValue, Stands, Kept}
@@ -30,7 +30,7 @@ module _ {E : Type 0} where
   turn_served next serving holder log shut away j (Waiting t) p h = absurd h
   turn_served next serving holder log shut away j (Turn t xs c) p h = p.0
 
-module _ {V B E : Type 0} (base : V → B) (first : B → ℕ) (events : V → List E) (closed : V → Option E) (key : Opening V) (s : State (Option V) (Knows B E)) (r : Kept base first events closed key s) where
+module _ {V B E : Type 0} (base : V → B) (first : B → ℕ) (events : V → List E) (closed : V → Option E) (key : Opening V) (s : State (Option V) (PassState B E)) (r : Kept base first events closed key s) where
   abbrev root : B
   root = base key.value.value
 
@@ -49,7 +49,7 @@ module _ {V B E : Type 0} (base : V → B) (first : B → ℕ) (events : V → L
   home_value : (x : V) → AtHome base first events closed s x → IsValue base events closed root r.log r.shut x
   home_value x e = value_at r.home r.stands x (some-injective _ _ (sym (ap (λ (hs : List (maybe.Option (Option V))). get_elem? hs 0) r.homes) ∙ e))
 
-  home_there : ((j : ℕ) (v : Knows B E) → get_elem? s.views j ≡ some v → HasTurn v.stage → ⊥) → (home : maybe.Option (Option V)) → Stands base events closed root r.log r.shut (Rules s.views (r.holder r.serving)) home
+  home_there : ((j : ℕ) (v : PassState B E) → get_elem? s.views j ≡ some v → HasTurn v.stage → ⊥) → (home : maybe.Option (Option V)) → Stands base events closed root r.log r.shut (Rules s.views (r.holder r.serving)) home
       → (x : V) × (home ≡ some (Some x))
   home_there nobody none h = absurd (nobody (r.holder r.serving) h.0 h.1 h.2)
   home_there nobody (some None) h = absurd h

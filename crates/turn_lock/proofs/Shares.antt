@@ -12,7 +12,7 @@ use Rattle.atomic_table.specs.Table.{State, Me, keeps, step, Allows, Splits, Joi
 use Rattle.atomic_table.proofs.Lists.{set_else, at_longer, at_snoc}
 use Rattle.turn_lock.specs.declared.view.Stage.{Stage}
 use Rattle.turn_lock.specs.declared.view.Stage.TheVariants.{Idle}
-use Rattle.turn_lock.specs.declared.view.Knows.{Knows}
+use Rattle.turn_lock.specs.declared.view.PassState.{PassState}
 use Rattle.turn_lock.specs.declared.opening.Opening.{Opening}
 use Rattle.turn_lock.specs.Pass.{longer, either, StaysClosed}
 use Rattle.turn_lock.specs.Positions.{times}
@@ -65,21 +65,21 @@ module _ {E : Type 0} where
 
 module _ {B E : Type 0} where
   -- where one of two passes has seen the value closed, so has what both become, by the same
-  joined_cases : (k l : Knows B E) (e : E) → joined_shut k l ≡ Some e → (k.shut ≡ Some e) ⊎ (l.shut ≡ Some e)
+  joined_cases : (k l : PassState B E) (e : E) → joined_shut k l ≡ Some e → (k.shut ≡ Some e) ⊎ (l.shut ≡ Some e)
   joined_cases k l e =
       elim (nat_lt (length k.seen) (length l.seen)) as (λ t. cond t (either l.shut k.shut) (either k.shut l.shut) ≡ Some e → (k.shut ≡ Some e) ⊎ (l.shut ≡ Some e)) [
         | true ↦ λ is. ⊎_elim (λ c. inr c) (λ c. inl c) (either_cases l.shut k.shut e is)
         | false ↦ λ is. either_cases k.shut l.shut e is
       ]
 
-  joined_left : (k l : Knows B E) (c : Option E) → k.shut ≡ c → ((e : E) → l.shut ≡ Some e → c ≡ Some e) → joined_shut k l ≡ c
+  joined_left : (k l : PassState B E) (c : Option E) → k.shut ≡ c → ((e : E) → l.shut ≡ Some e → c ≡ Some e) → joined_shut k l ≡ c
   joined_left k l c is f =
       elim (nat_lt (length k.seen) (length l.seen)) as (λ t. cond t (either l.shut k.shut) (either k.shut l.shut) ≡ c) [
         | true ↦ either_same_right l.shut k.shut c is f
         | false ↦ either_same k.shut l.shut c is f
       ]
 
-  joined_right : (k l : Knows B E) (c : Option E) → l.shut ≡ c → ((e : E) → k.shut ≡ Some e → c ≡ Some e) → joined_shut k l ≡ c
+  joined_right : (k l : PassState B E) (c : Option E) → l.shut ≡ c → ((e : E) → k.shut ≡ Some e → c ≡ Some e) → joined_shut k l ≡ c
   joined_right k l c is f =
       elim (nat_lt (length k.seen) (length l.seen)) as (λ t. cond t (either l.shut k.shut) (either k.shut l.shut) ≡ c) [
         | true ↦ either_same l.shut k.shut c is f
@@ -87,7 +87,7 @@ module _ {B E : Type 0} where
       ]
 
   -- where the pass with the shorter list has seen the value closed, that list is the whole
-  shorter_closed : (root : B) (log : List E) (shut : Option E) (k l : Knows B E) → Fits root log shut k → Fits root log shut l → (e : E) → shorter_shut k l ≡ Some e → (shorter k.seen l.seen ≡ log) × (shut ≡ Some e)
+  shorter_closed : (root : B) (log : List E) (shut : Option E) (k l : PassState B E) → Fits root log shut k → Fits root log shut l → (e : E) → shorter_shut k l ≡ Some e → (shorter k.seen l.seen ≡ log) × (shut ≡ Some e)
   shorter_closed root log shut k l f g e =
       elim (nat_lt (length k.seen) (length l.seen)) as (λ t. cond t k.shut l.shut ≡ Some e → (cond t k.seen l.seen ≡ log) × (shut ≡ Some e)) [
         | true ↦ f.closed e
@@ -95,7 +95,7 @@ module _ {B E : Type 0} where
       ]
 
   -- and what both become has seen it closed by the same
-  shorter_joined : (root : B) (log : List E) (shut : Option E) (k l : Knows B E) → Fits root log shut k → Fits root log shut l → (e : E) → shorter_shut k l ≡ Some e → joined_shut k l ≡ Some e
+  shorter_joined : (root : B) (log : List E) (shut : Option E) (k l : PassState B E) → Fits root log shut k → Fits root log shut l → (e : E) → shorter_shut k l ≡ Some e → joined_shut k l ≡ Some e
   shorter_joined root log shut k l f g e is =
       let whole = (shorter_closed root log shut k l f g e is).1 in
       elim (nat_lt (length k.seen) (length l.seen)) as (λ t. cond t k.shut l.shut ≡ Some e → cond t (either l.shut k.shut) (either k.shut l.shut) ≡ Some e) [
@@ -104,18 +104,18 @@ module _ {B E : Type 0} where
       ] is
 
   -- and the longer list is no longer
-  seen_all : (log : List E) (k : Knows B E) → IsPrefix k.seen log → k.other_seen ≡ log → length k.other_seen ≤ length k.seen → k.seen ≡ k.other_seen
+  seen_all : (log : List E) (k : PassState B E) → IsPrefix k.seen log → k.other_seen ≡ log → length k.other_seen ≤ length k.seen → k.seen ≡ k.other_seen
   seen_all log k p whole le = prefix_whole k.seen log p (let l = ap length whole in omega (arith, l, le)) ∙ sym whole
 
   -- of two joined passes each that has seen the value closed has seen what both have
-  stays_left : (k l : Knows B E) → IsCounted (joined k l) → StaysClosed k.shut k.seen (joined_shut k l) (longer k.seen l.seen)
+  stays_left : (k l : PassState B E) → IsCounted (joined k l) → StaysClosed k.shut k.seen (joined_shut k l) (longer k.seen l.seen)
   stays_left k l c e is =
       elim (nat_lt (length k.seen) (length l.seen)) as (λ t. nat_lt (length k.seen) (length l.seen) ≡ t → (cond t k.shut l.shut ≡ Some e → length (cond t k.seen l.seen) ≤ length (cond t l.seen k.seen) → (cond t l.seen k.seen ≡ cond t k.seen l.seen) × (cond t (either l.shut k.shut) (either k.shut l.shut) ≡ Some e)) → (cond t (either l.shut k.shut) (either k.shut l.shut) ≡ Some e) × (cond t l.seen k.seen ≡ k.seen)) [
         | true ↦ λ less stays. let s = stays is (grind (arith, nat_tests, less)) in (s.1, s.0)
         | false ↦ λ _ _. (either_left k.shut l.shut e is, refl)
       ] refl (c.stays e)
 
-  stays_right : (k l : Knows B E) → IsCounted (joined k l) → StaysClosed l.shut l.seen (joined_shut k l) (longer k.seen l.seen)
+  stays_right : (k l : PassState B E) → IsCounted (joined k l) → StaysClosed l.shut l.seen (joined_shut k l) (longer k.seen l.seen)
   stays_right k l c e is =
       elim (nat_lt (length k.seen) (length l.seen)) as (λ t. nat_lt (length k.seen) (length l.seen) ≡ t → (cond t k.shut l.shut ≡ Some e → length (cond t k.seen l.seen) ≤ length (cond t l.seen k.seen) → (cond t l.seen k.seen ≡ cond t k.seen l.seen) × (cond t (either l.shut k.shut) (either k.shut l.shut) ≡ Some e)) → (cond t (either l.shut k.shut) (either k.shut l.shut) ≡ Some e) × (cond t l.seen k.seen ≡ l.seen)) [
         | true ↦ λ _ _. (either_left l.shut k.shut e is, refl)
@@ -123,7 +123,7 @@ module _ {B E : Type 0} where
       ] refl (c.stays e)
 
   -- and what both become is closed by what closed the one or the other
-  pub closed_both : (k l : Knows B E) → IsCounted (joined k l) → joined_shut k l ≡ either k.shut l.shut
+  pub closed_both : (k l : PassState B E) → IsCounted (joined k l) → joined_shut k l ≡ either k.shut l.shut
   closed_both k l c = by_shut k.shut refl
     where
       by_other : k.shut ≡ None → (b : Option E) → l.shut ≡ b → joined_shut k l ≡ either k.shut l.shut
@@ -134,12 +134,12 @@ module _ {B E : Type 0} where
       by_shut None is = by_other is l.shut refl
       by_shut (Some e) is = (stays_left k l c e is).0 ∙ sym (either_left k.shut l.shut e is)
 
-  pub stays_both : (k l : Knows B E) → IsCounted (joined k l) → StaysClosed k.shut k.seen (joined_shut k l) (longer k.seen l.seen) × StaysClosed l.shut l.seen (joined_shut k l) (longer k.seen l.seen)
+  pub stays_both : (k l : PassState B E) → IsCounted (joined k l) → StaysClosed k.shut k.seen (joined_shut k l) (longer k.seen l.seen) × StaysClosed l.shut l.seen (joined_shut k l) (longer k.seen l.seen)
   stays_both k l c = (stays_left k l c, stays_right k l c)
 
 module _ {V B E : Type 0} (base : V → B) (first : B → ℕ) (events : V → List E) (closed : V → Option E) (key : Opening V) where
   abbrev St : Type 0
-  St = State (Option V) (Knows B E)
+  St = State (Option V) (PassState B E)
 
   abbrev Holds : St → Type 0
   Holds = Kept base first events closed key
@@ -147,10 +147,10 @@ module _ {V B E : Type 0} (base : V → B) (first : B → ℕ) (events : V → L
   abbrev root : B
   root = base key.value.value
 
-  given_place : (next serving : ℕ) (holder : ℕ → ℕ) (log : List E) (shut : Option E) (away : Type 0) (n j : ℕ) (v u : Knows B E) → given n v ≡ u → InPlace next serving holder log shut away j u.stage
-  given_place next serving holder log shut away n j v u e = subst (λ (q : Knows B E). InPlace next serving holder log shut away j q.stage) e tt
+  given_place : (next serving : ℕ) (holder : ℕ → ℕ) (log : List E) (shut : Option E) (away : Type 0) (n j : ℕ) (v u : PassState B E) → given n v ≡ u → InPlace next serving holder log shut away j u.stage
+  given_place next serving holder log shut away n j v u e = subst (λ (q : PassState B E). InPlace next serving holder log shut away j q.stage) e tt
 
-  pub splits : (id : ℕ) (v : Knows B E) (n : ℕ) → 0 < n → n < v.shares → Splits Holds id v (left_with n v) (given n v)
+  pub splits : (id : ℕ) (v : PassState B E) (n : ℕ) → 0 < n → n < v.shares → Splits Holds id v (left_with n v) (given n v)
   splits id v n pos less s r at =
       let left = left_with n v in let right = given n v in
       let views = set s.views id left in
@@ -172,7 +172,7 @@ module _ {V B E : Type 0} (base : V → B) (first : B → ℕ) (events : V → L
         ahead = r.ahead;
         queue = λ m le lt. let q = queues_set s.views id (r.holder m) m v left at (λ h. h) (r.queue m le lt) in (q.0, at_longer views (right ∷ []) (r.holder m) q.0 q.1, q.2);
         places = λ j u e. ⊎_elim
-            (λ a. all_set (λ k (x : Knows B E). InPlace r.next r.serving r.holder r.log r.shut (r.home ≡ none) k x.stage) s.views id left (r.places id v at) (λ k x ne b. r.places k x b) j u a)
+            (λ a. all_set (λ k (x : PassState B E). InPlace r.next r.serving r.holder r.log r.shut (r.home ≡ none) k x.stage) s.views id left (r.places id v at) (λ k x ne b. r.places k x b) j u a)
             (λ is. given_place r.next r.serving r.holder r.log r.shut (r.home ≡ none) n j v u is)
             (at_snoc views right u j e);
         fits = λ j u e. ⊎_elim
@@ -182,13 +182,13 @@ module _ {V B E : Type 0} (base : V → B) (first : B → ℕ) (events : V → L
         stands = stands_as base events closed root r.log r.shut (Rules s.views (r.holder r.serving)) (Rules (views ++ right ∷ []) (r.holder r.serving)) r.home
             (λ out h. let q = rules_set s.views id (r.holder r.serving) v left at (λ k. k) h in (q.0, at_longer views (right ∷ []) (r.holder r.serving) q.0 q.1, q.2)) r.stands;
         newest = (newest.0, at_longer views (right ∷ []) r.last newest.0 newest.1, newest.2);
-        shares = let a = shares_set s.views id v left at in let b = sum_by-append (λ (u : Knows B E). u.shares) views (right ∷ []) in let c = r.shares in omega (arith, a, b, c);
+        shares = let a = shares_set s.views id v left at in let b = sum_by-append (λ (u : PassState B E). u.shares) views (right ∷ []) in let c = r.shares in omega (arith, a, b, c);
         few = r.few;
         longer = r.longer;
-        made = λ p. let a = same_made p s.views id v left at refl in let b = sum_by-append (λ (u : Knows B E). times p u.made) views (right ∷ []) in let c = r.made p in omega (arith, a, b, c);
+        made = λ p. let a = same_made p s.views id v left at refl in let b = sum_by-append (λ (u : PassState B E). times p u.made) views (right ∷ []) in let c = r.made p in omega (arith, a, b, c);
       }
 
-  pub joins : (id : ℕ) (v : Knows B E) (other : ℕ) (w : Knows B E) → v.stage ≡ Idle → w.stage ≡ Idle → 0 < v.shares → 0 < w.shares → Joins Holds id v other w (joined v w) spent
+  pub joins : (id : ℕ) (v : PassState B E) (other : ℕ) (w : PassState B E) → v.stage ≡ Idle → w.stage ≡ Idle → 0 < v.shares → 0 < w.shares → Joins Holds id v other w (joined v w) spent
   joins id v other w idle idle' live live' s r at ne at' =
       let both = joined v w in
       let one = set s.views id both in
@@ -196,8 +196,8 @@ module _ {V B E : Type 0} (base : V → B) (first : B → ℕ) (events : V → L
       let there : get_elem? s.views other ≡ some w = sym (set_else s.views id other both ne) ∙ at' in
       let f = r.fits id v at in
       let g = r.fits other w there in
-      let no_ticket : (u x : Knows B E) → u.stage ≡ Idle → (n : ℕ) → HasTicket u.stage n → HasTicket x.stage n = λ u x is n h. absurd (subst (λ (q : Stage E). HasTicket q n) is h) in
-      let no_turn : (u x : Knows B E) → u.stage ≡ Idle → HasTurn u.stage → HasTurn x.stage = λ u x is h. absurd (subst HasTurn is h) in
+      let no_ticket : (u x : PassState B E) → u.stage ≡ Idle → (n : ℕ) → HasTicket u.stage n → HasTicket x.stage n = λ u x is n h. absurd (subst (λ (q : Stage E). HasTicket q n) is h) in
+      let no_turn : (u x : PassState B E) → u.stage ≡ Idle → HasTurn u.stage → HasTurn x.stage = λ u x is h. absurd (subst HasTurn is h) in
       let both_fits : Fits root r.log r.shut both = record {
         seen = longer_begins v.seen w.seen r.log f.seen g.seen;
         other_seen = shorter_begins v.seen w.seen r.log f.seen g.seen;
@@ -235,8 +235,8 @@ module _ {V B E : Type 0} (base : V → B) (first : B → ℕ) (events : V → L
         homes = r.homes;
         ahead = r.ahead;
         queue = λ n le lt. queues_set one other (r.holder n) n w spent at' (no_ticket w spent idle' n) (queues_set s.views id (r.holder n) n v both at (no_ticket v both idle n) (r.queue n le lt));
-        places = all_set (λ k (x : Knows B E). InPlace r.next r.serving r.holder r.log r.shut (r.home ≡ none) k x.stage) one other spent tt
-            (λ j u apart a. all_set (λ k (x : Knows B E). InPlace r.next r.serving r.holder r.log r.shut (r.home ≡ none) k x.stage) s.views id both tt (λ k x _ b. r.places k x b) j u a);
+        places = all_set (λ k (x : PassState B E). InPlace r.next r.serving r.holder r.log r.shut (r.home ≡ none) k x.stage) one other spent tt
+            (λ j u apart a. all_set (λ k (x : PassState B E). InPlace r.next r.serving r.holder r.log r.shut (r.home ≡ none) k x.stage) s.views id both tt (λ k x _ b. r.places k x b) j u a);
         fits = all_set (λ k. Fits root r.log r.shut) one other spent (spent_fits root r.log r.shut)
             (λ j u apart a. all_set (λ k. Fits root r.log r.shut) s.views id both both_fits (λ k x _ b. r.fits k x b) j u a);
         stands = stands_as base events closed root r.log r.shut (Rules s.views (r.holder r.serving)) (Rules views (r.holder r.serving)) r.home
@@ -248,7 +248,7 @@ module _ {V B E : Type 0} (base : V → B) (first : B → ℕ) (events : V → L
         made = λ p. let a = made_set p s.views id v both at in let b = made_set p one other w spent at' in let c = times-append p v.made w.made in let d = r.made p in omega (arith, a, b, c, d);
       }
 
-  pub counts : (n id : ℕ) (me : Me (Option V) (Knows B E)) → 0 < me.0.shares → Allows Holds n id me 0 (λ y. y) (Counts (step n 0 0 0 none) me)
+  pub counts : (n id : ℕ) (me : Me (Option V) (PassState B E)) → 0 < me.0.shares → Allows Holds n id me 0 (λ y. y) (Counts (step n 0 0 0 none) me)
   counts n id me live s r wide at small =
       let f = r.fits id me.0 at in (
         me.0,
@@ -258,7 +258,7 @@ module _ {V B E : Type 0} (base : V → B) (first : B → ℕ) (events : V → L
         (
           refl,
           record {
-            fits = let a = sum_at (λ (u : Knows B E). u.shares) s.views id me.0 at in let b = r.shares in let c = r.few in omega (arith, a, b, c);
+            fits = let a = sum_at (λ (u : PassState B E). u.shares) s.views id me.0 at in let b = r.shares in let c = r.few in omega (arith, a, b, c);
             one_base = (f.live live).1 ∙ sym (f.live live).0;
             begins = λ le. prefix_shorter me.0.other_seen me.0.seen r.log f.other_seen f.seen le;
             stays = λ e is le. let d = f.other_closed e is in (seen_all r.log me.0 f.seen d.0 le, d.2);

@@ -12,7 +12,7 @@ use Rattle.atomic_table.specs.Table.{State, Me, Act, keeps, takes, gives, Valid,
 use Rattle.atomic_table.proofs.Lists.{exchanged}
 use Rattle.turn_lock.specs.declared.view.Stage.{Stage}
 use Rattle.turn_lock.specs.declared.view.Stage.TheVariants.{Idle, Waiting, Turn}
-use Rattle.turn_lock.specs.declared.view.Knows.{Knows}
+use Rattle.turn_lock.specs.declared.view.PassState.{PassState}
 use Rattle.turn_lock.specs.declared.opening.Opening.{Opening}
 use Rattle.turn_lock.specs.Positions.{positions_between, times, end_of}
 use Rattle.turn_lock.specs.Pass.{StaysClosed}
@@ -66,10 +66,10 @@ module _ {E : Type 0} (log : List E) (shut : Option E) where
 
 module _ {V B E : Type 0} (base : V → B) (first : B → ℕ) (events : V → List E) (closed : V → Option E) (key : Opening V) where
   abbrev St : Type 0
-  St = State (Option V) (Knows B E)
+  St = State (Option V) (PassState B E)
 
   abbrev M : Type 0
-  M = Me (Option V) (Knows B E)
+  M = Me (Option V) (PassState B E)
 
   abbrev Holds : St → Type 0
   Holds = Kept base first events closed key
@@ -79,12 +79,12 @@ module _ {V B E : Type 0} (base : V → B) (first : B → ℕ) (events : V → L
 
   -- a step that leaves the word i at n, and tells `told`
   abbrev Goes : St → ℕ → ℕ → M → (M → Type 0) → ℕ → Type 0
-  Goes s i id me told n = (w : Knows B E) × (a : Act (Option V)) × Valid s.homes me.1 a × Holds (stepped s i n id me.1 w a) × told (w, carried_after me.1 a)
+  Goes s i id me told n = (w : PassState B E) × (a : Act (Option V)) × Valid s.homes me.1 a × Holds (stepped s i n id me.1 w a) × told (w, carried_after me.1 a)
 
   still : (s : St) (i id : ℕ) (me : M) (told : M → Type 0) → get_elem? s.views id ≡ some me.0 → Holds s → told me → Goes s i id me told (get_or s.words i 0)
   still s i id me told at r t = (me.0, keeps, tt, rests base first events closed key s i id me.0 at r, t)
 
-  draws_next : (s : St) (id : ℕ) (v : Knows B E) (t : ℕ) → (r : Holds s) → get_elem? s.views id ≡ some v → v.stage ≡ Idle → 0 < v.shares → r.next ≡ t
+  draws_next : (s : St) (id : ℕ) (v : PassState B E) (t : ℕ) → (r : Holds s) → get_elem? s.views id ≡ some v → v.stage ≡ Idle → 0 < v.shares → r.next ≡ t
       → Holds record { words = set s.words 0 (t + 1); homes = s.homes; views = set s.views id (at_stage (Waiting t) v) }
   draws_next s id v t r at idle live is =
       let w = at_stage (Waiting t) v in
@@ -105,7 +105,7 @@ module _ {V B E : Type 0} (base : V → B) (first : B → ℕ) (events : V → L
             (λ e. (w, subst (λ k. get_elem? (set s.views id w) k ≡ some w) (sym (ap (drawn_by r.holder t id) e ∙ drawn_here r.holder t id)) (set_at s.views id v w at), sym e))
             (λ ne. let small : n < t = omega arith in subst (λ k. Queues (set s.views id w) k n) (sym (drawn_before r.holder t id n small))
             (queues_set s.views id (r.holder n) n v w at (λ h. absurd (subst (λ (g : Stage E). HasTicket g n) idle h)) (r.queue n le (omega arith))));
-        places = all_set (λ j (u : Knows B E). InPlace (t + 1) r.serving (drawn_by r.holder t id) r.log r.shut (r.home ≡ none) j u.stage) s.views id w
+        places = all_set (λ j (u : PassState B E). InPlace (t + 1) r.serving (drawn_by r.holder t id) r.log r.shut (r.home ≡ none) j u.stage) s.views id w
             (omega arith, omega arith, drawn_here r.holder t id)
             (λ j u ne a. subst (λ k. InPlace (k + 1) r.serving (drawn_by r.holder k id) r.log r.shut (r.home ≡ none) j u.stage) is (place_drawn r.log r.shut r.next r.serving id r.holder (r.home ≡ none) j u.stage (r.places j u a)));
         fits = all_set (λ j. Fits root r.log r.shut) s.views id w (at_stage_fits root r.log r.shut (Waiting t) v live (r.fits id v at)) (λ j u ne a. r.fits j u a);
@@ -128,13 +128,13 @@ module _ {V B E : Type 0} (base : V → B) (first : B → ℕ) (events : V → L
       (λ miss. still s 0 id me told at r ((λ hit. absurd (miss hit)), λ _. refl))
 
   -- the value is at home while the ticket served is one that waits
-  at_home : (s : St) (id : ℕ) (v : Knows B E) (r : Holds s) → get_elem? s.views id ≡ some v → r.holder r.serving ≡ id → (HasTurn v.stage → ⊥)
+  at_home : (s : St) (id : ℕ) (v : PassState B E) (r : Holds s) → get_elem? s.views id ≡ some v → r.holder r.serving ≡ id → (HasTurn v.stage → ⊥)
       → (home : maybe.Option (Option V)) → Stands base events closed root r.log r.shut (Rules s.views (r.holder r.serving)) home → (x : V) × (home ≡ some (Some x)) × IsValue base events closed root r.log r.shut x
-  at_home s id v r at mine idle none h = absurd (idle (subst (λ (u : Knows B E). HasTurn u.stage) (one_at s.views id h.0 v (subst (λ k. get_elem? s.views k ≡ some h.0) mine h.1) at) h.2))
+  at_home s id v r at mine idle none h = absurd (idle (subst (λ (u : PassState B E). HasTurn u.stage) (one_at s.views id h.0 v (subst (λ k. get_elem? s.views k ≡ some h.0) mine h.1) at) h.2))
   at_home s id v r at mine idle (some None) h = absurd h
   at_home s id v r at mine idle (some (Some x)) h = (x, refl, h)
 
-  looks_in : (s : St) (id : ℕ) (v : Knows B E) (t : ℕ) (x : V) → (r : Holds s) → get_elem? s.views id ≡ some v → v.stage ≡ Waiting t → 0 < v.shares → r.serving ≡ t → r.home ≡ some (Some x)
+  looks_in : (s : St) (id : ℕ) (v : PassState B E) (t : ℕ) (x : V) → (r : Holds s) → get_elem? s.views id ≡ some v → v.stage ≡ Waiting t → 0 < v.shares → r.serving ≡ t → r.home ≡ some (Some x)
       → IsValue base events closed root r.log r.shut x → Holds record { words = set s.words 1 (get_or s.words 1 0); homes = set s.homes 0 none; views = set s.views id (at_stage (Turn t (events x) (closed x)) v) }
   looks_in s id v t x r at waits live is home val =
       let g : Stage E = Turn t (events x) (closed x) in
@@ -154,7 +154,7 @@ module _ {V B E : Type 0} (base : V → B) (first : B → ℕ) (events : V → L
         homes = ap (λ (hs : List (maybe.Option (Option V))). set hs 0 none) r.homes;
         ahead = r.ahead;
         queue = λ n le lt. queues_set s.views id (r.holder n) n v w at (tickets n) (r.queue n le lt);
-        places = all_set (λ j (u : Knows B E). InPlace r.next r.serving r.holder r.log r.shut (none ≡ none) j u.stage) s.views id w
+        places = all_set (λ j (u : PassState B E). InPlace r.next r.serving r.holder r.log r.shut (none ≡ none) j u.stage) s.views id w
             (sym is, place.1, place.2, val.all, val.as_shut, refl)
             (λ j u ne a. place_out r.log r.shut r.next r.serving r.holder (r.home ≡ none) (none ≡ none) out j u.stage (r.places j u a));
         fits = all_set (λ j. Fits root r.log r.shut) s.views id w (at_stage_fits root r.log r.shut g v live (r.fits id v at)) (λ j u ne a. r.fits j u a);
@@ -202,7 +202,7 @@ module _ {V B E : Type 0} (base : V → B) (first : B → ℕ) (events : V → L
       (λ miss. still s 1 id me told at r (subst (λ (g : Stage E). LooksAt base events closed g me y me) (sym waits) ((λ hit. absurd (miss hit)), λ _. refl)))
 
   -- what a pass with the turn did to the value, as far as the rule is concerned
-  pub record Turned (v : Knows B E) (t : ℕ) (xs : List E) (c : Option E) (x : V) : Type 0 where
+  pub record Turned (v : PassState B E) (t : ℕ) (xs : List E) (c : Option E) (x : V) : Type 0 where
     pub turn : v.stage ≡ Turn t xs c
     pub live : 0 < v.shares
     pub one_base : v.base ≡ Some (base x)
@@ -212,7 +212,7 @@ module _ {V B E : Type 0} (base : V → B) (first : B → ℕ) (events : V → L
   some_is : (a b : B) → Some a ≡ Some b → a ≡ b
   some_is a b e = cc
 
-  posts_all : (s : St) (id : ℕ) (v : Knows B E) (t pos : ℕ) (xs : List E) (c : Option E) (x : V) → (r : Holds s) → get_elem? s.views id ≡ some v → Turned v t xs c x → pos ≡ end_of (first (base x)) (events x)
+  posts_all : (s : St) (id : ℕ) (v : PassState B E) (t pos : ℕ) (xs : List E) (c : Option E) (x : V) → (r : Holds s) → get_elem? s.views id ≡ some v → Turned v t xs c x → pos ≡ end_of (first (base x)) (events x)
       → Holds record { words = set s.words 2 pos; homes = s.homes; views = set s.views id (published t (first (base x)) xs (events x) (closed x) v) }
   posts_all s id v t pos xs c x r at did is =
       let w = published t (first (base x)) xs (events x) (closed x) v in
@@ -222,7 +222,7 @@ module _ {V B E : Type 0} (base : V → B) (first : B → ℕ) (events : V → L
       let one : base x ≡ root = some_is (base x) root (sym did.one_base ∙ ((r.fits id v at).live did.live).0) in
       let more : IsPrefix r.log (events x) = subst (λ l. IsPrefix l (events x)) place.3 did.grown in
       let closes : StaysClosed r.shut r.log (closed x) (events x) = λ e is. let d = did.stays e (place.4 ∙ is) in (d.0, d.1 ∙ place.3) in
-      let fit : (u : Knows B E) → Fits root r.log r.shut u → Fits root (events x) (closed x) u = λ u f. record {
+      let fit : (u : PassState B E) → Fits root r.log r.shut u → Fits root (events x) (closed x) u = λ u f. record {
         seen = prefix_then u.seen r.log (events x) f.seen more;
         other_seen = prefix_then u.other_seen r.log (events x) f.other_seen more;
         closed = λ e is. let d = f.closed e is in let k = closes e d.1 in (d.0 ∙ sym k.1, k.0);
@@ -244,7 +244,7 @@ module _ {V B E : Type 0} (base : V → B) (first : B → ℕ) (events : V → L
         homes = r.homes;
         ahead = r.ahead;
         queue = λ n le lt. queues_set s.views id (r.holder n) n v w at (tickets n) (r.queue n le lt);
-        places = all_set (λ j (u : Knows B E). InPlace r.next r.serving r.holder (events x) (closed x) (r.home ≡ none) j u.stage) s.views id w
+        places = all_set (λ j (u : PassState B E). InPlace r.next r.serving r.holder (events x) (closed x) (r.home ≡ none) j u.stage) s.views id w
             (place.0, place.1, place.2, refl, refl, place.5)
             (λ j u ne a. place_posted r.log r.shut r.next r.serving r.holder (r.home ≡ none) (r.home ≡ none) (events x) (closed x) j (λ e. ne (e ∙ sym mine)) u.stage (r.places j u a));
         fits = all_set (λ j. Fits root (events x) (closed x)) s.views id w
@@ -285,7 +285,7 @@ module _ {V B E : Type 0} (base : V → B) (first : B → ℕ) (events : V → L
       → n ≡ (published t (first (base x)) xs (events x) (closed x) me.0, me.1)
   posted_is me n t xs c x turn out told = subst (λ (l : List (ℕ × Option V)). PostsAt base first events closed (Turn t xs c) l me n) out (subst (λ (g : Stage E). PostsAt base first events closed g me.1 me n) turn told)
 
-  advances_next : (s : St) (id : ℕ) (v : Knows B E) (t : ℕ) (x : V) → (r : Holds s) → get_elem? s.views id ≡ some v → v.stage ≡ Turn t (events x) (closed x) → 0 < v.shares → v.base ≡ Some (base x)
+  advances_next : (s : St) (id : ℕ) (v : PassState B E) (t : ℕ) (x : V) → (r : Holds s) → get_elem? s.views id ≡ some v → v.stage ≡ Turn t (events x) (closed x) → 0 < v.shares → v.base ≡ Some (base x)
       → Holds record { words = set s.words 1 (t + 1); homes = set s.homes 0 (some (Some x)); views = set s.views id (at_stage Idle v) }
   advances_next s id v t x r at turn live one_base =
       let w = at_stage Idle v in
@@ -307,7 +307,7 @@ module _ {V B E : Type 0} (base : V → B) (first : B → ℕ) (events : V → L
         queue = λ n le lt. queues_set s.views id (r.holder n) n v w at
             (λ h. absurd (let e : t ≡ n = subst (λ (q : Stage E). HasTicket q n) turn h in omega arith))
             (r.queue n (omega arith) lt);
-        places = all_set (λ j (u : Knows B E). InPlace r.next (r.serving + 1) r.holder r.log r.shut (some (Some x) ≡ none) j u.stage) s.views id w tt
+        places = all_set (λ j (u : PassState B E). InPlace r.next (r.serving + 1) r.holder r.log r.shut (some (Some x) ≡ none) j u.stage) s.views id w tt
             (λ j u ne a. place_advanced r.log r.shut r.next r.serving r.holder (r.home ≡ none) (some (Some x) ≡ none) j (λ e. ne (e ∙ sym mine)) u.stage (r.places j u a));
         fits = all_set (λ j. Fits root r.log r.shut) s.views id w (at_stage_fits root r.log r.shut Idle v live (r.fits id v at)) (λ j u ne a. r.fits j u a);
         stands = record { on_root = some_is (base x) root (sym one_base ∙ ((r.fits id v at).live live).0); all = place.3; as_shut = place.4 };

@@ -4,13 +4,13 @@ use mathlib.Core.List.{IsPrefix}
 use Rattle.atomic_table.specs.Seated.{TableId}
 use Rattle.turn_lock.specs.declared.view.Stage.{Stage}
 use Rattle.turn_lock.specs.declared.view.Stage.TheVariants.{Idle, Waiting, Turn}
-use Rattle.turn_lock.specs.declared.view.Knows.{Knows}
+use Rattle.turn_lock.specs.declared.view.PassState.{PassState}
 use Rattle.turn_lock.specs.declared.held.Held.{Held}
 
 -- a pass as clauses see it: which lock it is of, what it knows, and what it has taken out of the lock
 pub record Carried (V B E : Type 0) : Type 0 where
   pub lock : TableId
-  pub knows : Knows B E
+  pub knows : PassState B E
   pub taken : List (ℕ × Option V)
 
 -- a lock as clauses see it: which one it is, and the value and the number of shares that it was made with

@@ -9,7 +9,7 @@ use lib.ListN.{get_elem?}
 use Rattle.atomic_table.specs.Table.{State}
 use Rattle.turn_lock.specs.declared.view.Stage.{Stage}
 use Rattle.turn_lock.specs.declared.view.Stage.TheVariants.{Idle, Waiting, Turn}
-use Rattle.turn_lock.specs.declared.view.Knows.{Knows}
+use Rattle.turn_lock.specs.declared.view.PassState.{PassState}
 use Rattle.turn_lock.specs.declared.opening.Opening.{Opening}
 use Rattle.turn_lock.specs.Positions.{positions_between, times, end_of}
 use Rattle.turn_lock.specs.Steps.{spent}
@@ -36,15 +36,15 @@ module _ {E : Type 0} where
 
 module _ {B E : Type 0} where
   -- the view at the place j has the ticket n
-  abbrev pub Queues : List (Knows B E) → ℕ → ℕ → Type 0
-  Queues views j n = (v : Knows B E) × (get_elem? views j ≡ some v) × HasTicket v.stage n
+  abbrev pub Queues : List (PassState B E) → ℕ → ℕ → Type 0
+  Queues views j n = (v : PassState B E) × (get_elem? views j ≡ some v) × HasTicket v.stage n
 
   -- the view at the place j has the turn
-  abbrev pub Rules : List (Knows B E) → ℕ → Type 0
-  Rules views j = (v : Knows B E) × (get_elem? views j ≡ some v) × HasTurn v.stage
+  abbrev pub Rules : List (PassState B E) → ℕ → Type 0
+  Rules views j = (v : PassState B E) × (get_elem? views j ≡ some v) × HasTurn v.stage
 
   -- what a view has seen begins the events, and a view without shares is spent
-  pub record Fits (root : B) (log : List E) (shut : Option E) (v : Knows B E) : Type 0 where
+  pub record Fits (root : B) (log : List E) (shut : Option E) (v : PassState B E) : Type 0 where
     pub seen : IsPrefix v.seen log
     pub other_seen : IsPrefix v.other_seen log
     pub closed : (e : E) → v.shut ≡ Some e → (v.seen ≡ log) × (shut ≡ Some e)
@@ -53,15 +53,15 @@ module _ {B E : Type 0} where
     pub gone : v.shares ≡ 0 → v ≡ spent
 
   -- a view with shares that has seen all
-  pub record Newest (log : List E) (shut : Option E) (v : Knows B E) : Type 0 where
+  pub record Newest (log : List E) (shut : Option E) (v : PassState B E) : Type 0 where
     pub live : 0 < v.shares
     pub seen : v.seen ≡ log
     pub closed : v.shut ≡ shut
 
-  abbrev pub shares_in : List (Knows B E) → ℕ
+  abbrev pub shares_in : List (PassState B E) → ℕ
   shares_in views = sum_by (λ v. v.shares) views
 
-  abbrev pub times_made : ℕ → List (Knows B E) → ℕ
+  abbrev pub times_made : ℕ → List (PassState B E) → ℕ
   times_made p views = sum_by (λ v. times p v.made) views
 
 module _ {V B E : Type 0} (base : V → B) (events : V → List E) (closed : V → Option E) where
@@ -82,7 +82,7 @@ module _ {V B E : Type 0} (base : V → B) (first : B → ℕ) (events : V → L
   -- far and what closed them, and the place of a view that has seen them all. Each ticket that was drawn and isn't past
   -- has a holder; each view is in place and fits the events; the value is at home, or away with the view that has the
   -- turn; there are as many shares as at first; and each position added since then was made once
-  pub record Kept (key : Opening V) (s : State (Option V) (Knows B E)) : Type 0 where
+  pub record Kept (key : Opening V) (s : State (Option V) (PassState B E)) : Type 0 where
     pub next : ℕ
     pub serving : ℕ
     pub holder : ℕ → ℕ
@@ -95,11 +95,11 @@ module _ {V B E : Type 0} (base : V → B) (first : B → ℕ) (events : V → L
     pub ahead : serving ≤ next
     pub queue : (n : ℕ) → serving ≤ n → n < next → Queues s.views (holder n) n
     pub places :
-        (j : ℕ) (v : Knows B E) → get_elem? s.views j ≡ some v
+        (j : ℕ) (v : PassState B E) → get_elem? s.views j ≡ some v
         → InPlace next serving holder log shut (home ≡ none) j v.stage
-    pub fits : (j : ℕ) (v : Knows B E) → get_elem? s.views j ≡ some v → Fits (base key.value.value) log shut v
+    pub fits : (j : ℕ) (v : PassState B E) → get_elem? s.views j ≡ some v → Fits (base key.value.value) log shut v
     pub stands : Stands base events closed (base key.value.value) log shut (Rules s.views (holder serving)) home
-    pub newest : (v : Knows B E) × (get_elem? s.views last ≡ some v) × Newest log shut v
+    pub newest : (v : PassState B E) × (get_elem? s.views last ≡ some v) × Newest log shut v
     pub shares : shares_in s.views ≡ key.shares
     pub few : key.shares < 2 ^ 32
     pub longer : length (events key.value.value) ≤ length log

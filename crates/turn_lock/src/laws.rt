@@ -1,6 +1,6 @@
 //! The law of the lock, which is true of every moment.
 ghost use Rattle.turn_lock.specs.declared.opening.Opening.{Opening};
-ghost use Rattle.turn_lock.specs.declared.view.Knows.{Knows};
+ghost use Rattle.turn_lock.specs.declared.view.PassState.{PassState};
 ghost use Rattle.atomic_table.specs.Table.{State};
 ghost use Rattle.std.specs.Prelude.{Option};
 ghost use Rattle.turn_lock.specs.Rule.{Kept};
@@ -10,6 +10,6 @@ use crate::grown::Grown;
 
 /// What the rule of the lock, which each step keeps, says of every moment. It does nothing.
 pub fn every_moment<V: Grown>()
-    ensures { (key : Opening V) (s : State (Option V) (Knows V.Base V.Entry)) →
+    ensures { (key : Opening V) (s : State (Option V) (PassState V.Base V.Entry)) →
         Kept V.base V.first V.events V.closed key s → IsMoment V.base V.first V.events V.closed key s }
 {}

@@ -2,16 +2,16 @@
 //! A pass carries what its holder has seen of the value, and which events it added.
 #![tactic(auto)]
 
+mod backoff;
 mod ending;
 mod grown;
 mod held;
 mod laws;
 mod lock;
+mod lock_rule;
 mod making;
 mod opening;
 mod pass;
-mod patience;
-mod plays;
 mod sharing;
 mod steps;
 mod turns;

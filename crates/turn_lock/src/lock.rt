@@ -1,8 +1,8 @@
 //! The lock: three words and one slot of a table.
 use crate::grown::Grown;
+use crate::lock_rule::Turns;
 use crate::opening::Opening;
-use crate::plays::Turns;
-use crate::view::Knows;
+use crate::view::PassState;
 use atomic_table::Table;
 use std::alloc::Global;
 use std::marker::Model;
@@ -21,7 +21,7 @@ pub(crate) const VALUE: usize = 0;
 /// A lock round one value, which serves its passes in the order of their tickets.
 #[derive(Drop)]
 pub struct TurnLock<V: Grown> {
-    pub(crate) table: Table<Option<V>, Knows<V::Base, V::Entry>, Opening<V>, Turns, Global>,
+    pub(crate) table: Table<Option<V>, PassState<V::Base, V::Entry>, Opening<V>, Turns, Global>,
 }
 
 impl<V: Grown> Model for TurnLock<V> {

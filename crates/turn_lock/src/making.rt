@@ -18,7 +18,7 @@ pub enum MadeLock<V: Grown> {
 }
 
 // The value alone in a list, or the value back.
-fn shelve<V>(alloc: Global, value: V) -> Result<Vec<Option<V>>, V>
+fn put_in_slot<V>(alloc: Global, value: V) -> Result<Vec<Option<V>>, V>
     ensures { MatchResult result (λ slots. slots.items ≡ Some value ∷ []) (λ v. v ≡ value) }
 {
     let mut slots = Vec::new(alloc);
@@ -32,7 +32,7 @@ fn shelve<V>(alloc: Global, value: V) -> Result<Vec<Option<V>>, V>
 }
 
 // The value that stands alone in the list.
-fn unshelve<V>(mut slots: Vec<Option<V>>) -> V
+fn take_from_slot<V>(mut slots: Vec<Option<V>>) -> V
     requires { (v : V) × (slots.items ≡ Some v ∷ []) }
     ensures { slots.items ≡ Some result ∷ [] }
 {
@@ -52,7 +52,7 @@ impl<V: Grown> TurnLock<V> {
             shares,
             value: Snapshot::of(&value),
         };
-        let slots = match shelve(alloc, value) {
+        let slots = match put_in_slot(alloc, value) {
             Ok(slots) => slots,
             Err(value) => return MadeLock::NoMemory(value),
         };
@@ -65,7 +65,7 @@ impl<V: Grown> TurnLock<V> {
                     position,
                 },
             },
-            Err(Refused { slots }) => MadeLock::NoMemory(unshelve(slots)),
+            Err(Refused { slots }) => MadeLock::NoMemory(take_from_slot(slots)),
         }
     }
 }

@@ -4,17 +4,17 @@ ghost use Rattle.turn_lock.specs.Pass.{shares_of, seen_of, base_of, start_of};
 ghost use Rattle.turn_lock.specs.Positions.{end_of};
 
 use crate::grown::Grown;
-use crate::view::Knows;
+use crate::view::PassState;
 use atomic_table::Seat;
 use std::marker::Model;
 
 /// A seat at the table of a lock.
-pub(crate) type Place<V> = Seat<Option<V>, Knows<<V as Grown>::Base, <V as Grown>::Entry>>;
+pub(crate) type TableSeat<V> = Seat<Option<V>, PassState<<V as Grown>::Base, <V as Grown>::Entry>>;
 
 /// What one holder carries: shares of the right to the whole, the events that it has seen, and the
 /// positions that it added. Where a pass is dropped its shares are lost, and the lock can't be closed any more.
 pub struct Pass<V: Grown> {
-    pub(crate) seat: Place<V>,
+    pub(crate) seat: TableSeat<V>,
     pub(crate) shares: u32,
     pub(crate) position: u64,
 }
@@ -50,7 +50,7 @@ impl<V: Grown> Pass<V> {
     }
 
     // The seat, the number of shares, and the position.
-    pub(crate) fn into_parts(self) -> (Place<V>, u32, u64)
+    pub(crate) fn into_parts(self) -> (TableSeat<V>, u32, u64)
         ensures lock { result.0.table_id ≡ self.lock }
         ensures me { result.0.me ≡ (self.knows, self.taken) }
         ensures shares { (result.1 ≡ shares_of self) × (0 < result.1) }

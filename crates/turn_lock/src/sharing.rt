@@ -5,13 +5,13 @@ ghost use Rattle.turn_lock.specs.Steps.{left_with, given};
 
 use crate::grown::Grown;
 use crate::lock::{NEXT, TurnLock};
-use crate::pass::{Pass, Place};
-use crate::plays::{Count, Cut, Cutting, Pair};
+use crate::lock_rule::{Count, Cut, Cutting, Pair};
+use crate::pass::{Pass, TableSeat};
 use std::marker::Brand;
 
 impl<V: Grown> TurnLock<V> {
     // Moves shares to a new seat. `C` says for the proof how many.
-    fn cut<C: Cutting>(&self, seat: &mut Place<V>, shares: u32) -> Place<V>
+    fn cut<C: Cutting>(&self, seat: &mut TableSeat<V>, shares: u32) -> TableSeat<V>
         requires lock { seat.old.table_id ≡ self.now.lock }
         requires count { shares ≡ C.count }
         requires some { (0 < shares) × (shares < seat.old.me.0.shares) }

@@ -6,17 +6,17 @@ ghost use Rattle.turn_lock.specs.Pass.{found_at, found_closed_at, StaysClosed};
 ghost use Rattle.turn_lock.specs.Positions.{end_of};
 ghost use Rattle.turn_lock.specs.Steps.{at_stage, published, Found, waiting_with, IsInTurn};
 
+use crate::backoff::{Backoff, back_off};
 use crate::grown::Grown;
 use crate::lock::{END, NEXT, SERVING, TurnLock, VALUE};
-use crate::pass::Place;
-use crate::patience::{Patience, nap};
-use crate::plays::{Advance, Draw, Look, Post};
+use crate::lock_rule::{Advance, Draw, Look, Post};
+use crate::pass::TableSeat;
 use std::sync::Wait;
 use std::thread;
 
 impl<V: Grown> TurnLock<V> {
     // Takes the ticket, where it is still the next one.
-    fn try_draw(&self, seat: &mut Place<V>, ticket: u64) -> bool
+    fn try_draw(&self, seat: &mut TableSeat<V>, ticket: u64) -> bool
         requires seat { seat.old.table_id ≡ self.now.lock }
         requires idle { (seat.old.me.0.stage ≡ Idle) × (0 < seat.old.me.0.shares) }
         requires room { ticket + 1 < 2 ^ 64 }
@@ -30,7 +30,7 @@ impl<V: Grown> TurnLock<V> {
     }
 
     // Takes the next ticket. Where there is none left, it tries for ever.
-    pub(crate) fn draw<R: Wait>(&self, rt: &R, seat: &mut Place<V>) -> u64
+    pub(crate) fn draw<R: Wait>(&self, rt: &R, seat: &mut TableSeat<V>) -> u64
         requires seat { seat.old.table_id ≡ self.now.lock }
         requires idle { (seat.old.me.0.stage ≡ Idle) × (0 < seat.old.me.0.shares) }
         ensures seat { seat.new.table_id ≡ seat.old.table_id }
@@ -48,7 +48,7 @@ impl<V: Grown> TurnLock<V> {
     }
 
     // Whether the ticket is served. Then the value is out with the pass.
-    fn is_served(&self, seat: &mut Place<V>, ticket: u64) -> bool
+    fn is_served(&self, seat: &mut TableSeat<V>, ticket: u64) -> bool
         requires seat { seat.old.table_id ≡ self.now.lock }
         requires waiting { (seat.old.me.0.stage ≡ Waiting ticket) × (0 < seat.old.me.0.shares) }
         ensures seat { seat.new.table_id ≡ seat.old.table_id }
@@ -59,7 +59,7 @@ impl<V: Grown> TurnLock<V> {
     }
 
     // Takes the value out of its slot.
-    fn fetch(&self, seat: &mut Place<V>) -> V
+    fn fetch(&self, seat: &mut TableSeat<V>) -> V
         requires seat { seat.old.table_id ≡ self.now.lock }
         requires out { (v : V) × (seat.old.me.1 ≡ (0, Some v) ∷ []) }
         ensures seat { seat.new.table_id ≡ seat.old.table_id }
@@ -73,7 +73,7 @@ impl<V: Grown> TurnLock<V> {
     }
 
     // Waits until the ticket is served, and takes the value.
-    pub(crate) fn enter<R: Wait>(&self, rt: &R, seat: &mut Place<V>, ticket: u64) -> V
+    pub(crate) fn enter<R: Wait>(&self, rt: &R, seat: &mut TableSeat<V>, ticket: u64) -> V
         requires seat { seat.old.table_id ≡ self.now.lock }
         requires waiting { (seat.old.me.0.stage ≡ Waiting ticket) × (0 < seat.old.me.0.shares) × (seat.old.me.1 ≡ []) }
         ensures seat { seat.new.table_id ≡ seat.old.table_id }
@@ -83,7 +83,7 @@ impl<V: Grown> TurnLock<V> {
         ensures begins { IsPrefix seat.old.me.0.seen (V.events result) }
         ensures stays { StaysClosed seat.old.me.0.shut seat.old.me.0.seen (V.closed result) (V.events result) }
     {
-        let mut patience = Patience::new();
+        let mut patience = Backoff::new();
         for _ in rt.forever() {
             if self.is_served(seat, ticket) {
                 return self.fetch(seat);
@@ -94,18 +94,20 @@ impl<V: Grown> TurnLock<V> {
     }
 
     // Lets other threads go on: yields, or sleeps where the turn that is under way lasts.
-    fn pause<R: Wait>(&self, rt: &R, patience: &mut Patience, ticket: u64) {
+    fn pause<R: Wait>(&self, rt: &R, patience: &mut Backoff, ticket: u64) {
         let serving = self.table.shared.peek(SERVING);
         if patience.ends(serving, ticket) {
             let seen = (serving % 4_294_967_296) as u32;
-            self.table.shared.park_timeout(rt, SERVING, seen, nap());
+            self.table
+                .shared
+                .park_timeout(rt, SERVING, seen, back_off());
         } else {
             thread::yield_now();
         }
     }
 
     // Puts the value back, publishes where its events end, and serves the next ticket.
-    pub(crate) fn publish(&self, seat: &mut Place<V>, value: V, ticket: u64, position: u64)
+    pub(crate) fn publish(&self, seat: &mut TableSeat<V>, value: V, ticket: u64, position: u64)
         requires seat { seat.old.table_id ≡ self.now.lock }
         requires turn { IsInTurn ticket seat.old.me }
         requires base { seat.old.me.0.base ≡ Some (V.base value) }

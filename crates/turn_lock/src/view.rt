@@ -12,7 +12,7 @@ pub enum Stage<E> {
 }
 
 /// What a pass knows and has done.
-pub struct Knows<B, E> {
+pub struct PassState<B, E> {
     pub stage: Stage<E>,
     pub shares: u32,
     pub base: Option<B>,

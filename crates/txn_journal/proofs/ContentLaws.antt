@@ -3,7 +3,7 @@ use Rattle.std.proofs.Common.{◌≡◌, ◌⊎◌, inl, inr, ⊎_elim, ◌||◌
 use Rattle.std.specs.Prelude.{IsSome, is_some}
 use Rattle.std.proofs.lemmas.Bool.{cond-true, cond-false, or_parts}
 use Rattle.std.proofs.lemmas.List.{append-nil}
-use Rattle.txn_journal.specs.Contents.{Content, IsFront, counted, has_base, is_base, nothing, raised, with_payload, with_payloads}
+use Rattle.txn_journal.specs.Contents.{Content, IsFront, content_from, has_base, is_base, nothing, content_of_version_2, with_payload, with_payloads}
 use Rattle.txn_journal.specs.Reading.{based_on, with_next}
 use Rattle.txn_journal.specs.declared.versions.Version.{Version}
 use Rattle.txn_journal.specs.declared.versions.Version.TheVariants.{One, Two}
@@ -121,14 +121,14 @@ all_without_base version content (p ∷ payloads) none = by_kind (is_base versio
 -- ---- another version
 
 -- without a payload that would be a base the version makes no difference
-pub raised_same : (content : Content) → has_base Two content.payloads ≡ false → raised content ≡ content
+pub raised_same : (content : Content) → has_base Two content.payloads ≡ false → content_of_version_2 content ≡ content
 raised_same content none = all_counts Two (record { base = content.base; payloads = [] }) content.payloads none
 
-pub raised_one : (payloads : List (List ℕ)) → raised (counted One payloads) ≡ counted Two payloads
-raised_one payloads = ap raised (all_counts One nothing payloads (none_in_one payloads))
+pub raised_one : (payloads : List (List ℕ)) → content_of_version_2 (content_from One payloads) ≡ content_from Two payloads
+raised_one payloads = ap content_of_version_2 (all_counts One nothing payloads (none_in_one payloads))
 
-pub raised_two : (payloads : List (List ℕ)) → raised (counted Two payloads) ≡ counted Two payloads
-raised_two payloads = raised_same (counted Two payloads) (none_behind Two nothing payloads refl)
+pub raised_two : (payloads : List (List ℕ)) → content_of_version_2 (content_from Two payloads) ≡ content_from Two payloads
+raised_two payloads = raised_same (content_from Two payloads) (none_behind Two nothing payloads refl)
 
 -- ---- what begins with what
 

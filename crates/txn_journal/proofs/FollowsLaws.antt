@@ -2,7 +2,7 @@
 use Rattle.std.proofs.Common.{◌≡◌, ◌≢◌, ◌⊎◌, inl, inr, ⊎_elim, ℕ, Bool, true, false, List, [], ◌∷◌, ◌++◌, length, refl, sym, ◌∙◌, ap, subst, arith, append_assoc, length-append}
 use Rattle.std.proofs.lemmas.Bool.{cond-false}
 use Rattle.std.proofs.lemmas.List.{append-nil, append_cancel_left}
-use Rattle.txn_journal.specs.Contents.{Content, counted, has_base, is_base, nothing, version_of, with_payload, with_payloads}
+use Rattle.txn_journal.specs.Contents.{Content, content_from, has_base, is_base, nothing, version_of, with_payload, with_payloads}
 use Rattle.txn_journal.specs.Frames.{AllFit, Follows, IsShort, NoBaseBehind, body, counted_before, frames, front, magic}
 use Rattle.txn_journal.specs.declared.versions.Version.{Version}
 use Rattle.txn_journal.proofs.ContentLaws.{all_counts, base_counts, head_and_rest, none_of_either, payloads_join, payloads_push}
@@ -41,16 +41,16 @@ GoesOn from to more = to ≡ record { base = from.base; payloads = from.payloads
 
 -- what counts with a payload that follows is what counts of the payloads up to it
 counted_with : (file : List ℕ) (version : Version) (content : Content) (payload : List ℕ) (at : ℕ) → (follows : Follows file version content payload at)
-    → counted version (follows.before ++ payload ∷ []) ≡ with_payload version content payload
+    → content_from version (follows.before ++ payload ∷ []) ≡ with_payload version content payload
 counted_with file version content payload at follows = payloads_push version nothing follows.before payload ∙ by_kind (is_base version payload) refl
   where
-    by_kind : (b : Bool) → is_base version payload ≡ b → with_payload version (counted version follows.before) payload ≡ with_payload version content payload
-    by_kind true is = base_counts version (counted version follows.before) payload is ∙ sym (base_counts version content payload is)
-    by_kind false is = ap (λ (c : Content). with_payload version c payload) (sym (follows.counts ∙ cond-false _ nothing (counted version follows.before) is))
+    by_kind : (b : Bool) → is_base version payload ≡ b → with_payload version (content_from version follows.before) payload ≡ with_payload version content payload
+    by_kind true is = base_counts version (content_from version follows.before) payload is ∙ sym (base_counts version content payload is)
+    by_kind false is = ap (λ (c : Content). with_payload version c payload) (sym (follows.counts ∙ cond-false _ nothing (content_from version follows.before) is))
 
 -- what counts of payloads that begin with those up to one that follows
 module _ (file : List ℕ) (version : Version) (content : Content) (payload : List ℕ) (at : ℕ) (follows : Follows file version content payload at) where
-  upto_goes_on : (more : List (List ℕ)) → has_base version more ≡ false → GoesOn (with_payload version content payload) (counted version ((follows.before ++ payload ∷ []) ++ more)) more
+  upto_goes_on : (more : List (List ℕ)) → has_base version more ≡ false → GoesOn (with_payload version content payload) (content_from version ((follows.before ++ payload ∷ []) ++ more)) more
   upto_goes_on more none =
       payloads_join version nothing (follows.before ++ payload ∷ []) more
       ∙ ap (λ (c : Content). with_payloads version c more) (counted_with file version content payload at follows)
@@ -61,13 +61,13 @@ module _ (file : List ℕ) (version : Version) (content : Content) (payload : Li
 
   -- where the frames of a file end, its content goes on from what counts with the payload
   pub ends_behind : (mark : ℕ) (all : List (List ℕ)) (gate : ℕ) (rest : List ℕ) → AllFit all → (gate ≢ 1) ⊎ IsShort rest → file ≡ front mark all ++ gate ∷ rest
-      → (more : List (List ℕ)) × GoesOn (with_payload version content payload) (counted (version_of mark) all) more
+      → (more : List (List ℕ)) × GoesOn (with_payload version content payload) (content_from (version_of mark) all) more
   ends_behind mark all gate rest fit stops split =
       let whole = begin_all file follows.mark mark (follows.before ++ payload ∷ []) all follows.gate gate follows.rest rest follows.fit fit stops follows.split split in
       let more = whole.1.0 in
       let there : file ≡ front follows.mark ((follows.before ++ payload ∷ []) ++ more) ++ gate ∷ rest = split ∙ (λ k. front (sym whole.0 k) (whole.1.1 k) ++ gate ∷ rest) in
       let none = none_more more gate rest (subst AllFit whole.1.1 fit) there in
-      (more, (λ k. counted (version_of (sym whole.0 k)) (whole.1.1 k)) ∙ ap (λ (v : Version). counted v ((follows.before ++ payload ∷ []) ++ more)) follows.of_version ∙ upto_goes_on more none)
+      (more, (λ k. content_from (version_of (sym whole.0 k)) (whole.1.1 k)) ∙ ap (λ (v : Version). content_from v ((follows.before ++ payload ∷ []) ++ more)) follows.of_version ∙ upto_goes_on more none)
 
 -- ---- lists that end with one more
 
@@ -119,7 +119,7 @@ later_of file va vb a b w u p q x y marks more is = ⊎_elim
     let none = none_more file va a w p x more y.gate y.rest (subst AllFit is y.fit) (y.split ∙ (λ k. front (sym marks k) (is k) ++ y.gate ∷ y.rest)) in
     let kinds = none_of_either va some.0 (some.1.0 ∷ []) (ap (has_base va) (sym some.1.1) ∙ none) in
     let plain : is_base vb u ≡ false = (λ k. is_base (sym versions k) (parts.1 k)) ∙ (head_and_rest va some.1.0 [] kinds.1).0 in
-    let counts : b ≡ counted va ((x.before ++ w ∷ []) ++ some.0) = y.counts ∙ cond-false _ nothing (counted vb y.before) plain ∙ (λ k. counted (sym versions k) (parts.0 k)) in
+    let counts : b ≡ content_from va ((x.before ++ w ∷ []) ++ some.0) = y.counts ∙ cond-false _ nothing (content_from vb y.before) plain ∙ (λ k. content_from (sym versions k) (parts.0 k)) in
     inr (some.0, counts ∙ upto_goes_on file va a w p x some.0 kinds.0))
     (last_of more)
   where

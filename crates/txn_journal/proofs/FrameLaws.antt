@@ -3,8 +3,8 @@ use Rattle.std.proofs.Common.{◌≡◌, ◌⊎◌, inl, inr, ⊎_elim, ℕ, ◌
 use Rattle.std.proofs.lemmas.Bool.{cases_eq}
 use Rattle.std.proofs.lemmas.List.{append-nil, take_at, drop_at, drop_all, drop_more}
 use Rattle.std.specs.Int.{w32, to_le_bytes}
-use Rattle.ts_disk.specs.CrashImage.{written, Torn}
-use Rattle.txn_journal.specs.Contents.{Content, counted, nothing, raised, version_of, with_payload}
+use Rattle.ts_disk.specs.CrashImage.{file_after_write, Torn}
+use Rattle.txn_journal.specs.Contents.{Content, content_from, nothing, content_of_version_2, version_of, with_payload}
 use Rattle.txn_journal.specs.Frames.{AllFit, Fits, HoldsTo, StandsFor, StandsForEither, WithOrWithout, body, frames, front, header, magic, payload_of}
 use Rattle.txn_journal.specs.declared.versions.Version.{Version}
 use Rattle.txn_journal.specs.declared.versions.Version.TheVariants.{One, Two}
@@ -64,7 +64,7 @@ module _ (mark : ℕ) (payloads : List (List ℕ)) (end : ℕ) (place : end ≡ 
   staged gate payload rest = front mark payloads ++ gate ∷ (body payload ++ 0 ∷ rest)
 
   pub written_behind : (file : List ℕ) (payload : List ℕ) (gate : ℕ) (ignored : List ℕ) → file ≡ front mark payloads ++ gate ∷ ignored
-      → (rest : List ℕ) × (written file (end + 1) (body payload ++ 0 ∷ []) ≡ staged gate payload rest)
+      → (rest : List ℕ) × (file_after_write file (end + 1) (body payload ++ 0 ∷ []) ≡ staged gate payload rest)
   written_behind file payload gate ignored split =
       let piece = body payload ++ 0 ∷ [] in
       let rest = drop (end + 1 + length piece) file in
@@ -79,13 +79,13 @@ module _ (mark : ℕ) (payloads : List (List ℕ)) (end : ℕ) (place : end ≡ 
       )
 
   -- a payload more counts
-  one_more : (version : Version) (content : Content) (payload : List ℕ) → version_of mark ≡ version → content ≡ counted (version_of mark) payloads
-      → with_payload version content payload ≡ counted (version_of mark) (payloads ++ payload ∷ [])
+  one_more : (version : Version) (content : Content) (payload : List ℕ) → version_of mark ≡ version → content ≡ content_from (version_of mark) payloads
+      → with_payload version content payload ≡ content_from (version_of mark) (payloads ++ payload ∷ [])
   one_more version content payload of_version counts =
       (λ k. with_payload (sym of_version k) (counts k) payload) ∙ sym (payloads_push (version_of mark) nothing payloads payload)
 
   -- the frame stands whole in each outcome of the second write
-  pub torn_gate : (version : Version) (content : Content) (gate : ℕ) (payload rest c : List ℕ) → version_of mark ≡ version → content ≡ counted (version_of mark) payloads
+  pub torn_gate : (version : Version) (content : Content) (gate : ℕ) (payload rest c : List ℕ) → version_of mark ≡ version → content ≡ content_from (version_of mark) payloads
       → Fits payload → AllFit payloads → Torn end 1 (staged gate payload rest) c → WithOrWithout version content payload c
   torn_gate version content gate payload rest c of_version counts fits all torn =
       let file = staged gate payload rest in
@@ -112,8 +112,8 @@ module _ (mark : ℕ) (payloads : List (List ℕ)) (end : ℕ) (place : end ≡ 
       ]
 
   -- and after it the gate is open
-  pub written_gate : (version : Version) (content : Content) (gate : ℕ) (payload rest : List ℕ) → version_of mark ≡ version → content ≡ counted (version_of mark) payloads
-      → Fits payload → AllFit payloads → (later : ℕ) → later ≡ end + 5 + length payload → HoldsTo (written (staged gate payload rest) end (1 ∷ [])) version later (with_payload version content payload)
+  pub written_gate : (version : Version) (content : Content) (gate : ℕ) (payload rest : List ℕ) → version_of mark ≡ version → content ≡ content_from (version_of mark) payloads
+      → Fits payload → AllFit payloads → (later : ℕ) → later ≡ end + 5 + length payload → HoldsTo (file_after_write (staged gate payload rest) end (1 ∷ [])) version later (with_payload version content payload)
   written_gate version content gate payload rest of_version counts fits all later is = record {
     holds = record {
       mark = mark;
@@ -139,7 +139,7 @@ module _ (mark : ℕ) (payloads : List (List ℕ)) (end : ℕ) (place : end ≡ 
 pub torn_header : (file c : List ℕ) → length file ≤ 9 → Torn 0 9 file c → StandsFor c nothing
 torn_header file c short torn = inl (omega (arith, torn.no_longer), refl)
 
-pub written_header : (file : List ℕ) → length file ≤ 9 → written file 0 header ≡ header
+pub written_header : (file : List ℕ) → length file ≤ 9 → file_after_write file 0 header ≡ header
 written_header file short = ap (λ (l : List ℕ). header ++ l) (drop_all 9 file short)
 
 pub header_holds : HoldsTo header One 8 nothing
@@ -152,7 +152,7 @@ header_holds = record {
 -- ---- the byte of the version
 
 -- a file over whose eighth byte another is written
-version_written : (mark other : ℕ) (rest : List ℕ) → written (magic ++ mark ∷ rest) 7 (other ∷ []) ≡ magic ++ other ∷ rest
+version_written : (mark other : ℕ) (rest : List ℕ) → file_after_write (magic ++ mark ∷ rest) 7 (other ∷ []) ≡ magic ++ other ∷ rest
 version_written mark other rest = refl
 
 -- each outcome of that write differs in this byte alone
@@ -161,18 +161,18 @@ torn_version mark rest c torn =
     split_at_gate c 7 magic torn.before (omega (arith, torn.no_shorter)) ∙ ap (λ (l : List ℕ). magic ++ get_or c 7 0 ∷ l) torn.after
 
 -- what counts with this byte of a version, where this counts in version 1
-counts_with : (mark other : ℕ) (content : Content) (all : List (List ℕ)) → version_of mark ≡ One → content ≡ counted (version_of mark) all
-    → (version_of other ≡ One → content ≡ counted (version_of other) all) × (version_of other ≡ Two → raised content ≡ counted (version_of other) all)
+counts_with : (mark other : ℕ) (content : Content) (all : List (List ℕ)) → version_of mark ≡ One → content ≡ content_from (version_of mark) all
+    → (version_of other ≡ One → content ≡ content_from (version_of other) all) × (version_of other ≡ Two → content_of_version_2 content ≡ content_from (version_of other) all)
 counts_with mark other content all is_one counts = (
-  λ one. counts ∙ ap (λ (v : Version). counted v all) (is_one ∙ sym one),
-  λ two. ap raised (counts ∙ ap (λ (v : Version). counted v all) is_one) ∙ raised_one all ∙ ap (λ (v : Version). counted v all) (sym two),
+  λ one. counts ∙ ap (λ (v : Version). content_from v all) (is_one ∙ sym one),
+  λ two. ap content_of_version_2 (counts ∙ ap (λ (v : Version). content_from v all) is_one) ∙ raised_one all ∙ ap (λ (v : Version). content_from v all) (sym two),
 )
 
 one_or_two : (version : Version) → (version ≡ One) ⊎ (version ≡ Two)
 one_or_two One = inl refl
 one_or_two Two = inr refl
 
-pub torn_raise : (file c : List ℕ) (end : ℕ) (content : Content) → HoldsTo file One end content → Torn 7 1 file c → StandsForEither content (raised content) c
+pub torn_raise : (file c : List ℕ) (end : ℕ) (content : Content) → HoldsTo file One end content → Torn 7 1 file c → StandsForEither content (content_of_version_2 content) c
 torn_raise file c end content lies torn =
     let holds = lies.holds in
     let rest = frames holds.all ++ holds.gate ∷ holds.ignored in
@@ -183,7 +183,7 @@ torn_raise file c end content lies torn =
     (λ two. inr (inr (record { mark = get_or c 7 0; all = holds.all; gate = holds.gate; ignored = holds.ignored; split = whole; closed = holds.closed; fit = holds.fit; counts = with.1 two })))
     (one_or_two (version_of (get_or c 7 0)))
 
-pub written_raise : (file : List ℕ) (end : ℕ) (content : Content) → HoldsTo file One end content → HoldsTo (written file 7 (50 ∷ [])) Two end (raised content)
+pub written_raise : (file : List ℕ) (end : ℕ) (content : Content) → HoldsTo file One end content → HoldsTo (file_after_write file 7 (50 ∷ [])) Two end (content_of_version_2 content)
 written_raise file end content lies =
     let holds = lies.holds in
     record {
@@ -192,7 +192,7 @@ written_raise file end content lies =
         all = holds.all;
         gate = holds.gate;
         ignored = holds.ignored;
-        split = ap (λ (f : List ℕ). written f 7 (50 ∷ [])) holds.split;
+        split = ap (λ (f : List ℕ). file_after_write f 7 (50 ∷ [])) holds.split;
         closed = holds.closed;
         fit = holds.fit;
         counts = (counts_with holds.mark 50 content holds.all lies.of_version holds.counts).1 refl;
@@ -202,10 +202,10 @@ written_raise file end content lies =
     }
 
 -- one of version 2 counts as it did
-pub raised_holds : (file : List ℕ) (end : ℕ) (content : Content) → HoldsTo file Two end content → raised content ≡ content
+pub raised_holds : (file : List ℕ) (end : ℕ) (content : Content) → HoldsTo file Two end content → content_of_version_2 content ≡ content
 raised_holds file end content lies =
-    let is : content ≡ counted Two lies.holds.all = lies.holds.counts ∙ ap (λ (v : Version). counted v lies.holds.all) lies.of_version in
-    ap raised is ∙ raised_two lies.holds.all ∙ sym is
+    let is : content ≡ content_from Two lies.holds.all = lies.holds.counts ∙ ap (λ (v : Version). content_from v lies.holds.all) lies.of_version in
+    ap content_of_version_2 is ∙ raised_two lies.holds.all ∙ sym is
 
 -- what a closed frame holds
 pub closed_frame : (payload bytes : List ℕ) → bytes ≡ to_le_bytes w32 (length payload) ++ payload ++ 0 ∷ [] → (payload_of bytes ≡ payload) × (bytes ≡ body (payload_of bytes) ++ 0 ∷ [])

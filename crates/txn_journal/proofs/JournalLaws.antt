@@ -1,30 +1,30 @@
 -- What the calls of a journal leave.
 use Rattle.std.proofs.Common.{◌≡◌, ◌≢◌, inl, inr, ⊎_elim, ℕ, ◌≤◌, List, Option, Some, IsSomeAnd, refl, sym, subst}
-use Rattle.ts_disk.specs.CrashImage.{LeavesOnly, Torn, written}
+use Rattle.ts_disk.specs.CrashImage.{LeavesOnly, Torn, file_after_write}
 use Rattle.ts_disk.proofs.Told.{some_also}
 use Rattle.txn_journal.specs.Calls.{Logged, LiesAs, IsAtRest, IsTold, BeginSince}
-use Rattle.txn_journal.specs.Contents.{Content, IsFront, raised}
+use Rattle.txn_journal.specs.Contents.{Content, IsFront, content_of_version_2}
 use Rattle.txn_journal.specs.Frames.{HoldsTo, StandsFor, StandsForEither, StandsForMore, header}
 use Rattle.txn_journal.specs.Writes.{IsWritten, Rests, Tells}
-use Rattle.txn_journal.specs.declared.journals.Standing.{Standing}
-use Rattle.txn_journal.specs.declared.journals.Standing.TheVariants.{Bare, Ready, Still}
+use Rattle.txn_journal.specs.declared.journals.JournalState.{JournalState}
+use Rattle.txn_journal.specs.declared.journals.JournalState.TheVariants.{Bare, Ready, Still}
 use Rattle.txn_journal.specs.declared.versions.Version.{Version}
 use Rattle.txn_journal.specs.declared.versions.Version.TheVariants.{One, Two}
 use Rattle.txn_journal.proofs.FrameLaws.{header_holds, raised_holds, torn_header, written_header}
 
-pub lies_ready : (standing : Standing) (version : Version) (file : List ℕ) (end : ℕ) (content : Content) → standing ≢ Bare → LiesAs standing version file end content → HoldsTo file version end content
+pub lies_ready : (standing : JournalState) (version : Version) (file : List ℕ) (end : ℕ) (content : Content) → standing ≢ Bare → LiesAs standing version file end content → HoldsTo file version end content
 lies_ready Bare version file end content armed lies = absurd (armed refl)
 lies_ready Ready version file end content armed lies = lies
 lies_ready Still version file end content armed lies = absurd lies
 
 -- one that has a header goes on having it
-pub lies_as_ready : (standing : Standing) (version : Version) (file : List ℕ) (end : ℕ) (content : Content) (other : Version) (next : List ℕ) (later : ℕ) (all : Content) → standing ≢ Bare
+pub lies_as_ready : (standing : JournalState) (version : Version) (file : List ℕ) (end : ℕ) (content : Content) (other : Version) (next : List ℕ) (later : ℕ) (all : Content) → standing ≢ Bare
     → LiesAs standing version file end content → HoldsTo next other later all → LiesAs standing other next later all
 lies_as_ready Bare version file end content other next later all armed lies holds = absurd (armed refl)
 lies_as_ready Ready version file end content other next later all armed lies holds = holds
 lies_as_ready Still version file end content other next later all armed lies holds = absurd lies
 
-pub lies_stands : (standing : Standing) (version : Version) (file : List ℕ) (end : ℕ) (content : Content) → LiesAs standing version file end content → StandsFor file content
+pub lies_stands : (standing : JournalState) (version : Version) (file : List ℕ) (end : ℕ) (content : Content) → LiesAs standing version file end content → StandsFor file content
 lies_stands Bare version file end content lies = inl (lies.0, lies.2)
 lies_stands Ready version file end content lies = inr lies.holds
 lies_stands Still version file end content lies = absurd lies
@@ -72,16 +72,16 @@ module _ {D : Type 0} (bytes : D → Option (List ℕ)) (may_leave : D → List 
       }
 
   -- a header over a file of at most nine bytes
-  pub armed : (old : Logged D) (new : D) → ((file : List ℕ) → bytes old.disk ≡ Some file → IsWritten bytes may_leave new (written file 0 header))
+  pub armed : (old : Logged D) (new : D) → ((file : List ℕ) → bytes old.disk ≡ Some file → IsWritten bytes may_leave new (file_after_write file 0 header))
       → old.standing ≡ Bare → (content : Content) → IsTold bytes old content
       → IsAtRest bytes may_leave (record { disk = new; version = old.version; end = 8; standing = Ready }) content
   armed old new done is content tells =
-      let lies : LiesAs Bare old.version tells.file old.end content = subst (λ (s : Standing). LiesAs s old.version tells.file old.end content) is tells.lies in
+      let lies : LiesAs Bare old.version tells.file old.end content = subst (λ (s : JournalState). LiesAs s old.version tells.file old.end content) is tells.lies in
       let wrote = done tells.file tells.told in
-      let whole : written tells.file 0 header ≡ header = written_header tells.file lies.0 in
+      let whole : file_after_write tells.file 0 header ≡ header = written_header tells.file lies.0 in
       record {
         tells = record {
-          file = written tells.file 0 header;
+          file = file_after_write tells.file 0 header;
           told = wrote.told;
           lies = subst (λ (file : List ℕ). HoldsTo file old.version 8 content) (sym whole)
               (subst (λ (v : Version). HoldsTo header v 8 content) (sym lies.3) (subst (HoldsTo header One 8) (sym lies.2) header_holds));
@@ -93,12 +93,12 @@ module _ {D : Type 0} (bytes : D → Option (List ℕ)) (may_leave : D → List 
   pub armed_shows : (old : Logged D) (new : D) → ((file : List ℕ) → bytes old.disk ≡ Some file → IsSomeAnd (bytes new) (Torn 0 9 file))
       → old.standing ≡ Bare → (content : Content) → IsTold bytes old content → IsSomeAnd (bytes new) (λ file. StandsFor file content)
   armed_shows old new shown is content tells =
-      let lies : LiesAs Bare old.version tells.file old.end content = subst (λ (s : Standing). LiesAs s old.version tells.file old.end content) is tells.lies in
+      let lies : LiesAs Bare old.version tells.file old.end content = subst (λ (s : JournalState). LiesAs s old.version tells.file old.end content) is tells.lies in
       some_also (bytes new) (Torn 0 9 tells.file) (λ file. StandsFor file content)
       (λ now torn. subst (StandsFor now) (sym lies.2) (torn_header tells.file now lies.0 torn)) (shown tells.file tells.told)
 
   -- a journal of version 2 is what it would become
-  pub raised_tells : (old : Logged D) → old.version ≡ Two → old.standing ≢ Bare → (content : Content) → IsTold bytes old content → raised content ≡ content
+  pub raised_tells : (old : Logged D) → old.version ≡ Two → old.standing ≢ Bare → (content : Content) → IsTold bytes old content → content_of_version_2 content ≡ content
   raised_tells old is armed content tells =
       raised_holds tells.file old.end content
       (subst (λ (v : Version). HoldsTo tells.file v old.end content) is (lies_ready old.standing old.version tells.file old.end content armed tells.lies))

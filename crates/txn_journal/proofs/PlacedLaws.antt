@@ -3,8 +3,8 @@ use Rattle.std.proofs.Common.{◌≡◌, ◌⊎◌, inl, inr, ⊎_elim, ℕ, ◌
 use Rattle.std.specs.Prelude.{IsSome, is_some}
 use Rattle.std.proofs.lemmas.Bool.{cond-false, true≢false}
 use Rattle.std.proofs.lemmas.List.{map-append}
-use Rattle.txn_journal.specs.Contents.{Content, base_alone, counted, is_base, listed, nothing}
-use Rattle.txn_journal.specs.Frames.{Follows, body, frames, front, placed, payloads_of}
+use Rattle.txn_journal.specs.Contents.{Content, base_alone, content_from, is_base, payload_list, nothing}
+use Rattle.txn_journal.specs.Frames.{Follows, body, frames, front, payloads_at, payloads_of}
 use Rattle.txn_journal.specs.Reading.{based_on, with_next}
 use Rattle.txn_journal.specs.Recovering.{AreListed}
 use Rattle.txn_journal.specs.declared.payloads.Payload.{Payload}
@@ -12,13 +12,13 @@ use Rattle.txn_journal.specs.declared.versions.Version.{Version}
 use Rattle.txn_journal.proofs.ContentLaws.{all_without_base}
 use Rattle.txn_journal.proofs.FrameLaws.{length-body}
 
-placed-push : (at : ℕ) (payloads : List (List ℕ)) (payload : List ℕ) → placed at (payloads ++ payload ∷ []) ≡ placed at payloads ++ record { bytes = payload; at = at + length (frames payloads) } ∷ []
+placed-push : (at : ℕ) (payloads : List (List ℕ)) (payload : List ℕ) → payloads_at at (payloads ++ payload ∷ []) ≡ payloads_at at payloads ++ record { bytes = payload; at = at + length (frames payloads) } ∷ []
 placed-push at [] payload = let same : at ≡ at + 0 = omega arith in ap (λ (n : ℕ). record { bytes = payload; at = n } ∷ []) same
 placed-push at (p ∷ payloads) payload =
     let moved : at + 5 + length p + length (frames payloads) ≡ at + length (frames (p ∷ payloads)) =
     omega (arith, length-append (body p) (frames payloads), length-body p) in
     ap (λ (ps : List Payload). record { bytes = p; at = at } ∷ ps)
-    (placed-push (at + 5 + length p) payloads payload ∙ ap (λ (n : ℕ). placed (at + 5 + length p) payloads ++ record { bytes = payload; at = n } ∷ []) moved)
+    (placed-push (at + 5 + length p) payloads payload ∙ ap (λ (n : ℕ). payloads_at (at + 5 + length p) payloads ++ record { bytes = payload; at = n } ∷ []) moved)
 
 length-frames-push : (payloads : List (List ℕ)) (payload : List ℕ) → length (frames (payloads ++ payload ∷ [])) ≡ length (frames payloads) + 5 + length payload
 length-frames-push [] payload = omega (arith, length-append (body payload) [], length-body payload)
@@ -28,14 +28,14 @@ length-frames-push (p ∷ payloads) payload =
 -- payloads with their places are what counts, up to this gate
 pub record ListedTo (payloads : List Payload) (content : Content) (at : ℕ) : Type 0 where
   pub first : ℕ
-  pub all : payloads_of payloads ≡ listed content
-  pub places : payloads ≡ placed first (payloads_of payloads)
+  pub all : payloads_of payloads ≡ payload_list content
+  pub places : payloads ≡ payloads_at first (payloads_of payloads)
   pub upto : at ≡ first + length (frames (payloads_of payloads))
   pub begins : (payloads ≡ []) ⊎ ((first ≡ 8) ⊎ IsSome content.base)
 
 pub are_listed : (payloads : List Payload) (content : Content) (at : ℕ) → ListedTo payloads content at → AreListed payloads content
 are_listed payloads content at to = ⊎_elim
-    (λ none. record { first = 8; all = to.all; places = subst (λ (ps : List Payload). ps ≡ placed 8 (payloads_of ps)) (sym none) refl; from_first_gate = inl refl })
+    (λ none. record { first = 8; all = to.all; places = subst (λ (ps : List Payload). ps ≡ payloads_at 8 (payloads_of ps)) (sym none) refl; from_first_gate = inl refl })
     (λ there. record { first = to.first; all = to.all; places = to.places; from_first_gate = there })
     to.begins
 
@@ -49,23 +49,23 @@ base_listed new bytes at later is moves =
     record {
       first = at;
       all = all;
-      places = is ∙ sym (ap (placed at) all);
+      places = is ∙ sym (ap (payloads_at at) all);
       upto = omega (arith, moves, ap (λ (ps : List (List ℕ)). length (frames ps)) all, length-frames-push [] bytes);
       begins = inr (inr refl);
     }
 
 -- where nothing counted so far and none is a base, a payload stands behind the first gate
 first_place : (file : List ℕ) (version : Version) (content : Content) (payload : List ℕ) (at : ℕ) → Follows file version content payload at → is_base version payload ≡ false
-    → listed content ≡ [] → (at ≡ 8) ⊎ IsSome content.base
+    → payload_list content ≡ [] → (at ≡ 8) ⊎ IsSome content.base
 first_place file version content payload at follows plain none = by_base content.base refl
   where
-    counts : content ≡ counted version follows.before
-    counts = follows.counts ∙ cond-false _ nothing (counted version follows.before) plain
+    counts : content ≡ content_from version follows.before
+    counts = follows.counts ∙ cond-false _ nothing (content_from version follows.before) plain
 
     by_base : (base : Option (List ℕ)) → content.base ≡ base → (at ≡ 8) ⊎ IsSome content.base
     by_base (Some b) is = inr (ap is_some is)
     by_base None is =
-        let without : IsSome (counted version follows.before).base → ⊥ = λ some. true≢false (sym some ∙ ap (λ (c : Content). is_some c.base) (sym counts) ∙ ap is_some is) in
+        let without : IsSome (content_from version follows.before).base → ⊥ = λ some. true≢false (sym some ∙ ap (λ (c : Content). is_some c.base) (sym counts) ∙ ap is_some is) in
         let before : follows.before ≡ [] =
         sym (all_without_base version nothing follows.before without) ∙ ap (λ (c : Content). c.payloads) (sym counts) ∙ ap (λ (b : Option (List ℕ)). base_alone b ++ content.payloads) (sym is) ∙ none in
         inl (follows.place ∙ ap (λ (ps : List (List ℕ)). length (front follows.mark ps)) before)
@@ -75,9 +75,9 @@ pub next_listed : (file : List ℕ) (version : Version) (payloads new : List Pay
     → ListedTo payloads content at → later ≡ at + 5 + length bytes → Follows file version content bytes at → is_base version bytes ≡ false → ListedTo new (with_next content bytes) later
 next_listed file version payloads new content bytes at later is before moves follows plain =
     let all : payloads_of new ≡ payloads_of payloads ++ bytes ∷ [] = ap payloads_of is ∙ map-append (λ (p : Payload). p.bytes) payloads (record { bytes = bytes; at = at } ∷ []) in
-    let listed_now : payloads_of new ≡ listed (with_next content bytes) = all ∙ ap (λ (ps : List (List ℕ)). ps ++ bytes ∷ []) before.all ∙ append_assoc (base_alone content.base) content.payloads (bytes ∷ []) in
-    let places_now : new ≡ placed before.first (payloads_of new) =
-    is ∙ (λ k. before.places k ++ record { bytes = bytes; at = before.upto k } ∷ []) ∙ sym (placed-push before.first (payloads_of payloads) bytes) ∙ ap (placed before.first) (sym all) in
+    let listed_now : payloads_of new ≡ payload_list (with_next content bytes) = all ∙ ap (λ (ps : List (List ℕ)). ps ++ bytes ∷ []) before.all ∙ append_assoc (base_alone content.base) content.payloads (bytes ∷ []) in
+    let places_now : new ≡ payloads_at before.first (payloads_of new) =
+    is ∙ (λ k. before.places k ++ record { bytes = bytes; at = before.upto k } ∷ []) ∙ sym (placed-push before.first (payloads_of payloads) bytes) ∙ ap (payloads_at before.first) (sym all) in
     let upto_now : later ≡ before.first + length (frames (payloads_of new)) =
     omega (arith, moves, before.upto, ap (λ (ps : List (List ℕ)). length (frames ps)) all, length-frames-push (payloads_of payloads) bytes) in
     record {

@@ -4,14 +4,14 @@ use Rattle.std.proofs.lemmas.Bool.{cond-true, cond-false}
 use Rattle.std.proofs.lemmas.List.{take_at, take_more, drop_more, drop-drop, append_cancel_left}
 use Rattle.std.specs.Int.{w32, to_le_bytes}
 use Rattle.txn_journal.specs.Calls.{LiesAs}
-use Rattle.txn_journal.specs.Contents.{Content, counted, has_base, is_base, nothing, version_of, with_payload}
+use Rattle.txn_journal.specs.Contents.{Content, content_from, has_base, is_base, nothing, version_of, with_payload}
 use Rattle.txn_journal.specs.Frames.{AllFit, Fits, Follows, HoldsTo, NoBaseBehind, StandsFor, IsDamaged, IsShort, body, counted_before, front, header}
 use Rattle.txn_journal.specs.Places.{IsReading}
 use Rattle.txn_journal.specs.Reading.{BaseFollows, Counts, HasFrames, HasRead, IsHead, IsReadTo, Progress, ReadsTo, StartsAs, at_gate, based_on, with_next}
 use Rattle.txn_journal.specs.declared.heads.Head.TheVariants.{Closed, Frame, Short}
 use Rattle.txn_journal.specs.declared.heads.Start.TheVariants.{Bare as StartsBare, Journal as StartsJournal}
-use Rattle.txn_journal.specs.declared.journals.Standing.{Standing}
-use Rattle.txn_journal.specs.declared.journals.Standing.TheVariants.{Bare, Ready, Still}
+use Rattle.txn_journal.specs.declared.journals.JournalState.{JournalState}
+use Rattle.txn_journal.specs.declared.journals.JournalState.TheVariants.{Bare, Ready, Still}
 use Rattle.txn_journal.specs.declared.versions.Version.{Version}
 use Rattle.txn_journal.specs.declared.versions.Version.TheVariants.{One}
 use Rattle.txn_journal.proofs.ContentLaws.{base_counts, head_and_rest, next_counts, none_in_one, payloads_push}
@@ -129,9 +129,9 @@ module _ (file : List ℕ) (version : Version) (at : ℕ) (content : Content) (r
     Last = NoBaseBehind file read.mark (read.before ++ payload ∷ [])
 
     abbrev so_far : Content
-    so_far = counted (version_of read.mark) read.before
+    so_far = content_from (version_of read.mark) read.before
 
-    pushed : counted (version_of read.mark) (read.before ++ payload ∷ []) ≡ with_payload version so_far payload
+    pushed : content_from (version_of read.mark) (read.before ++ payload ∷ []) ≡ with_payload version so_far payload
     pushed = payloads_push (version_of read.mark) nothing read.before payload ∙ ap (λ (v : Version). with_payload v so_far payload) read.of_version
 
     follows_there : content ≡ counted_before version read.before payload → Last → Follows file version content payload at
@@ -159,8 +159,8 @@ module _ (file : List ℕ) (version : Version) (at : ℕ) (content : Content) (r
             let none = counts.1 (payload ∷ []) (get_or file (at + 5 + n) 0) (drop (at + 5 + n + 1) file) later.fit split_behind in
             let plain : is_base version payload ≡ false = ap (λ (v : Version). is_base v payload) (sym read.of_version) ∙ (head_and_rest (version_of read.mark) payload [] none).0 in
             let last = none_behind_next file read.mark read.before payload counts.1 in
-            let here : content ≡ counted version read.before = counts.0 ∙ ap (λ (v : Version). counted v read.before) read.of_version in (
-              follows_there (here ∙ sym (cond-false _ nothing (counted version read.before) plain)) last,
+            let here : content ≡ content_from version read.before = counts.0 ∙ ap (λ (v : Version). content_from v read.before) read.of_version in (
+              follows_there (here ∙ sym (cond-false _ nothing (content_from version read.before) plain)) last,
               read_there (ap (λ (c : Content). with_payload version c payload) counts.0) last,
             )
         by_counts (inr awaits) =
@@ -170,7 +170,7 @@ module _ (file : List ℕ) (version : Version) (at : ℕ) (content : Content) (r
             let same = (same_payload base.payload payload (base.gate ∷ base.rest) (get_or file (at + 5 + n) 0 ∷ drop (at + 5 + n + 1) file) base.fits fits (sym there ∙ here)).0 in
             let is_one : is_base version payload ≡ true = (λ k. is_base (sym read.of_version k) (sym same k)) ∙ base.base in
             let last : Last = subst (λ (p : List ℕ). NoBaseBehind file read.mark (read.before ++ p ∷ [])) same base.last in (
-              follows_there (awaits.0 ∙ sym (cond-true _ nothing (counted version read.before) is_one)) last,
+              follows_there (awaits.0 ∙ sym (cond-true _ nothing (content_from version read.before) is_one)) last,
               read_there (base_counts version content payload is_one ∙ sym (base_counts version so_far payload is_one)) last,
             )
 
@@ -200,12 +200,12 @@ begins_one file long starts = record {
 -- ---- a reader
 
 -- a reader of a file with a header
-ready_of : (s : Standing) (version : Version) (file : List ℕ) (at : ℕ) (content : Content) → s ≢ Bare → IsReadTo s version file at content → s ≡ Ready
+ready_of : (s : JournalState) (version : Version) (file : List ℕ) (at : ℕ) (content : Content) → s ≢ Bare → IsReadTo s version file at content → s ≡ Ready
 ready_of Bare version file at content armed read = absurd (armed refl)
 ready_of Ready version file at content armed read = refl
 ready_of Still version file at content armed read = absurd read
 
-pub within_size : (told : Option (List ℕ)) (s : Standing) (size at : ℕ) → s ≢ Bare → IsReading told s size at → at < size
+pub within_size : (told : Option (List ℕ)) (s : JournalState) (size at : ℕ) → s ≢ Bare → IsReading told s size at → at < size
 within_size told Bare size at armed reading = absurd (armed refl)
 within_size told Ready size at armed reading = reading.1
 within_size told Still size at armed reading = absurd reading
@@ -216,7 +216,7 @@ module _ {D : Type 0} (bytes : D → Option (List ℕ)) (old : Progress D) (disk
   is_ready = ready_of old.standing old.version file old.at content armed has.read
 
   ready_read : ReadsTo file old.version old.at content
-  ready_read = subst (λ (s : Standing). IsReadTo s old.version file old.at content) is_ready has.read
+  ready_read = subst (λ (s : JournalState). IsReadTo s old.version file old.at content) is_ready has.read
 
   in_file : old.at < length file
   in_file = omega (arith, within, has.size)
@@ -225,7 +225,7 @@ module _ {D : Type 0} (bytes : D → Option (List ℕ)) (old : Progress D) (disk
   step_closed shut =
       let lies = closed_lies file old.version old.at content ready_read in_file shut in (
         inr lies.holds,
-        record { told = same ∙ has.told; size = long; read = has.read; done = λ is. subst (λ (s : Standing). LiesAs s old.version file old.at content) (sym is_ready) lies },
+        record { told = same ∙ has.told; size = long; read = has.read; done = λ is. subst (λ (s : JournalState). LiesAs s old.version file old.at content) (sym is_ready) lies },
       )
 
   pub step_short : IsHead Short file old.at → IsDamaged file content old.at × HasRead bytes (record old { disk = disk; size = size; is_done = false }) file content
@@ -245,7 +245,7 @@ module _ {D : Type 0} (bytes : D → Option (List ℕ)) (old : Progress D) (disk
     read_more now counts = record {
       told = same ∙ has.told;
       size = long;
-      read = subst (λ (s : Standing). IsReadTo s old.version file behind now) (sym is_ready)
+      read = subst (λ (s : JournalState). IsReadTo s old.version file behind now) (sym is_ready)
           (subst (λ (m : ℕ). ReadsTo file old.version m now) (sym moves) (subst (λ (c : Content). ReadsTo file old.version (old.at + 5 + n) c) counts counted_more.1));
       done = λ no_end. absurd (cc no_end);
     }
@@ -257,7 +257,7 @@ module _ {D : Type 0} (bytes : D → Option (List ℕ)) (old : Progress D) (disk
     step_payload plain = (counted_more.0, read_more (with_next content payload) (next_counts old.version content payload plain))
 
 -- a reader at the gate where reading begins
-pub opens_at : {D : Type 0} (bytes : D → Option (List ℕ)) (reader : Progress D) (disk : D) (standing : Standing) (version : Version) (size at : ℕ) (file : List ℕ)
+pub opens_at : {D : Type 0} (bytes : D → Option (List ℕ)) (reader : Progress D) (disk : D) (standing : JournalState) (version : Version) (size at : ℕ) (file : List ℕ)
     → reader ≡ at_gate disk standing version size at → bytes disk ≡ Some file → size ≡ length file → IsReadTo standing version file at nothing → HasRead bytes reader file nothing
 opens_at {D} bytes reader disk standing version size at file made told long read =
     subst (λ (r : Progress D). HasRead bytes r file nothing) (sym made) (record { told = told; size = long; read = read; done = λ is. absurd (cc is) })

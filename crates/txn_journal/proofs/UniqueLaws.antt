@@ -3,7 +3,7 @@ use Rattle.std.proofs.Common.{◌≡◌, ◌≢◌, ◌⊎◌, inl, inr, ⊎_eli
 use Rattle.std.proofs.lemmas.List.{take_at, drop_at}
 use Rattle.std.proofs.lemmas.Nat.{from_le_bytes-to_le_bytes_4}
 use Rattle.std.specs.Int.{w32, to_le_bytes, from_le_bytes}
-use Rattle.txn_journal.specs.Contents.{Content, counted, nothing, version_of}
+use Rattle.txn_journal.specs.Contents.{Content, content_from, nothing, version_of}
 use Rattle.txn_journal.specs.Frames.{AllFit, Fits, Holds, StandsFor, IsDamaged, IsShort, body, frames, front, magic}
 use Rattle.txn_journal.proofs.FrameLaws.{length-body}
 
@@ -106,7 +106,7 @@ begin_all file m n a b g h r s fit_a fit_b stop is_a is_b =
 
 -- a file of at most nine bytes holds no payload
 none_held : (file : List ℕ) (content : Content) → length file ≤ 9 → Holds file content → content ≡ nothing
-none_held file content short holds = holds.counts ∙ ap (counted (version_of holds.mark)) (none_of holds.all holds.split)
+none_held file content short holds = holds.counts ∙ ap (content_from (version_of holds.mark)) (none_of holds.all holds.split)
   where
     none_of : (all : List (List ℕ)) → file ≡ front holds.mark all ++ holds.gate ∷ holds.ignored → all ≡ []
     none_of [] split = refl
@@ -114,8 +114,8 @@ none_held file content short holds = holds.counts ∙ ap (counted (version_of ho
         absurd (omega (arith, short, ap length split, length-append (frames (p ∷ all)) (holds.gate ∷ holds.ignored), length-append (body p) (frames all), length-body p))
 
 -- of the same payloads in the same version the same counts
-same_counts : (m n : ℕ) (a b : List (List ℕ)) (c d : Content) → m ≡ n → a ≡ b → c ≡ counted (version_of m) a → d ≡ counted (version_of n) b → c ≡ d
-same_counts m n a b c d marks all is_c is_d = is_c ∙ (λ k. counted (version_of (marks k)) (all k)) ∙ sym is_d
+same_counts : (m n : ℕ) (a b : List (List ℕ)) (c d : Content) → m ≡ n → a ≡ b → c ≡ content_from (version_of m) a → d ≡ content_from (version_of n) b → c ≡ d
+same_counts m n a b c d marks all is_c is_d = is_c ∙ (λ k. content_from (version_of (marks k)) (all k)) ∙ sym is_d
 
 pub stands_once : (file : List ℕ) (a b : Content) → StandsFor file a → StandsFor file b → a ≡ b
 stands_once file a b (inl x) (inl y) = x.1 ∙ sym y.1

@@ -6,8 +6,8 @@ use Rattle.txn_journal.specs.Contents.{Content, nothing}
 use Rattle.txn_journal.specs.Frames.{HoldsTo, StandsForMore, header}
 use Rattle.txn_journal.specs.declared.journals.Append.{Append}
 use Rattle.txn_journal.specs.declared.journals.Append.TheVariants.{Done, DiskFault, Stopped}
-use Rattle.txn_journal.specs.declared.journals.Standing.{Standing}
-use Rattle.txn_journal.specs.declared.journals.Standing.TheVariants.{Bare, Ready, Still}
+use Rattle.txn_journal.specs.declared.journals.JournalState.{JournalState}
+use Rattle.txn_journal.specs.declared.journals.JournalState.TheVariants.{Bare, Ready, Still}
 use Rattle.txn_journal.specs.declared.versions.Version.{Version}
 use Rattle.txn_journal.specs.declared.versions.Version.TheVariants.{One}
 
@@ -17,11 +17,11 @@ pub record Logged (D : Type 0) : Type 0 where
   pub disk : D
   pub version : Version
   pub end : ℕ
-  pub standing : Standing
+  pub standing : JournalState
 
 -- a journal's file and its place: one without a header has at most nine bytes and will be of version 1, and another
 -- holds payloads up to the place
-abbrev pub LiesAs : Standing → Version → List ℕ → ℕ → Content → Type 0
+abbrev pub LiesAs : JournalState → Version → List ℕ → ℕ → Content → Type 0
 LiesAs Bare version file end content =
     (length file ≤ 9) × (file ≢ header) × (content ≡ nothing) × (version ≡ One)
 LiesAs Ready version file end content = HoldsTo file version end content
@@ -45,7 +45,7 @@ BeginSince left_since disk t content = (c : List ℕ) → left_since disk t c �
 
 -- an answer, and how the journal stood before it and stands after it: `Stopped` comes exactly where it had stopped,
 -- and it stops by a fault
-abbrev pub Ends : Append → Standing → Standing → Type 0
+abbrev pub Ends : Append → JournalState → JournalState → Type 0
 Ends Done before now = (before ≢ Still) × (now ≡ Ready)
 Ends DiskFault before now = (before ≢ Still) × (now ≡ Still)
 Ends Stopped before now = (before ≡ Still) × (now ≡ Still)

@@ -43,12 +43,12 @@ with_payloads version content (payload ∷ payloads) =
     with_payloads version (with_payload version content payload) payloads
 
 -- what counts of these payloads: the last base, and those behind it; all of them, where there is no base
-abbrev pub counted : Version → List (List ℕ) → Content
-counted version payloads = with_payloads version nothing payloads
+abbrev pub content_from : Version → List (List ℕ) → Content
+content_from version payloads = with_payloads version nothing payloads
 
 -- what counts as soon as the journal is of version 2
-abbrev pub raised : Content → Content
-raised content = with_payloads Two (record { base = content.base; payloads = [] }) content.payloads
+abbrev pub content_of_version_2 : Content → Content
+content_of_version_2 content = with_payloads Two (record { base = content.base; payloads = [] }) content.payloads
 
 -- a base alone, or nothing
 abbrev pub base_alone : Option (List ℕ) → List (List ℕ)
@@ -56,8 +56,8 @@ base_alone None = []
 base_alone (Some payload) = payload ∷ []
 
 -- what counts, one payload after the other
-abbrev pub listed : Content → List (List ℕ)
-listed content = base_alone content.base ++ content.payloads
+abbrev pub payload_list : Content → List (List ℕ)
+payload_list content = base_alone content.base ++ content.payloads
 
 -- one content begins another: they have the same base, and the payloads of the one are the first of the other's
 pub record IsFront (front whole : Content) : Type 0 where

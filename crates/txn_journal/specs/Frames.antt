@@ -1,7 +1,7 @@
 -- What the bytes of a journal stand for.
 use Rattle.std.specs.Prelude.{◌≡◌, ◌≢◌, ◌⊎◌, ℕ, false, cond, ◌+◌, ◌^◌, ◌<◌, ◌≤◌, List, [], ◌∷◌, ◌++◌, length, take, drop, map, ◌-◌, ⊤}
 use Rattle.std.specs.Int.{w32, to_le_bytes, from_le_bytes}
-use Rattle.txn_journal.specs.Contents.{Content, IsFront, counted, has_base, is_base, nothing, version_of, with_payload}
+use Rattle.txn_journal.specs.Contents.{Content, IsFront, content_from, has_base, is_base, nothing, version_of, with_payload}
 use Rattle.txn_journal.specs.declared.payloads.Payload.{Payload}
 use Rattle.txn_journal.specs.declared.versions.Version.{Version}
 
@@ -43,7 +43,7 @@ pub record Holds (file : List ℕ) (content : Content) : Type 0 where
   pub split : file ≡ front mark all ++ gate ∷ ignored
   pub closed : gate ≢ 1
   pub fit : AllFit all
-  pub counts : content ≡ counted (version_of mark) all
+  pub counts : content ≡ content_from (version_of mark) all
 
 -- a file stands for what counts in it: it has at most nine bytes and stands for nothing, or holds payloads
 abbrev pub StandsFor : List ℕ → Content → Type 0
@@ -68,7 +68,7 @@ pub record BreaksOff (file : List ℕ) (content : Content) (at : ℕ) : Type 0 w
   pub short : IsShort rest
   pub place : at ≡ length (front mark all)
   pub fit : AllFit all
-  pub counts : content ≡ counted (version_of mark) all
+  pub counts : content ≡ content_from (version_of mark) all
 
 -- a file of more than nine bytes begins with other bytes than a journal
 pub record IsForeign (file : List ℕ) (content : Content) (at : ℕ) : Type 0 where
@@ -89,7 +89,7 @@ NoBaseBehind file mark payloads =
 
 -- what counts before a payload: nothing, where it is a base
 abbrev pub counted_before : Version → List (List ℕ) → List ℕ → Content
-counted_before version payloads payload = cond (is_base version payload) nothing (counted version payloads)
+counted_before version payloads payload = cond (is_base version payload) nothing (content_from version payloads)
 
 -- behind the open gate at this place stands a whole frame of this payload. It counts, and this counts before it
 pub record Follows (file : List ℕ) (version : Version) (content : Content) (payload : List ℕ) (at : ℕ) : Type 0 where
@@ -119,9 +119,9 @@ abbrev pub WithOrWithout : Version → Content → List ℕ → List ℕ → Typ
 WithOrWithout version content payload file = StandsForEither content (with_payload version content payload) file
 
 -- payloads with the places of their open gates, the first of which stands at this place
-abbrev pub placed : ℕ → List (List ℕ) → List Payload
-placed at [] = []
-placed at (payload ∷ payloads) = record { bytes = payload; at = at } ∷ placed (at + 5 + length payload) payloads
+abbrev pub payloads_at : ℕ → List (List ℕ) → List Payload
+payloads_at at [] = []
+payloads_at at (payload ∷ payloads) = record { bytes = payload; at = at } ∷ payloads_at (at + 5 + length payload) payloads
 
 abbrev pub payloads_of : List Payload → List (List ℕ)
 payloads_of payloads = map (λ p. p.bytes) payloads

@@ -2,17 +2,17 @@
 use Rattle.std.specs.Prelude.{ℕ, ◌+◌, ◌<◌, ◌≤◌, List, Option, ⊤}
 use Rattle.ts_disk.specs.Disk.{HasLength, HasRange}
 use Rattle.ts_disk.specs.declared.disks.TheConstants.{MOST_BYTES}
-use Rattle.txn_journal.specs.declared.journals.Standing.{Standing}
-use Rattle.txn_journal.specs.declared.journals.Standing.TheVariants.{Bare, Ready, Still}
+use Rattle.txn_journal.specs.declared.journals.JournalState.{JournalState}
+use Rattle.txn_journal.specs.declared.journals.JournalState.TheVariants.{Bare, Ready, Still}
 
 -- a journal that takes payloads has its gate within its file
-abbrev pub IsPlaced : Option (List ℕ) → Standing → ℕ → Type 0
+abbrev pub IsPlaced : Option (List ℕ) → JournalState → ℕ → Type 0
 IsPlaced told Bare end = ⊤
 IsPlaced told Ready end = (8 ≤ end) × (end + 1 ≤ MOST_BYTES) × HasRange told (end + 1)
 IsPlaced told Still end = ⊤
 
 -- a reader stands at a gate of its file
-abbrev pub IsReading : Option (List ℕ) → Standing → ℕ → ℕ → Type 0
+abbrev pub IsReading : Option (List ℕ) → JournalState → ℕ → ℕ → Type 0
 IsReading told Bare size at = ⊤
 IsReading told Ready size at = (8 ≤ at) × (at < size) × (size ≤ MOST_BYTES) × HasLength told size
 IsReading told Still size at = ⊥

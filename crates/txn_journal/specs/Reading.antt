@@ -5,23 +5,23 @@ use Rattle.ts_schema.specs.Faults.{Rose}
 use Rattle.ts_disk.specs.Disk.{IsRange}
 use Rattle.ts_disk.specs.declared.disks.TheConstants.{MOST_BYTES}
 use Rattle.txn_journal.specs.Calls.{LiesAs}
-use Rattle.txn_journal.specs.Contents.{Content, counted, is_base, nothing, version_of}
+use Rattle.txn_journal.specs.Contents.{Content, content_from, is_base, nothing, version_of}
 use Rattle.txn_journal.specs.Frames.{AllFit, Fits, Follows, NoBaseBehind, StandsFor, IsDamaged, IsShort, front, magic, header}
 use Rattle.txn_journal.specs.Places.{IsReading}
-use Rattle.txn_journal.specs.declared.bases.Beginning.{Beginning}
+use Rattle.txn_journal.specs.declared.read_start.ReadStart.{ReadStart}
 use Rattle.txn_journal.specs.declared.heads.Head.{Head}
 use Rattle.txn_journal.specs.declared.heads.Head.TheVariants.{Closed, Frame, Short}
 use Rattle.txn_journal.specs.declared.heads.Start.{Start}
 use Rattle.txn_journal.specs.declared.heads.Start.TheVariants.{Bare as StartsBare, Journal as StartsJournal, Foreign as StartsForeign}
-use Rattle.txn_journal.specs.declared.journals.Standing.{Standing}
-use Rattle.txn_journal.specs.declared.journals.Standing.TheVariants.{Bare, Ready, Still}
+use Rattle.txn_journal.specs.declared.journals.JournalState.{JournalState}
+use Rattle.txn_journal.specs.declared.journals.JournalState.TheVariants.{Bare, Ready, Still}
 use Rattle.txn_journal.specs.declared.readers.Next.{Next}
 use Rattle.txn_journal.specs.declared.readers.Next.TheVariants.{Base, Payload, End, Damaged, DiskFault, NoMemory}
-use Rattle.txn_journal.specs.declared.openings.Found.{Found}
-use Rattle.txn_journal.specs.declared.readers.Fetched.{Fetched}
+use Rattle.txn_journal.specs.declared.openings.FileStart.{FileStart}
+use Rattle.txn_journal.specs.declared.readers.PayloadRead.{PayloadRead}
 use Rattle.txn_journal.specs.declared.versions.Version.{Version}
 use Rattle.txn_journal.specs.declared.versions.Version.TheVariants.{One}
-use Rattle.txn_journal.specs.declared.readers.Fetched.TheVariants.{Done as Taking, DiskFault as TakeFault, NoMemory as TakeNothing}
+use Rattle.txn_journal.specs.declared.readers.PayloadRead.TheVariants.{Done as Taking, DiskFault as TakeFault, NoMemory as TakeNothing}
 
 -- ---- what is read
 
@@ -64,7 +64,7 @@ pub record BaseFollows (file : List ℕ) (mark : ℕ) (payloads : List (List ℕ
 -- read last, and whether the end was found
 pub record Progress (D : Type 0) : Type 0 where
   pub disk : D
-  pub standing : Standing
+  pub standing : JournalState
   pub version : Version
   pub size : ℕ
   pub at : ℕ
@@ -72,7 +72,7 @@ pub record Progress (D : Type 0) : Type 0 where
   pub is_done : Bool
 
 -- a reader that has read no payload, at this gate
-abbrev pub at_gate : {D : Type 0} → D → Standing → Version → ℕ → ℕ → Progress D
+abbrev pub at_gate : {D : Type 0} → D → JournalState → Version → ℕ → ℕ → Progress D
 at_gate disk standing version size at =
     record {
       disk = disk;
@@ -88,7 +88,7 @@ at_gate disk standing version size at =
 -- follows
 abbrev pub Counts : List ℕ → ℕ → List (List ℕ) → Content → Type 0
 Counts file mark payloads content =
-    ((content ≡ counted (version_of mark) payloads) × NoBaseBehind file mark payloads)
+    ((content ≡ content_from (version_of mark) payloads) × NoBaseBehind file mark payloads)
     ⊎ ((content ≡ nothing) × BaseFollows file mark payloads)
 
 -- a journal of this version was read up to the gate at this place
@@ -100,7 +100,7 @@ pub record ReadsTo (file : List ℕ) (version : Version) (at : ℕ) (content : C
   pub counts : Counts file mark before content
 
 -- how far a file was read, and what counts so far
-abbrev pub IsReadTo : Standing → Version → List ℕ → ℕ → Content → Type 0
+abbrev pub IsReadTo : JournalState → Version → List ℕ → ℕ → Content → Type 0
 IsReadTo Bare version file at content = LiesAs Bare version file at content
 IsReadTo Ready version file at content = ReadsTo file version at content
 IsReadTo Still version file at content = ⊥
@@ -202,30 +202,30 @@ BeginsAt (StartsJournal version) file at = IsReadTo Ready version file at nothin
 BeginsAt StartsForeign file at = ⊤
 
 -- and it may begin there
-abbrev pub MayBeginAt : Option (List ℕ) → Start → Beginning → Type 0
+abbrev pub MayBeginAt : Option (List ℕ) → Start → ReadStart → Type 0
 MayBeginAt told StartsBare begin = IsReading told Bare begin.size begin.at
 MayBeginAt told (StartsJournal version) begin = IsReading told Ready begin.size begin.at
 MayBeginAt told StartsForeign begin = ⊤
 
 -- how a file begins, and where reading begins in it
-abbrev pub IsFound : Found → List ℕ → Type 0
+abbrev pub IsFound : FileStart → List ℕ → Type 0
 IsFound found file = StartsAs found.start file × BeginsAt found.start file found.beginning.at
 
-abbrev pub MayBegin : Option (List ℕ) → Found → Type 0
+abbrev pub MayBegin : Option (List ℕ) → FileStart → Type 0
 MayBegin told found = MayBeginAt told found.start found.beginning
 
 -- the bytes of a payload were read, or not
-abbrev pub Takes : Fetched → Option (List ℕ) → ℕ → List ℕ → Type 0
+abbrev pub Takes : PayloadRead → Option (List ℕ) → ℕ → List ℕ → Type 0
 Takes Taking told at payload = IsRange told at payload
 Takes TakeFault told at payload = ⊤
 Takes TakeNothing told at payload = ⊤
 
-abbrev pub IfTaken : Fetched → Type 0 → Type 0
+abbrev pub IfTaken : PayloadRead → Type 0 → Type 0
 IfTaken Taking P = P
 IfTaken TakeFault P = ⊤
 IfTaken TakeNothing P = ⊤
 
-abbrev pub CountsTaken : Fetched → ℕ → ℕ → Type 0
+abbrev pub CountsTaken : PayloadRead → ℕ → ℕ → Type 0
 CountsTaken Taking before now = now ≡ before
 CountsTaken TakeFault before now = Rose before now
 CountsTaken TakeNothing before now = now ≡ before

@@ -2,9 +2,9 @@
 use Rattle.std.specs.Prelude.{◌≡◌, ◌≢◌, ◌⊎◌, ℕ, List, Option, IsSome, ⊤}
 use Rattle.ts_schema.specs.Faults.{Rose}
 use Rattle.txn_journal.specs.Calls.{IsAtRest, IsTold}
-use Rattle.txn_journal.specs.Contents.{Content, listed}
-use Rattle.txn_journal.specs.Frames.{StandsFor, IsDamaged, placed, payloads_of}
-use Rattle.txn_journal.specs.declared.journals.Standing.TheVariants.{Still}
+use Rattle.txn_journal.specs.Contents.{Content, payload_list}
+use Rattle.txn_journal.specs.Frames.{StandsFor, IsDamaged, payloads_at, payloads_of}
+use Rattle.txn_journal.specs.declared.journals.JournalState.TheVariants.{Still}
 use Rattle.txn_journal.specs.declared.payloads.Payload.{Payload}
 use Rattle.txn_journal.specs.declared.recovery.Recovered.{Recovered}
 use Rattle.txn_journal.specs.declared.recovery.Recovered.TheVariants.{Ready, Damaged, DiskFault, NoMemory}
@@ -19,8 +19,8 @@ disk_of (NoMemory disk) = disk
 -- on
 pub record AreListed (payloads : List Payload) (content : Content) : Type 0 where
   pub first : ℕ
-  pub all : payloads_of payloads ≡ listed content
-  pub places : payloads ≡ placed first (payloads_of payloads)
+  pub all : payloads_of payloads ≡ payload_list content
+  pub places : payloads ≡ payloads_at first (payloads_of payloads)
   pub from_first_gate : (first ≡ 8) ⊎ IsSome content.base
 
 -- what counts with the places of its payloads, or what counts before the first damaged place

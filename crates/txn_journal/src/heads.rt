@@ -103,14 +103,14 @@ pub fn read_head<D: Disk>(disk: &mut D, at: u64, size: u64) -> Result<Head, Fail
 
 /// What stands at a gate, and how many bytes the file has.
 #[derive(Clone, Copy)]
-pub struct Sighted {
+pub struct GateAt {
     pub head: Head,
     pub size: u64,
 }
 
 /// What stands at the gate at place `at` of a file that had so many bytes. Another process may be
 /// writing the file: where a frame looks short, the length is asked for again until it doesn't grow.
-pub fn sight_head<D: Disk>(disk: &mut D, at: u64, size: u64) -> Result<Sighted, Failed>
+pub fn sight_head<D: Disk>(disk: &mut D, at: u64, size: u64) -> Result<GateAt, Failed>
     requires within { at < size }
     requires most { size ≤ MOST_BYTES }
     requires size { HasLength (D.bytes disk.old) size }
@@ -131,7 +131,7 @@ pub fn sight_head<D: Disk>(disk: &mut D, at: u64, size: u64) -> Result<Sighted, 
             Head::Frame { .. } => size,
         };
         if now <= size {
-            return Ok(Sighted { head, size });
+            return Ok(GateAt { head, size });
         }
         size = now;
     }

@@ -2,7 +2,7 @@
 ghost use Rattle.std.specs.Prelude.{◌≡◌, ◌≢◌, ℕ, ◌≤◌, IsSomeAnd};
 ghost use Rattle.ts_disk.specs.CrashImage.{LeavesOnly};
 ghost use Rattle.txn_journal.specs.Calls.{IsAtRest, IsTold, BeginSince, Ends, IsCounted, IfDone, IfStopped};
-ghost use Rattle.txn_journal.specs.Contents.{Content, IsFront, number_of, raised, with_payload};
+ghost use Rattle.txn_journal.specs.Contents.{Content, IsFront, number_of, content_of_version_2, with_payload};
 ghost use Rattle.txn_journal.specs.Frames.{StandsFor, StandsForEither, WithOrWithout};
 ghost use Rattle.txn_journal.specs.Places.{IsPlaced};
 
@@ -26,7 +26,7 @@ pub enum Append {
 
 /// How a journal stands.
 #[derive(Clone, Copy, Debug, PartialEq, Eq)]
-pub enum Standing {
+pub enum JournalState {
     /// Its file has at most nine bytes, and no header.
     Bare,
     /// It has a header, and takes payloads.
@@ -43,7 +43,7 @@ pub struct Journal<D: Disk> {
     version: Version,
     /// The place of the gate behind the last payload.
     end: u64,
-    standing: Standing,
+    standing: JournalState,
 }
 
 impl<D: Disk> Model for Journal<D> {
@@ -60,7 +60,7 @@ impl<D: Disk> Model for Journal<D> {
 
 impl<D: Disk> Journal<D> {
     /// A journal of this version on this disk, whose gate behind the last payload stands at this place.
-    pub(crate) fn new(disk: D, version: Version, end: u64, standing: Standing) -> Journal<D>
+    pub(crate) fn new(disk: D, version: Version, end: u64, standing: JournalState) -> Journal<D>
         requires placed { IsPlaced (D.bytes disk) standing end }
         ensures made { result ≡ record { disk = disk; version = version; end = end; standing = standing } }
     {
@@ -97,35 +97,35 @@ impl<D: Disk> Journal<D> {
         ensures shown { (content : Content) → IsTold D.bytes self.old content
             → IsSomeAnd (D.bytes self.new.disk) (λ file. StandsFor file content) }
         ensures ends { Ends result self.old.standing self.new.standing }
-        ensures armed { self.new.standing ≢ Standing.Bare }
+        ensures armed { self.new.standing ≢ JournalState.Bare }
         ensures stopped { IfStopped result (self.new ≡ self.old) }
         ensures version { self.new.version ≡ self.old.version }
-        ensures idle { self.old.standing ≢ Standing.Bare → self.new ≡ self.old }
+        ensures idle { self.old.standing ≢ JournalState.Bare → self.new ≡ self.old }
         ensures counted { IsCounted result (D.faults self.old.disk) (D.faults self.new.disk) }
     {
         match self.standing {
-            Standing::Bare => {
+            JournalState::Bare => {
                 self.end = FIRST_GATE;
                 match write_synced(&mut self.disk, 0, &HEADER) {
                     Ok(()) => {
-                        self.standing = Standing::Ready;
+                        self.standing = JournalState::Ready;
                         Append::Done
                     }
                     Err(Failed) => {
-                        self.standing = Standing::Still;
+                        self.standing = JournalState::Still;
                         Append::DiskFault
                     }
                 }
             }
-            Standing::Ready => Append::Done,
-            Standing::Still => Append::Stopped,
+            JournalState::Ready => Append::Done,
+            JournalState::Still => Append::Stopped,
         }
     }
 
     /// Puts a payload behind the others: its frame, a sync, its gate, a sync. It takes no memory. Once it
     /// answers `Done`, every crash leaves a file that has it.
     pub fn append(&mut self, frame: &Frame) -> Append
-        requires armed { self.old.standing ≢ Standing.Bare }
+        requires armed { self.old.standing ≢ JournalState.Bare }
         ensures done { (content : Content) → IsTold D.bytes self.old content → IfDone result
             (IsAtRest D.bytes D.may_leave self.new (with_payload self.old.version content frame.now)) }
         // A crash at any moment leaves a file that stands for what was there, with this payload or without it.
@@ -142,11 +142,11 @@ impl<D: Disk> Journal<D> {
             → IsSomeAnd (D.bytes self.new.disk) (WithOrWithout self.old.version content frame.now) }
         ensures ends { Ends result self.old.standing self.new.standing }
         ensures version { self.new.version ≡ self.old.version }
-        ensures armed { self.new.standing ≢ Standing.Bare }
+        ensures armed { self.new.standing ≢ JournalState.Bare }
         ensures stopped { IfStopped result (self.new ≡ self.old) }
         ensures counted { IsCounted result (D.faults self.old.disk) (D.faults self.new.disk) }
     {
-        if self.standing == Standing::Still {
+        if self.standing == JournalState::Still {
             return Append::Stopped;
         }
         match put_frame(&mut self.disk, self.end, frame) {
@@ -155,7 +155,7 @@ impl<D: Disk> Journal<D> {
                 Append::Done
             }
             Err(Failed) => {
-                self.standing = Standing::Still;
+                self.standing = JournalState::Still;
                 Append::DiskFault
             }
         }
@@ -164,25 +164,25 @@ impl<D: Disk> Journal<D> {
     /// Makes a journal of version 1 one of version 2: writes the byte of its version, and syncs. In version 2
     /// it does nothing.
     pub fn raise_version(&mut self) -> Append
-        requires armed { self.old.standing ≢ Standing.Bare }
+        requires armed { self.old.standing ≢ JournalState.Bare }
         ensures tells { (content : Content) → IsTold D.bytes self.old content
-            → IfDone result (IsTold D.bytes self.new (raised content)) }
+            → IfDone result (IsTold D.bytes self.new (content_of_version_2 content)) }
         ensures done { (content : Content) → IsAtRest D.bytes D.may_leave self.old content
-            → IfDone result (IsAtRest D.bytes D.may_leave self.new (raised content)) }
+            → IfDone result (IsAtRest D.bytes D.may_leave self.new (content_of_version_2 content)) }
         // A crash at any moment leaves a file that stands for what counts in the one version or in the other.
         ensures any_moment { (content : Content) → IsAtRest D.bytes D.may_leave self.old content
-            → LeavesOnly D.moment D.left_since self.old.disk self.new.disk (StandsForEither content (raised content)) }
+            → LeavesOnly D.moment D.left_since self.old.disk self.new.disk (StandsForEither content (content_of_version_2 content)) }
         // So does what reads give, whether all of it was on the disk or not.
         ensures shown { (content : Content) → IsTold D.bytes self.old content
-            → IsSomeAnd (D.bytes self.new.disk) (StandsForEither content (raised content)) }
+            → IsSomeAnd (D.bytes self.new.disk) (StandsForEither content (content_of_version_2 content)) }
         ensures ends { Ends result self.old.standing self.new.standing }
         ensures version { IfDone result (self.new.version ≡ Version.Two) }
-        ensures armed { self.new.standing ≢ Standing.Bare }
+        ensures armed { self.new.standing ≢ JournalState.Bare }
         ensures stopped { IfStopped result (self.new ≡ self.old) }
-        ensures idle { self.old.standing ≢ Standing.Still → self.old.version ≡ Version.Two → self.new ≡ self.old }
+        ensures idle { self.old.standing ≢ JournalState.Still → self.old.version ≡ Version.Two → self.new ≡ self.old }
         ensures counted { IsCounted result (D.faults self.old.disk) (D.faults self.new.disk) }
     {
-        if let Standing::Still = self.standing {
+        if let JournalState::Still = self.standing {
             return Append::Stopped;
         }
         match self.version {
@@ -193,7 +193,7 @@ impl<D: Disk> Journal<D> {
                     Append::Done
                 }
                 Err(Failed) => {
-                    self.standing = Standing::Still;
+                    self.standing = JournalState::Still;
                     Append::DiskFault
                 }
             },

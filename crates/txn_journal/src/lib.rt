@@ -3,7 +3,6 @@
 //! a payload that stands for all before it.
 #![tactic(auto)]
 
-mod bases;
 mod frames;
 mod framing;
 mod heads;
@@ -11,6 +10,7 @@ mod journals;
 pub mod laws;
 mod openings;
 mod payloads;
+mod read_start;
 mod readers;
 mod recovery;
 mod versions;
@@ -18,8 +18,8 @@ mod writes;
 
 pub use frames::Frame;
 pub use framing::{close_frame, frame, open_frame};
-pub use journals::{Append, Journal, Standing};
-pub use openings::Opened;
+pub use journals::{Append, Journal, JournalState};
+pub use openings::OpenOutcome;
 pub use payloads::Payload;
 pub use readers::{Next, Reader};
 pub use recovery::{Recovered, recover};

@@ -6,11 +6,11 @@ ghost use Rattle.txn_journal.specs.Places.{IsReading};
 ghost use Rattle.txn_journal.specs.Contents.{nothing};
 ghost use Rattle.txn_journal.specs.Reading.{BeginsAt, IsFound, IsSized, MayBegin, MayBeginAt, ReadsTo, StartsAs};
 ghost use Rattle.txn_journal.specs.declared.heads.Start.TheVariants.{Journal as StartsJournal};
-ghost use Rattle.txn_journal.specs.declared.journals.Standing.TheVariants.{Ready};
+ghost use Rattle.txn_journal.specs.declared.journals.JournalState.TheVariants.{Ready};
 
-use crate::bases::{Beginning, find_base};
 use crate::heads::{FIRST_GATE, Start, read_start};
-use crate::journals::Standing;
+use crate::journals::JournalState;
+use crate::read_start::{ReadStart, find_base};
 use crate::readers::Reader;
 use crate::versions::Version;
 use std::alloc::Global;
@@ -18,7 +18,7 @@ use ts_disk::{Disk, Failed, MOST_BYTES};
 
 /// What the beginning of reading found.
 #[derive(Drop)]
-pub enum Opened<D: Disk> {
+pub enum OpenOutcome<D: Disk> {
     /// The journal may be read.
     Reading(Reader<D>),
     /// The file is longer than a header and doesn't begin as a journal; the damaged place is 0.
@@ -29,7 +29,7 @@ pub enum Opened<D: Disk> {
 
 impl<D: Disk> Reader<D> {
     /// Begins to read the journal on this disk. It takes no memory.
-    pub fn open(alloc: Global, disk: D) -> Opened<D>
+    pub fn open(alloc: Global, disk: D) -> OpenOutcome<D>
         ensures opens { (file : List ℕ) → D.bytes disk ≡ Some file → Opens D.bytes result file }
         ensures kept { Keeps D.bytes D.may_leave D.moment D.left_since disk (disk_of_opened result) }
         ensures counted { CountsOpened result (D.faults disk) (D.faults (disk_of_opened result)) }
@@ -37,36 +37,36 @@ impl<D: Disk> Reader<D> {
         let mut disk = disk;
         match find_start(&mut disk) {
             Ok(found) => match found.start {
-                Start::Bare => Opened::Reading(Reader::start(
+                Start::Bare => OpenOutcome::Reading(Reader::start(
                     alloc,
                     disk,
-                    Standing::Bare,
+                    JournalState::Bare,
                     Version::One,
                     found.beginning,
                 )),
-                Start::Journal(version) => Opened::Reading(Reader::start(
+                Start::Journal(version) => OpenOutcome::Reading(Reader::start(
                     alloc,
                     disk,
-                    Standing::Ready,
+                    JournalState::Ready,
                     version,
                     found.beginning,
                 )),
-                Start::Foreign => Opened::Damaged { disk, at: 0 },
+                Start::Foreign => OpenOutcome::Damaged { disk, at: 0 },
             },
-            Err(Failed) => Opened::DiskFault(disk),
+            Err(Failed) => OpenOutcome::DiskFault(disk),
         }
     }
 }
 
 /// How a file begins, and where reading begins in it.
 #[derive(Clone, Copy)]
-struct Found {
+struct FileStart {
     start: Start,
-    beginning: Beginning,
+    beginning: ReadStart,
 }
 
 /// Finds how the file of a disk begins, and where reading begins in it.
-fn find_start<D: Disk>(disk: &mut D) -> Result<Found, Failed>
+fn find_start<D: Disk>(disk: &mut D) -> Result<FileStart, Failed>
     ensures found { (file : List ℕ) → D.bytes disk.old ≡ Some file → IfOk result (λ found. IsFound found file) }
     ensures reading { IfOk result (λ found. MayBegin (D.bytes disk.new) found) }
     ensures size { IfOk result (λ found. HasLength (D.bytes disk.new) found.beginning.size) }
@@ -76,11 +76,11 @@ fn find_start<D: Disk>(disk: &mut D) -> Result<Found, Failed>
     let size = disk.len()?;
     let start = read_start(disk, size)?;
     let beginning = find_beginning(disk, start, size)?;
-    Ok(Found { start, beginning })
+    Ok(FileStart { start, beginning })
 }
 
 /// Where reading begins in a file that begins so: at the first gate, but for a journal of version 2.
-fn find_beginning<D: Disk>(disk: &mut D, start: Start, size: u64) -> Result<Beginning, Failed>
+fn find_beginning<D: Disk>(disk: &mut D, start: Start, size: u64) -> Result<ReadStart, Failed>
     requires sized { IsSized start size }
     requires most { size ≤ MOST_BYTES }
     requires size { HasLength (D.bytes disk.old) size }
@@ -93,11 +93,11 @@ fn find_beginning<D: Disk>(disk: &mut D, start: Start, size: u64) -> Result<Begi
 {
     match start {
         Start::Journal(version) => find_gate(disk, version, size),
-        Start::Bare => Ok(Beginning {
+        Start::Bare => Ok(ReadStart {
             at: FIRST_GATE,
             size,
         }),
-        Start::Foreign => Ok(Beginning {
+        Start::Foreign => Ok(ReadStart {
             at: FIRST_GATE,
             size,
         }),
@@ -105,7 +105,7 @@ fn find_beginning<D: Disk>(disk: &mut D, start: Start, size: u64) -> Result<Begi
 }
 
 /// Where reading begins in a journal of a version.
-fn find_gate<D: Disk>(disk: &mut D, version: Version, size: u64) -> Result<Beginning, Failed>
+fn find_gate<D: Disk>(disk: &mut D, version: Version, size: u64) -> Result<ReadStart, Failed>
     requires gate { 9 ≤ size }
     requires most { size ≤ MOST_BYTES }
     requires size { HasLength (D.bytes disk.old) size }
@@ -116,7 +116,7 @@ fn find_gate<D: Disk>(disk: &mut D, version: Version, size: u64) -> Result<Begin
     ensures counted { Counted (D.faults disk.old) (D.faults disk.new) result }
 {
     match version {
-        Version::One => Ok(Beginning {
+        Version::One => Ok(ReadStart {
             at: FIRST_GATE,
             size,
         }),

@@ -7,9 +7,9 @@ ghost use Rattle.txn_journal.specs.Places.{IsReading};
 ghost use Rattle.txn_journal.specs.Contents.{Content};
 ghost use Rattle.txn_journal.specs.Reading.{CountsNext, CountsTaken, HasRead, IfTaken, Moves, Steps, Takes, at_gate, is_end};
 
-use crate::bases::Beginning;
 use crate::heads::{Head, sight_head};
-use crate::journals::{Journal, Standing};
+use crate::journals::{Journal, JournalState};
+use crate::read_start::ReadStart;
 use crate::versions::Version;
 use std::alloc::Global;
 use std::marker::Model;
@@ -22,7 +22,7 @@ use ts_schema::Seq;
 pub struct Reader<D: Disk> {
     disk: D,
     /// How the file begins: bare or ready.
-    standing: Standing,
+    standing: JournalState,
     version: Version,
     /// How many bytes the file had when that was last asked for.
     size: u64,
@@ -75,9 +75,9 @@ impl<D: Disk> Reader<D> {
     pub(crate) fn start(
         alloc: Global,
         disk: D,
-        standing: Standing,
+        standing: JournalState,
         version: Version,
-        beginning: Beginning,
+        beginning: ReadStart,
     ) -> Reader<D>
         requires reading { IsReading (D.bytes disk) standing beginning.size beginning.at }
         ensures made { result ≡ at_gate disk standing version beginning.size beginning.at }
@@ -105,7 +105,7 @@ impl<D: Disk> Reader<D> {
         ensures counted { CountsNext result (D.faults self.old.disk) (D.faults self.new.disk) }
     {
         self.is_done = false;
-        if let Standing::Bare = self.standing {
+        if let JournalState::Bare = self.standing {
             self.is_done = true;
             return Next::End;
         }
@@ -120,7 +120,7 @@ impl<D: Disk> Reader<D> {
             }
             Head::Frame { length, .. } => {
                 match read_payload(&mut self.disk, self.at + 5, length, &mut self.payload) {
-                    Fetched::Done => {
+                    PayloadRead::Done => {
                         let at = self.at;
                         self.at += 5 + length;
                         if self.version.is_base(&self.payload) {
@@ -128,8 +128,8 @@ impl<D: Disk> Reader<D> {
                         }
                         Next::Payload(at)
                     }
-                    Fetched::DiskFault => Next::DiskFault,
-                    Fetched::NoMemory => Next::NoMemory,
+                    PayloadRead::DiskFault => Next::DiskFault,
+                    PayloadRead::NoMemory => Next::NoMemory,
                 }
             }
             Head::Short => Next::Damaged(self.at),
@@ -159,7 +159,7 @@ impl<D: Disk> Reader<D> {
     pub fn finish(self) -> Journal<D>
         requires done { self.is_done ≡ true }
         ensures disk { result.disk ≡ self.disk }
-        ensures goes_on { result.standing ≢ Standing.Still }
+        ensures goes_on { result.standing ≢ JournalState.Still }
         ensures version { result.version ≡ self.version }
         ensures tells { (file : List ℕ) (content : Content) → HasRead D.bytes self file content
             → IsTold D.bytes result content }
@@ -179,14 +179,14 @@ impl<D: Disk> Reader<D> {
 
 /// Whether the bytes of a payload were read.
 #[derive(Clone, Copy)]
-enum Fetched {
+enum PayloadRead {
     Done,
     DiskFault,
     NoMemory,
 }
 
 /// Reads `count` bytes from place `at` on into a payload.
-fn read_payload<D: Disk>(disk: &mut D, at: u64, count: u64, payload: &mut Vec<u8>) -> Fetched
+fn read_payload<D: Disk>(disk: &mut D, at: u64, count: u64, payload: &mut Vec<u8>) -> PayloadRead
     requires most { at + count ≤ MOST_BYTES }
     requires range { HasRange (D.bytes disk.old) (at + count) }
     ensures taken { Takes result (D.bytes disk.old) at payload.new.items }
@@ -195,10 +195,10 @@ fn read_payload<D: Disk>(disk: &mut D, at: u64, count: u64, payload: &mut Vec<u8
     ensures counted { CountsTaken result (D.faults disk.old) (D.faults disk.new) }
 {
     if payload.resize(count as usize, 0).is_err() {
-        return Fetched::NoMemory;
+        return PayloadRead::NoMemory;
     }
     match disk.read_at(at, payload.as_mut_slice()) {
-        Ok(()) => Fetched::Done,
-        Err(Failed) => Fetched::DiskFault,
+        Ok(()) => PayloadRead::Done,
+        Err(Failed) => PayloadRead::DiskFault,
     }
 }

@@ -7,7 +7,7 @@ ghost use Rattle.txn_journal.specs.Reading.{HasRead};
 ghost use Rattle.txn_journal.specs.Recovering.{CountsRecovered, GoesOn, Recovers, RestsAfter, TellsAfter, disk_of};
 
 use crate::journals::Journal;
-use crate::openings::Opened;
+use crate::openings::OpenOutcome;
 use crate::payloads::Payload;
 use crate::readers::{Next, Reader};
 use std::alloc::Global;
@@ -46,13 +46,13 @@ pub fn recover<D: Disk>(alloc: Global, disk: D) -> Recovered<D>
     ensures counted { CountsRecovered result (D.faults disk) (D.faults (disk_of result)) }
 {
     match Reader::open(alloc, disk) {
-        Opened::Reading(reader) => read_all(alloc, reader),
-        Opened::Damaged { disk, at } => Recovered::Damaged {
+        OpenOutcome::Reading(reader) => read_all(alloc, reader),
+        OpenOutcome::Damaged { disk, at } => Recovered::Damaged {
             disk,
             payloads: Seq::new(alloc),
             at,
         },
-        Opened::DiskFault(disk) => Recovered::DiskFault(disk),
+        OpenOutcome::DiskFault(disk) => Recovered::DiskFault(disk),
     }
 }
 

@@ -1,8 +1,8 @@
 //! A write that is put onto the disk before anything else.
 ghost use Rattle.std.specs.Prelude.{◌≡◌, ℕ, ◌+◌, ◌≤◌, [], ◌∷◌, ◌++◌, List, Some, length, OnOk, IsSomeAnd};
-ghost use Rattle.ts_disk.specs.CrashImage.{written, Torn, Only, LeavesOnly};
+ghost use Rattle.ts_disk.specs.CrashImage.{file_after_write, Torn, Only, LeavesOnly};
 ghost use Rattle.ts_disk.specs.Disk.{Counted, HasRange};
-ghost use Rattle.txn_journal.specs.Contents.{Content, raised, with_payload};
+ghost use Rattle.txn_journal.specs.Contents.{Content, content_of_version_2, with_payload};
 ghost use Rattle.txn_journal.specs.Frames.{Fits, StandsForEither, WithOrWithout};
 ghost use Rattle.txn_journal.specs.Writes.{IsWritten, Rests, Tells};
 ghost use Rattle.txn_journal.specs.declared.versions.Version.{Version};
@@ -24,7 +24,7 @@ pub fn write_synced<D: Disk>(disk: &mut D, at: u64, piece: &[u8]) -> Result<(), 
     ensures shown { (file : List ℕ) → D.bytes disk.old ≡ Some file
         → IsSomeAnd (D.bytes disk.new) (Torn at (length piece.now) file) }
     ensures done { OnOk result ((file : List ℕ) → D.bytes disk.old ≡ Some file
-        → IsWritten D.bytes D.may_leave disk.new (written file at piece.now)) }
+        → IsWritten D.bytes D.may_leave disk.new (file_after_write file at piece.now)) }
     ensures grown { (end : ℕ) → HasRange (D.bytes disk.old) end → OnOk result (HasRange (D.bytes disk.new) end) }
     ensures reaches { OnOk result (HasRange (D.bytes disk.new) (at + length piece.now)) }
     ensures most { OnOk result (at + length piece.now ≤ MOST_BYTES) }
@@ -59,11 +59,11 @@ pub fn put_version<D: Disk>(disk: &mut D) -> Result<(), Failed>
     requires range { HasRange (D.bytes disk.old) 8 }
     // As long as the write may be torn the byte may be any.
     ensures any_moment { (end : ℕ) (content : Content) → Rests D.bytes D.may_leave disk.old One end content
-        → LeavesOnly D.moment D.left_since disk.old disk.new (StandsForEither content (raised content)) }
+        → LeavesOnly D.moment D.left_since disk.old disk.new (StandsForEither content (content_of_version_2 content)) }
     ensures shown { (end : ℕ) (content : Content) → Tells D.bytes disk.old One end content
-        → IsSomeAnd (D.bytes disk.new) (StandsForEither content (raised content)) }
+        → IsSomeAnd (D.bytes disk.new) (StandsForEither content (content_of_version_2 content)) }
     ensures done { OnOk result ((end : ℕ) (content : Content) → Tells D.bytes disk.old One end content
-        → Rests D.bytes D.may_leave disk.new Two end (raised content)) }
+        → Rests D.bytes D.may_leave disk.new Two end (content_of_version_2 content)) }
     ensures grown { (end : ℕ) → HasRange (D.bytes disk.old) end → OnOk result (HasRange (D.bytes disk.new) end) }
     ensures counted { Counted (D.faults disk.old) (D.faults disk.new) result }
 {

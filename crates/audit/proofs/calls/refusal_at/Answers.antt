@@ -19,7 +19,7 @@ returns c =
           c.numbered_only.ensures
           ∙ ap numbered_only (c.refusal_of.ensures.refused (prefix all c.args.at) (record {
             roster_is = c.roster-roster.ensures.roster;
-            pending_is = c.finished-pending.ensures.pending;
+            pending_is = c.pending_of-pending.ensures.pending;
             position_is = sym (position_at all c.args.at low c.requires.within);
             base_is = c.base.ensures.base ∙ sym (base_prefix all c.args.at);
           }))

@@ -3,7 +3,7 @@ use Rattle.std.specs.Prelude.{MatchOption}
 use Rattle.std.specs.List.Sorted.{IsNonDecreasing}
 use Rattle.turn_lock.specs.Positions.{positions_between}
 use Rattle.audit.specs.Answers.{IsLost}
-use Rattle.audit.specs.Retold.{LieBetween}
+use Rattle.audit.specs.ReplayedReplies.{LieBetween}
 use Rattle.audit.proofs.LostLaws.{sorted_lie, sorted_lost, sorted_rise}
 use Rattle.audit.proofs.numbers.first_lost.Goals as goal
 

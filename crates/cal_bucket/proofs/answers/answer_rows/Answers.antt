@@ -1,7 +1,7 @@
 use Rattle.std.proofs.Common.{◌≡◌, ◌<◌, ◌^◌, [], length, map, sym, ap, ◌∙◌, arith}
 use Rattle.cell_groups.specs.Cells.{cells_pass}
 use Rattle.cell_groups.specs.Groups.{rows_shown}
-use Rattle.cell_groups.specs.Taken.{with_rows}
+use Rattle.cell_groups.specs.TakenRows.{with_rows}
 use Rattle.cell_groups.specs.declared.stops.Stop.TheVariants.{NoMemory, TooGreat}
 use Rattle.cal_bucket.specs.Shapes.{named_group, shape_of, test_among}
 use Rattle.cal_bucket.proofs.ShapeLaws.{gathered_by_name}

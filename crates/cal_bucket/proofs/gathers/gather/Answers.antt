@@ -1,10 +1,10 @@
 use Rattle.std.proofs.Common.{◌≡◌, ◌+◌, ◌-◌, ◌∷◌, length, sym, ap, ◌∙◌, subst, arith}
 use Rattle.std.specs.List.{AllByRecursion}
 use Rattle.std.proofs.lemmas.Int.{ints}
-use Rattle.group_fold.specs.Gathering.{ordered}
+use Rattle.group_fold.specs.Gathering.{in_group_order}
 use Rattle.cell_groups.specs.Cells.{cells_pass}
 use Rattle.cell_groups.specs.Groups.{as_groups}
-use Rattle.cell_groups.specs.Taken.{with_rows}
+use Rattle.cell_groups.specs.TakenRows.{with_rows}
 use Rattle.cell_groups.proofs.Gathering.{none_gathered, none_of_rows, rows_step}
 use Rattle.cell_groups.proofs.Room.{rows_more}
 use Rattle.ts_model.specs.Results.{row_cells}
@@ -17,7 +17,7 @@ loop-row-preserved c =
     let shape = c.args.shape.now in
     let keep = cells_pass c.args.tests.now in
     let own = named_group c.args.plan.now shape in
-    let before = ordered (as_groups shape c.loop-row.gathered.groups.items) in
+    let before = in_group_order (as_groups shape c.loop-row.gathered.groups.items) in
     let first : c.loop-row.row-iterator ≡ (row_cells c.in-Some.row) ∷ c.next.new.self = c.in-Some.ensures.steps in
     record {
       left = (subst (AllByRecursion (ShowARow c.args.plan.now.at)) first c.loop-row.invariant.left).1;
@@ -54,8 +54,8 @@ loop-row-init c =
       left = subst (AllByRecursion (ShowARow c.args.plan.now.at)) (sym whole) c.requires.shown;
       names = λ t time low high. absurd (omega (arith, ints, low, high, c.no_bucket-bucket.ensures.start, c.no_bucket-bucket.ensures.end));
       taken =
-          ap (λ rows. with_rows keep own rows (ordered (as_groups shape c.new-gathered.result.groups.items))) whole
-          ∙ ap (λ gs. with_rows keep own c.args.lower.now (ordered (as_groups shape gs))) none;
+          ap (λ rows. with_rows keep own rows (in_group_order (as_groups shape c.new-gathered.result.groups.items))) whole
+          ∙ ap (λ gs. with_rows keep own c.args.lower.now (in_group_order (as_groups shape gs))) none;
       gathered = none_gathered shape c.new-gathered.result none;
       to_come = omega (arith, ap length whole);
       few = none_of_rows (length c.args.lower.now - length c.into_iter-row-iterator.result) shape c.new-gathered.result.groups.items none;

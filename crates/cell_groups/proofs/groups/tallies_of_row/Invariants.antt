@@ -1,5 +1,5 @@
 use Rattle.std.proofs.Common.{◌≡◌, take}
-use Rattle.cell_groups.specs.Kept.{row_tallies}
+use Rattle.cell_groups.specs.KeptSummaries.{row_tallies}
 use Rattle.cell_groups.proofs.groups.tallies_of_row.Given as goal
 
 abbrev pub invariant-loop-agg : goal.invariant-loop-agg

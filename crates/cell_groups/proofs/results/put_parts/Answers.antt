@@ -1,8 +1,8 @@
 use Rattle.std.proofs.Common.{◌++◌, Option, List, sym, unwrap_or, ap, ◌∙◌}
 use Rattle.std.proofs.lemmas.Result.{on_ok_weaker}
 use Rattle.cell_groups.specs.declared.tallies.Tally.{Tally}
-use Rattle.cell_groups.specs.Kept.{row_tallies, tallies_shown}
-use Rattle.cell_groups.proofs.Kept.{shown_row}
+use Rattle.cell_groups.specs.KeptSummaries.{row_tallies, tallies_shown}
+use Rattle.cell_groups.proofs.KeptSummaries.{shown_row}
 use Rattle.cell_groups.proofs.results.put_parts.Goals as goal
 
 pub returns-in-None : goal.returns-in-None

@@ -1,5 +1,5 @@
 use Rattle.std.proofs.Common.{◌≡◌, ◌++◌, map, take}
-use Rattle.cell_groups.specs.Kept.{cell_shown}
+use Rattle.cell_groups.specs.KeptSummaries.{cell_shown}
 use Rattle.cell_groups.proofs.results.put_row.Given as goal
 
 abbrev pub invariant-loop-agg : goal.invariant-loop-agg

@@ -1,5 +1,5 @@
 use Rattle.std.proofs.Common.{◌≡◌, ◌++◌, length}
-use Rattle.cell_groups.specs.Kept.{tallies_shown}
+use Rattle.cell_groups.specs.KeptSummaries.{tallies_shown}
 use Rattle.cell_groups.proofs.results.put_tallies.Given as goal
 
 abbrev pub invariant-loop-aggs_left : goal.invariant-loop-aggs_left

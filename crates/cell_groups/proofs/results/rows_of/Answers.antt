@@ -1,6 +1,6 @@
 use Rattle.std.proofs.Common.{ap, ◌∙◌}
 use Rattle.cell_groups.specs.Groups.{as_groups, rows_shown}
-use Rattle.cell_groups.proofs.Kept.{kept_shown}
+use Rattle.cell_groups.proofs.KeptSummaries.{kept_shown}
 use Rattle.cell_groups.proofs.results.rows_of.Goals as goal
 
 pub returns : goal.returns

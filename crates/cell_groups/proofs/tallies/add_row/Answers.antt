@@ -2,12 +2,12 @@ use Rattle.std.proofs.Common.{◌≡◌, length, get_or, pos, sym, ap, ◌∙◌
 use Rattle.std.proofs.lemmas.List.{length-set}
 use Rattle.ts_num.specs.declared.values.Fun.TheVariants.{CountAll}
 use Rattle.ts_model.specs.declared.views.Agg.{Agg}
-use Rattle.partial_agg.specs.Summaries.{joined}
+use Rattle.partial_agg.specs.Summaries.{summary_of_both}
 use Rattle.cell_groups.specs.declared.tallies.Tally.{Tally}
-use Rattle.cell_groups.specs.Kept.{as_part, cell_tally, row_tallies}
+use Rattle.cell_groups.specs.KeptSummaries.{as_part, cell_tally, row_tallies}
 use Rattle.cell_groups.specs.Room.{CanBeKept}
 use Rattle.cell_groups.proofs.Room.{tally_kept}
-use Rattle.cell_groups.proofs.Kept.{length-row_tallies, row_tallies-at, tallies_step, tallies_whole}
+use Rattle.cell_groups.proofs.KeptSummaries.{length-row_tallies, row_tallies-at, tallies_step, tallies_whole}
 use Rattle.cell_groups.proofs.tallies.add_row.Goals as goal
 
 pub loop-k-preserved : goal.loop-k-preserved
@@ -24,7 +24,7 @@ loop-k-preserved c =
       merged =
           tallies_step aggs c.args.tallies.now (row_tallies aggs c.args.cells.now) c.loop-k.tallies c.set.new.self k other none c.get.result.now c.in-Some.tally
           c.requires (length-row_tallies aggs c.args.cells.now) c.loop-k.invariant.many c.loop-k.invariant.merged (omega (arith, c.loop-k-test.true)) c.get.ensures.item
-          (c.in-Some.ensures.sum ∙ ap (λ t. joined (as_part fun c.get.result.now) (as_part fun t)) own) c.set.ensures.set;
+          (c.in-Some.ensures.sum ∙ ap (λ t. summary_of_both (as_part fun c.get.result.now) (as_part fun t)) own) c.set.ensures.set;
     }
 
 pub returns-clause-parts : goal.returns-clause-parts
@@ -42,6 +42,6 @@ returns-in_default-clause-room c all =
     let own : cell_tally fun c.value_at.result ≡ get_or (row_tallies aggs c.args.cells.now) k none =
     ap (cell_tally fun) c.value_at.ensures.value ∙ sym (row_tallies-at aggs c.args.cells.now k other none (omega (arith, c.loop-k-test.true))) in
     c.in_default.ensures.room
-    (subst (λ t. CanBeKept (joined (as_part fun c.get.result.now) (as_part fun t))) (sym own)
+    (subst (λ t. CanBeKept (summary_of_both (as_part fun c.get.result.now) (as_part fun t))) (sym own)
     (tally_kept aggs c.args.tallies.now (row_tallies aggs c.args.cells.now) c.loop-k.tallies k other none c.get.result.now
     c.requires (length-row_tallies aggs c.args.cells.now) c.loop-k.invariant.many c.loop-k.invariant.merged (omega (arith, c.loop-k-test.true)) c.get.ensures.item all))

@@ -1,6 +1,6 @@
 use Rattle.std.proofs.Common.{◌≡◌, ◌++◌, length, take, drop}
 use Rattle.group_fold.specs.Merging.{joined_parts}
-use Rattle.cell_groups.specs.Kept.{as_parts, row_tallies}
+use Rattle.cell_groups.specs.KeptSummaries.{as_parts, row_tallies}
 use Rattle.cell_groups.proofs.tallies.add_row.Given as goal
 
 abbrev pub invariant-loop-k : goal.invariant-loop-k

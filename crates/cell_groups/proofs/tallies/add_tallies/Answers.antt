@@ -2,7 +2,7 @@ use Rattle.std.proofs.Common.{length, pos, ap, ◌∙◌, arith}
 use Rattle.std.proofs.lemmas.List.{length-set}
 use Rattle.ts_num.specs.declared.values.Fun.TheVariants.{CountAll}
 use Rattle.cell_groups.proofs.Room.{tally_kept}
-use Rattle.cell_groups.proofs.Kept.{tallies_step, tallies_whole}
+use Rattle.cell_groups.proofs.KeptSummaries.{tallies_step, tallies_whole}
 use Rattle.cell_groups.proofs.tallies.add_tallies.Goals as goal
 
 pub loop-k-preserved : goal.loop-k-preserved

@@ -2,8 +2,8 @@
 use Rattle.std.proofs.Common.{◌≡◌, ◌∙◌, sym, ap, subst, ◌≤◌, length}
 use Rattle.std.specs.Prelude.{IfOk}
 use Rattle.ts_io.specs.declared.limits.TheConstants.{INPUT_LIMIT}
-use Rattle.ts_store.specs.Stores.{seen}
-use Rattle.script_run.specs.Runs.{executed}
+use Rattle.ts_store.specs.Stores.{history_seen}
+use Rattle.script_run.specs.Runs.{executed_lines}
 use Rattle.demo_script.specs.Demo.{demo_lines, demo_text}
 use Rattle.demo_script.proofs.TextLaws.{lines, within}
 use Rattle.demo_run.specs.Runs.{RanLines}
@@ -17,6 +17,6 @@ run_source-requires-clause-within g c = λ _ _.
 pub returns : goal.returns
 returns g c =
     let text : c.new-source.result.left ≡ demo_text c.args.number = ap (λ s. s.left) c.new-source.ensures.made ∙ c.in_ok-script.ensures.text in
-    let new = seen c.run_source.new.store in
+    let new = history_seen c.run_source.new.store in
     subst (λ h. IfOk c.run_source.result (λ ran. RanLines h (demo_lines c.args.number) ran new)) c.requires.empty
-    (subst (λ ls. IfOk c.run_source.result (λ ran. RanLines (seen c.args.store.now) ls ran new)) (ap executed text ∙ lines c.args.number) c.run_source.ensures)
+    (subst (λ ls. IfOk c.run_source.result (λ ran. RanLines (history_seen c.args.store.now) ls ran new)) (ap executed_lines text ∙ lines c.args.number) c.run_source.ensures)

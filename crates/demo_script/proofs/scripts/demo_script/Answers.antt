@@ -2,7 +2,7 @@
 use Rattle.std.proofs.Common.{◌≡◌, ◌∙◌, ap, ◌+◌, ◌++◌, take, arith}
 use Rattle.std.specs.List.{flat_map}
 use Rattle.demo_script.specs.Demo.{demo_lines, line_at, with_end}
-use Rattle.demo_script.specs.Lines.{ended}
+use Rattle.demo_script.specs.Lines.{line_with_end}
 use Rattle.demo_script.proofs.PlaceLaws.{text_more, text_whole}
 use Rattle.demo_script.proofs.scripts.demo_script.Goals as goal
 
@@ -10,7 +10,7 @@ pub loop-before-preserved : goal.loop-before-preserved
 loop-before-preserved c =
     let before = c.loop-before.before in
     c.in_ok-put_line_at.ensures
-    ∙ ap (λ t. t ++ ended (line_at (demo_lines c.args.demo) (before + 1))) c.loop-before.invariant
+    ∙ ap (λ t. t ++ line_with_end (line_at (demo_lines c.args.demo) (before + 1))) c.loop-before.invariant
     ∙ text_more c.args.demo before
 
 pub returns : goal.returns

@@ -8,15 +8,15 @@ pub returns-in_err-shown-clause-read : goal.returns-in_err-shown-clause-read
 returns-in_err-shown-clause-read g c =
     let def = c.args.def.now in
     let table = c.args.rows.now.table.now in
-    let read : RaisedUpTo (view_reads def c.args.view.now.mark c.args.starts table) c.args.steps.now c.united.new.steps =
-    subst (λ (m : Option ℤ). RaisedUpTo (view_reads def m c.args.starts table) c.args.steps.now c.united.new.steps) c.mark-mark.ensures.mark c.in_err-shown.ensures.read in
+    let read : RaisedUpTo (view_reads def c.args.view.now.mark c.args.starts table) c.args.steps.now c.aggregate_rows.new.steps =
+    subst (λ (m : Option ℤ). RaisedUpTo (view_reads def m c.args.starts table) c.args.steps.now c.aggregate_rows.new.steps) c.mark-mark.ensures.mark c.in_err-shown.ensures.read in
     MatchResult-from_err c.from_residual-in_err-shown.result
-    (λ _. c.united.new.steps ≡ raised_by (view_reads def c.args.view.now.mark c.args.starts table) c.args.steps.now)
-    (λ _. RaisedUpTo (view_reads def c.args.view.now.mark c.args.starts table) c.args.steps.now c.united.new.steps)
+    (λ _. c.aggregate_rows.new.steps ≡ raised_by (view_reads def c.args.view.now.mark c.args.starts table) c.args.steps.now)
+    (λ _. RaisedUpTo (view_reads def c.args.view.now.mark c.args.starts table) c.args.steps.now c.aggregate_rows.new.steps)
     c.from_residual-in_err-shown.ensures.0 (λ _. read)
 
 pub returns-clause-read : goal.returns-clause-read
 returns-clause-read g c =
     let def = c.args.def.now in
     let table = c.args.rows.now.table.now in
-    subst (λ (m : Option ℤ). c.united.new.steps ≡ raised_by (view_reads def m c.args.starts table) c.args.steps.now) c.mark-mark.ensures.mark c.in_ok-shown.ensures.read
+    subst (λ (m : Option ℤ). c.aggregate_rows.new.steps ≡ raised_by (view_reads def m c.args.starts table) c.args.steps.now) c.mark-mark.ensures.mark c.in_ok-shown.ensures.read

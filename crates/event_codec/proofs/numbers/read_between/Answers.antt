@@ -3,7 +3,7 @@ use Rattle.std.specs.Prelude.{FitsSigned}
 use Rattle.std.specs.Int.{w64}
 use Rattle.std.proofs.lemmas.Int.{ints, to_z-of_z}
 use Rattle.ts_bucket.specs.WholeSpans.{least, greatest}
-use Rattle.event_codec.specs.Spelling.{signed}
+use Rattle.event_codec.specs.Spelling.{signed_bytes}
 use Rattle.event_codec.specs.Reading.{StopsAt, between}
 use Rattle.event_codec.proofs.Fronts.{is_less, not_less, seen_again, signed_is_read, signed_outside, signed_short}
 use Rattle.event_codec.proofs.numbers.read_between.Goals.{then-number-least-via-then-number-least, then-number-least-via-else-number-least+then-number-most}
@@ -26,7 +26,7 @@ returns-then-number-least-clause-read c =
     let most : FitsSigned w64 c.args.most = c.ranges.most in
     let number : FitsSigned w64 c.in-Some.number = search rules in
     let stop : StopsAt (between c.args.least c.args.most c.args.bytes.now) c.after_between-then-number-least.result.now = simp to_z-of_z at c.after_between-then-number-least.ensures in
-    let is : c.args.bytes.now ≡ signed c.in-Some.number ++ c.in-Some.rest.now = c.in-Some.ensures in
+    let is : c.args.bytes.now ≡ signed_bytes c.in-Some.number ++ c.in-Some.rest.now = c.in-Some.ensures in
     signed_outside c.args.least c.args.most low high c.requires c.in-Some.number c.args.bytes.now c.in-Some.rest.now c.after_between-then-number-least.result.now (omega (arith, ints)) (omega (arith, ints))
     (λ from to. elim c.then-number-least.branch [
       | then-number-least-via-then-number-least w ↦ let less = is_less c.in-Some.number c.args.least number least w.if-number-least.true in omega (arith, ints)
@@ -40,7 +40,7 @@ returns-clause-read c =
     let least : FitsSigned w64 c.args.least = c.ranges.least in
     let most : FitsSigned w64 c.args.most = c.ranges.most in
     let number : FitsSigned w64 c.in-Some.number = search rules in
-    let is : c.args.bytes.now ≡ signed c.in-Some.number ++ c.in-Some.rest.now = c.in-Some.ensures in
+    let is : c.args.bytes.now ≡ signed_bytes c.in-Some.number ++ c.in-Some.rest.now = c.in-Some.ensures in
     let from : c.args.least ≤ℤ c.in-Some.number = not_less c.in-Some.number c.args.least number least c.if-number-least.false in
     let to : c.in-Some.number ≤ℤ c.args.most = not_less c.args.most c.in-Some.number most number c.if-number-most.false in
     seen_again (between c.args.least c.args.most c.args.bytes.now) c.in-Some.number c.in-Some.rest.now number (signed_is_read c.args.least c.args.most low high c.requires c.in-Some.number c.args.bytes.now c.in-Some.rest.now from to is)

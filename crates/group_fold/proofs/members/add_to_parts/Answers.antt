@@ -1,6 +1,6 @@
 use Rattle.std.proofs.Common.{◌≡◌, ◌<◌, [], ◌∷◌, length, get_or, set, refl, sym, ap, subst, ◌∙◌, arith}
 use Rattle.ts_num.specs.declared.values.Fun.TheVariants.{CountAll}
-use Rattle.partial_agg.specs.Summaries.{Summary, joined, summary}
+use Rattle.partial_agg.specs.Summaries.{Summary, summary_of_both, summary}
 use Rattle.group_fold.specs.Grouping.{row_parts}
 use Rattle.group_fold.proofs.Counts.{length-row_parts, row_part}
 use Rattle.group_fold.proofs.Parts.{part_within, part_holds, part_step, parts_whole}
@@ -26,8 +26,8 @@ pub loop-k-preserved : goal.loop-k-preserved
 loop-k-preserved c =
     let same : length c.args.parts.now ≡ length (row_parts c.args.aggs.now c.args.row.now) = c.requires.many ∙ sym (length-row_parts c.args.aggs.now c.args.row.now) in
     let part = c.index-parts-k.result in
-    let made : c.add.new.self ≡ joined part (get_or (row_parts c.args.aggs.now c.args.row.now) c.loop-k.k part) =
-    c.add.ensures.added ∙ (ap (λ s. joined s (summary (c.field.result ∷ []))) (sym c.index-parts-k.is) ∙ ap (joined part) (row_part c.args.aggs.now c.args.row.now c.loop-k.k (record { fun = CountAll; col = 0 }) part c.field.result c.loop-k-test.true c.field.ensures.value)) in
+    let made : c.add.new.self ≡ summary_of_both part (get_or (row_parts c.args.aggs.now c.args.row.now) c.loop-k.k part) =
+    c.add.ensures.added ∙ (ap (λ s. summary_of_both s (summary (c.field.result ∷ []))) (sym c.index-parts-k.is) ∙ ap (summary_of_both part) (row_part c.args.aggs.now c.args.row.now c.loop-k.k (record { fun = CountAll; col = 0 }) part c.field.result c.loop-k-test.true c.field.ensures.value)) in
     part_step c.loop-k.k c.args.parts.now (row_parts c.args.aggs.now c.args.row.now) c.loop-k.parts (set c.loop-k.parts c.loop-k.k c.add.new.self) part c.add.new.self part part
     same c.loop-k.invariant (omega (arith, c.requires.many)) c.index-parts-k.is made refl
 

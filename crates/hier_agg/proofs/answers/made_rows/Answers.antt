@@ -1,7 +1,7 @@
 use Rattle.std.proofs.Common.{[], ap, ◌∙◌, rules}
 use Rattle.ts_bucket.specs.Bucket.{IsWidth}
 use Rattle.cell_groups.specs.Groups.{rows_shown}
-use Rattle.cell_groups.specs.Taken.{with_rows}
+use Rattle.cell_groups.specs.TakenRows.{with_rows}
 use Rattle.hier_agg.specs.Taken.{row_group_of, row_passes}
 use Rattle.hier_agg.proofs.Stands.{gathered_is_upper}
 use Rattle.hier_agg.proofs.answers.made_rows.Goals as goal

@@ -1,7 +1,7 @@
 use Rattle.std.proofs.Common.{◌≡◌, [], subst}
 use Rattle.std.specs.Prelude.{IfSome}
 use Rattle.cell_groups.specs.Groups.{rows_shown}
-use Rattle.cell_groups.specs.Taken.{with_rows}
+use Rattle.cell_groups.specs.TakenRows.{with_rows}
 use Rattle.hier_agg.specs.Taken.{row_group_of, row_passes}
 use Rattle.hier_agg.proofs.answers.rolled_rows.Goals as goal
 

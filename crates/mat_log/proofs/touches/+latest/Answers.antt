@@ -13,10 +13,10 @@ returns t c =
     let front = c.split_at.result.0.now in
     let back = c.split_at.result.1.now in
     let whole : front ++ back ≡ c.args.entries.now = ap (λ xs. xs ++ back) c.split_at.ensures.front ∙ ap (λ ys. take (length c.args.entries.now / 2) c.args.entries.now ++ ys) c.split_at.ensures.back ∙ take-append-drop (length c.args.entries.now / 2) c.args.entries.now in
-    IfOk-weaker c.combined.result _ _ (λ (both : MapValue) e n.
+    IfOk-weaker c.combine.result _ _ (λ (both : MapValue) e n.
     e n
     ∙ ap (λ v. later v (at c.in_ok-second.second n)) (c.in_ok-first.ensures n)
     ∙ ap (later (touch_at c.args.w front n)) (c.in_ok-second.ensures n)
     ∙ sym (touch_at-append c.args.w front back n)
     ∙ ap (λ es. touch_at c.args.w es n) whole)
-    c.combined.ensures.values
+    c.combine.ensures.values

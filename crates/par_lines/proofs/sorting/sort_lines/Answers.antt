@@ -1,16 +1,16 @@
 -- A line more is sorted, and at the end of the input all lines are.
 use Rattle.std.proofs.Common.{◌≡◌, ◌+◌, ◌-◌, ◌≤◌, length, drop, ap, arith, length-drop, length-take}
-use Rattle.par_lines.specs.Sorted.{Sorted, sorted}
+use Rattle.par_lines.specs.Sorted.{Sorted, sorted_lines}
 use Rattle.par_lines.specs.Places.{sorted_of}
 use Rattle.par_lines.proofs.Extents.{all_wider}
 use Rattle.par_lines.proofs.NameLaws.{AreSorted, sessions_named}
 use Rattle.par_lines.proofs.SortedLaws.{lines_end, lines_on}
 use Rattle.par_lines.proofs.sorting.sort_lines.Goals as goal
 
-whole : (c : goal.After-loop-from) → sorted_of c.args.input.now c.loop-from.lines ≡ sorted c.args.input.now
+whole : (c : goal.After-loop-from) → sorted_of c.args.input.now c.loop-from.lines ≡ sorted_lines c.args.input.now
 whole c =
     let input = c.args.input.now in
-    lines_end input c.loop-from.from c.loop-from.number (sorted_of input c.loop-from.lines) (sorted input) c.loop-from-test.false c.loop-from.invariant.left
+    lines_end input c.loop-from.from c.loop-from.number (sorted_of input c.loop-from.lines) (sorted_lines input) c.loop-from-test.false c.loop-from.invariant.left
 
 names : (c : goal.After-loop-from) → AreSorted c.loop-from.lines.sessions.items
 names c = sessions_named c.args.input.now c.loop-from.lines.sessions.items (ap (λ (s : Sorted). s.sessions) (whole c))
@@ -47,7 +47,7 @@ loop-from-preserved c =
     record {
       place = omega (arith, inside);
       count = omega (arith, c.loop-from.invariant.count);
-      left = lines_on input from len c.loop-from.number (sorted_of input old) (sorted_of input new) (sorted input) c.first_line_len-len.ensures.line c.in_ok-add.ensures.sorted c.loop-from.invariant.left;
+      left = lines_on input from len c.loop-from.number (sorted_of input old) (sorted_of input new) (sorted_lines input) c.first_line_len-len.ensures.line c.in_ok-add.ensures.sorted c.loop-from.invariant.left;
       within =
           all_wider (from + len) (from + (len + 1) - 1) (omega arith) new.sessions.items
           (c.in_ok-add.ensures.within (all_wider (from - 1) from (omega arith) old.sessions.items c.loop-from.invariant.within));

@@ -2,7 +2,7 @@ use Rattle.std.proofs.Common.{◌∙◌, ◌++◌, map, map-id, append-nil, sym,
 use Rattle.std.specs.List.{concat}
 use Rattle.std.proofs.lemmas.Iterator.Consumers.{YieldsList-end}
 use Rattle.std.proofs.lemmas.Iterator.Adapters.{YieldsList-from_vec}
-use Rattle.par_run.specs.Outputs.{spoken}
+use Rattle.par_run.specs.Outputs.{par_line}
 use Rattle.par_run.proofs.OutputLaws.{lines_more, texts_more}
 use Rattle.par_run.proofs.outputs.append_exchanges.Goals as goal
 
@@ -27,4 +27,4 @@ pub returns-clause-lines : goal.returns-clause-lines
 returns-clause-lines c =
     let end = YieldsList-end (YieldsList-from_vec {s = c.into_iter-exchange-iterator.result} c.args.exchanges.items (search rules) (search rules))
     c.loop-exchange.yielded c.loop-exchange.exchange-iterator c.loop-exchange.yielded_by c.next.result c.next.new.self c.in-None.is c.next.ensures.steps in
-    c.loop-exchange.invariant.lines ∙ ap (λ xs. c.args.lines.now.items ++ map (spoken c.args.place) xs) (sym (map-id c.loop-exchange.yielded) ∙ end.0)
+    c.loop-exchange.invariant.lines ∙ ap (λ xs. c.args.lines.now.items ++ map (par_line c.args.place) xs) (sym (map-id c.loop-exchange.yielded) ∙ end.0)

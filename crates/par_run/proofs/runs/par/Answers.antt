@@ -1,7 +1,7 @@
 use Rattle.std.proofs.Common.{◌∷◌, [], ap, subst, sym}
 use Rattle.shared_store.specs.Wrapped.{GoesOn}
 use Rattle.shared_store.proofs.GoesOnLaws.{goes_nowhere}
-use Rattle.par_lines.specs.Sorted.{at_once, final, only, setup, sorted}
+use Rattle.par_lines.specs.Sorted.{at_once, final, only, setup, sorted_lines}
 use Rattle.par_laws.proofs.BrokenLaws.{none_began, far_of_same}
 use Rattle.par_run.specs.Crews.{scripts_in}
 use Rattle.par_run.specs.Outputs.{output_of}
@@ -15,7 +15,7 @@ run_over-requires-clause-going g c κs within = none_there (g.B.Backend.state c.
 pub returns-in-Ok-clause-ran : goal.returns-in-Ok-clause-ran
 returns-in-Ok-clause-ran g c = λ other.
     let crews = c.in-Ok.crews in
-    let sorted_input = sorted c.args.input.now in
+    let sorted_input = sorted_lines c.args.input.now in
     let end = c.run_over.result in
     ran_of_same g.A.Actor.replies (g.A.Actor.semantics.opening 0) (g.B.Backend.state c.args.backend).history crews.refusals.items sorted_input.refusals
     (scripts_in g.A.Actor.named crews.setup.items) (only setup sorted_input.sessions) (scripts_in g.A.Actor.named crews.at_once.items) (at_once sorted_input.sessions) (scripts_in g.A.Actor.named crews.last.items) (only final sorted_input.sessions)
@@ -26,7 +26,7 @@ pub returns-in-Ok-clause-as_far : goal.returns-in-Ok-clause-as_far
 returns-in-Ok-clause-as_far g c =
     let actors = g.A.Actor in
     let crews = c.in-Ok.crews in
-    let sessions = (sorted c.args.input.now).sessions in
+    let sessions = (sorted_lines c.args.input.now).sessions in
     let end = c.run_over.result in
     far_of_same actors.within actors.semantics.does (actors.semantics.opening 0) (g.B.Backend.state c.args.backend).history
     (scripts_in actors.named crews.setup.items) (only setup sessions) (scripts_in actors.named crews.at_once.items) (at_once sessions) (scripts_in actors.named crews.last.items) (only final sessions)
@@ -36,11 +36,11 @@ returns-in-Ok-clause-as_far g c =
 pub returns-in-Err-clause-as_far : goal.returns-in-Err-clause-as_far
 returns-in-Err-clause-as_far g c =
     let actors = g.A.Actor in
-    let sessions = (sorted c.args.input.now).sessions in
+    let sessions = (sorted_lines c.args.input.now).sessions in
     none_began actors.within actors.semantics.does (actors.semantics.opening 0) (only setup sessions ∷ at_once sessions ∷ only final sessions ∷ [])
-    (g.B.Backend.state c.args.backend) (g.B.Backend.state c.ended.result.backend) c.ended.result.reads (ap g.B.Backend.state c.ended.ensures.backend) c.ended.ensures.reads
+    (g.B.Backend.state c.args.backend) (g.B.Backend.state c.end_run.result.backend) c.end_run.result.reads (ap g.B.Backend.state c.end_run.ensures.backend) c.end_run.ensures.reads
 
 pub returns-in-Err-clause-goes_on : goal.returns-in-Err-clause-goes_on
 returns-in-Err-clause-goes_on g c =
     let first = g.B.Backend.state c.args.backend in
-    subst (λ b. GoesOn first (g.B.Backend.state b)) (sym c.ended.ensures.backend) (goes_nowhere first (none_there first.failed c.requires.going))
+    subst (λ b. GoesOn first (g.B.Backend.state b)) (sym c.end_run.ensures.backend) (goes_nowhere first (none_there first.failed c.requires.going))

@@ -16,12 +16,12 @@ use Rattle.par_run.proofs.runs.run_crews.Goals as goal
 use Rattle.par_run.proofs.runs.run_crews.Goals.{then-enough, else-enough}
 
 -- where the run didn't end for want of memory, each worker had enough
-replied : (g : _) (c : goal.After-ended g) → c.ended.result.stop ≢ NoMemory
+replied : (g : _) (c : goal.After-end_run g) → c.end_run.result.stop ≢ NoMemory
     → HasReplied (list_any ran_out (workers_of c.run_crew-pass.new.crew.items) ≡ false) (list_any ran_out (workers_of c.run_crew-pass-2.new.crew.items) ≡ false) (list_any ran_out (workers_of c.run_crew-pass-3.new.crew.items) ≡ false)
-    (c.ended.result.stop ≡ stop_by (stands_still (g.B.Backend.state c.snap.new.self)))
+    (c.end_run.result.stop ≡ stop_by (stands_still (g.B.Backend.state c.snap.new.self)))
     (λ o. output_in o ≡ with_sessions (map (replies_of g.A.Actor.named) (workers_of c.run_crew-pass-3.new.crew.items)) (with_sessions (map (replies_of g.A.Actor.named) (workers_of c.run_crew-pass-2.new.crew.items)) (with_sessions (map (replies_of g.A.Actor.named) (workers_of c.run_crew-pass.new.crew.items)) (refusals_only c.args.crews.refusals.items))))
-    (λ o. output_in o ≡ output_of c.ended.result)
-replied g c other = has_replied _ _ _ _ _ _ (c.ended.result.stop ≡ NoMemory) c.all_replies.result c.all_replies.ensures.setup c.all_replies.ensures.at_once c.all_replies.ensures.last c.ended.ensures.stop c.all_replies.ensures.output c.ended.ensures.output other
+    (λ o. output_in o ≡ output_of c.end_run.result)
+replied g c other = has_replied _ _ _ _ _ _ (c.end_run.result.stop ≡ NoMemory) c.all_replies.result c.all_replies.ensures.setup c.all_replies.ensures.at_once c.all_replies.ensures.last c.end_run.ensures.stop c.all_replies.ensures.output c.end_run.ensures.output other
 
 pub returns-clause-ran : goal.returns-clause-ran
 returns-clause-ran g c = λ other.
@@ -42,7 +42,7 @@ returns-clause-ran g c = λ other.
     let before = map (replies_of g.A.Actor.named) (workers_of one.new.crew.items) in
     let between = map (replies_of g.A.Actor.named) (workers_of two.new.crew.items) in
     let after = map (replies_of g.A.Actor.named) (workers_of three.new.crew.items) in
-    let counted = reads_replied actors.named (workers_of one.new.crew.items) (workers_of two.new.crew.items) (workers_of three.new.crew.items) c.ended.result.reads (c.ended.ensures.reads ∙ c.all_reads-reads.ensures) in
+    let counted = reads_replied actors.named (workers_of one.new.crew.items) (workers_of two.new.crew.items) (workers_of three.new.crew.items) c.end_run.result.reads (c.end_run.ensures.reads ∙ c.all_reads-reads.ensures) in
     let with_memory = ran_worked actors.within actors.semantics.does first_places (worker_script actors.named) (replies_of actors.named) ran_out state c.args.store in
     let ran =
     par_laws actors.within actors.semantics.does actors.replies first_places c.tells_replies.ensures (worker_script actors.named) (replies_of actors.named) ran_out state c.args.store g.B.Backend.alone (scripts_in actors.named crews.setup.items) (scripts_in actors.named crews.at_once.items) (scripts_in actors.named crews.last.items) (state c.snap.new.self) before between after
@@ -72,15 +72,15 @@ returns-clause-ran g c = λ other.
       between_is = refl;
       after_is = refl;
     }) in
-    let told = says crews.refusals.items before between after (output_of c.ended.result) c.ended.result.reads (sym r.ends ∙ r.are) counted in
-    subst (λ b. CrewsRan actors (state c.args.store.opened.value).history crews (state b) (output_of c.ended.result) c.ended.result.reads) (sym c.ended.ensures.backend)
+    let told = says crews.refusals.items before between after (output_of c.end_run.result) c.end_run.result.reads (sym r.ends ∙ r.are) counted in
+    subst (λ b. CrewsRan actors (state c.args.store.opened.value).history crews (state b) (output_of c.end_run.result) c.end_run.result.reads) (sym c.end_run.ensures.backend)
     (record {
       before = before;
       between = between;
       after = after;
       ran = ran;
       says = told;
-      names = names_of_three actors.replies first_places (state c.args.store.opened.value).history (scripts_in actors.named crews.setup.items) (scripts_in actors.named crews.at_once.items) (scripts_in actors.named crews.last.items) (state c.snap.new.self) before between after c.ended.result.names ran told.names;
+      names = names_of_three actors.replies first_places (state c.args.store.opened.value).history (scripts_in actors.named crews.setup.items) (scripts_in actors.named crews.at_once.items) (scripts_in actors.named crews.last.items) (state c.snap.new.self) before between after c.end_run.result.names ran told.names;
     })
 
 pub returns-clause-as_far : goal.returns-clause-as_far
@@ -102,7 +102,7 @@ returns-clause-as_far g c =
     ] in
     let ran =
     crews_ran actors.within actors.semantics.does (actors.semantics.opening 0) (worker_script actors.named) (replies_of actors.named) ran_out state c.args.store
-    (scripts_in actors.named crews.setup.items) (scripts_in actors.named crews.at_once.items) (scripts_in actors.named crews.last.items) closed c.ended.result.reads
+    (scripts_in actors.named crews.setup.items) (scripts_in actors.named crews.at_once.items) (scripts_in actors.named crews.last.items) closed c.end_run.result.reads
     (record {
       start = c.args.pass;
       middle = one.result;
@@ -126,19 +126,19 @@ returns-clause-as_far g c =
       history = c.close-backend.ensures.history;
       failed = c.close-backend.ensures.failed;
       made = c.close-backend.ensures.made;
-      counted = c.ended.ensures.reads ∙ c.all_reads-reads.ensures;
+      counted = c.end_run.ensures.reads ∙ c.all_reads-reads.ensures;
     }) in
     let looked = snapped_same g.B.Backend.alone closed (state c.snap.new.self) c.requires.alone c.snap.ensures.looked in
-    subst (λ s. CrewsRanAsFar actors opening crews s c.ended.result.reads) (sym (ap state c.ended.ensures.backend ∙ looked)) ran
+    subst (λ s. CrewsRanAsFar actors opening crews s c.end_run.result.reads) (sym (ap state c.end_run.ensures.backend ∙ looked)) ran
 
 pub returns-clause-stop : goal.returns-clause-stop
 returns-clause-stop g c = λ other.
     let r = replied g c other in
-    ap (λ b. stands_still (g.B.Backend.state b)) c.ended.ensures.backend ∙ sym (ap is_disk_fault r.stop ∙ stop_is (stands_still (g.B.Backend.state c.snap.new.self)))
+    ap (λ b. stands_still (g.B.Backend.state b)) c.end_run.ensures.backend ∙ sym (ap is_disk_fault r.stop ∙ stop_is (stands_still (g.B.Backend.state c.snap.new.self)))
 
 pub returns-clause-goes_on : goal.returns-clause-goes_on
 returns-clause-goes_on g c =
     let first = g.B.Backend.state c.args.store.opened.value in
     let closed = g.B.Backend.state c.close-backend.result in
     let new = g.B.Backend.state c.snap.new.self in
-    subst (λ b. GoesOn first (g.B.Backend.state b)) (sym c.ended.ensures.backend) (goes_on_looked g.B.Backend.alone first closed new c.requires.alone c.snap.ensures.looked c.close-backend.ensures.goes_on)
+    subst (λ b. GoesOn first (g.B.Backend.state b)) (sym c.end_run.ensures.backend) (goes_on_looked g.B.Backend.alone first closed new c.requires.alone c.snap.ensures.looked c.close-backend.ensures.goes_on)

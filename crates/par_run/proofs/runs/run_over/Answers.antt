@@ -25,9 +25,9 @@ returns-in-NoMemory-clause-as_far g c =
     let crews = c.args.crews in
     none_began actors.within actors.semantics.does (actors.semantics.opening 0)
     (scripts_in actors.named crews.setup.items ∷ scripts_in actors.named crews.at_once.items ∷ scripts_in actors.named crews.last.items ∷ [])
-    (state c.args.backend) (state c.ended.result.backend) c.ended.result.reads (ap state (c.ended.ensures.backend ∙ c.in-NoMemory.ensures)) c.ended.ensures.reads
+    (state c.args.backend) (state c.end_run.result.backend) c.end_run.result.reads (ap state (c.end_run.ensures.backend ∙ c.in-NoMemory.ensures)) c.end_run.ensures.reads
 
 pub returns-in-NoMemory-clause-goes_on : goal.returns-in-NoMemory-clause-goes_on
 returns-in-NoMemory-clause-goes_on g c =
     let first = g.B.Backend.state c.args.backend in
-    subst (λ b. GoesOn first (g.B.Backend.state b)) (sym (c.ended.ensures.backend ∙ c.in-NoMemory.ensures)) (goes_nowhere first c.requires.going)
+    subst (λ b. GoesOn first (g.B.Backend.state b)) (sym (c.end_run.ensures.backend ∙ c.in-NoMemory.ensures)) (goes_nowhere first c.requires.going)

@@ -11,8 +11,8 @@ returns c =
     let r = c.get.result.now in
     let there = finished_there c.args.cut c.args.by p 0 r items c.requires.rise c.requires.stands.within c.get.ensures.item (ap (λ x. x.cut) c.get.ensures.item ∙ c.requires.stands.named r) in
     record {
-      marked = elim c.replaced.result as (λ o. IfOk o (λ list. list.items ≡ (take p items ++ (c.marked-marked.result ∷ [])) ++ drop (p + 1) items) → IfOk o (λ new. new.items ≡ map (finished_at c.args.cut c.args.by) items)) [
-        | Ok new ↦ λ e. e ∙ append_assoc (take p items) (c.marked-marked.result ∷ []) (drop (p + 1) items) ∙ ap (λ x. take p items ++ ((x ∷ []) ++ drop (p + 1) items)) c.marked-marked.ensures ∙ there
+      marked = elim c.replace.result as (λ o. IfOk o (λ list. list.items ≡ (take p items ++ (c.finish_at-marked.result ∷ [])) ++ drop (p + 1) items) → IfOk o (λ new. new.items ≡ map (finished_at c.args.cut c.args.by) items)) [
+        | Ok new ↦ λ e. e ∙ append_assoc (take p items) (c.finish_at-marked.result ∷ []) (drop (p + 1) items) ∙ ap (λ x. take p items ++ ((x ∷ []) ++ drop (p + 1) items)) c.finish_at-marked.ensures ∙ there
         | Err e ↦ λ t. t
-      ] c.replaced.ensures.items;
+      ] c.replace.ensures.items;
     }

@@ -31,9 +31,9 @@ returns-in-NotAscii g c =
     let script_state = script_state_of g.A.Actor.places state.history entries in
     let line = c.args.line.now in
     let whole = executes_kind g.A.Actor.semantics script_state c.args.number line NotAscii in
-    unchanged g.A.Actor g.B.Backend c.args.backend.now entries (length line) _ c.ending.result g.B.Backend.alone steps c.requires.ready
-    (as_kind c.ending.result state state script_state steps steps g.A.Actor.semantics script_state c.args.number line NotAscii c.requires.ready.short c.in-NotAscii.ensures.kind
-    (rw c.ending.ensures (refusal_executed c.refuse_line.result whole state script_state steps c.requires.ready.counts c.requires.ready.going c.refuse_line.ensures refl refl refl)))
+    unchanged g.A.Actor g.B.Backend c.args.backend.now entries (length line) _ c.step_end_of.result g.B.Backend.alone steps c.requires.ready
+    (as_kind c.step_end_of.result state state script_state steps steps g.A.Actor.semantics script_state c.args.number line NotAscii c.requires.ready.short c.in-NotAscii.ensures.kind
+    (rw c.step_end_of.ensures (refusal_executed c.refuse_line.result whole state script_state steps c.requires.ready.counts c.requires.ready.going c.refuse_line.ensures refl refl refl)))
 
 pub returns-in-NoSession : goal.returns-in-NoSession
 returns-in-NoSession g c =
@@ -43,9 +43,9 @@ returns-in-NoSession g c =
     let script_state = script_state_of g.A.Actor.places state.history entries in
     let line = c.args.line.now in
     let whole = executes_kind g.A.Actor.semantics script_state c.args.number line NoSession in
-    unchanged g.A.Actor g.B.Backend c.args.backend.now entries (length line) _ c.ending-in-NoSession.result g.B.Backend.alone steps c.requires.ready
-    (as_kind c.ending-in-NoSession.result state state script_state steps steps g.A.Actor.semantics script_state c.args.number line NoSession c.requires.ready.short c.in-NoSession.ensures.kind
-    (rw c.ending-in-NoSession.ensures (refusal_executed c.refuse_line-in-NoSession.result whole state script_state steps c.requires.ready.counts c.requires.ready.going c.refuse_line-in-NoSession.ensures refl refl refl)))
+    unchanged g.A.Actor g.B.Backend c.args.backend.now entries (length line) _ c.step_end_of-in-NoSession.result g.B.Backend.alone steps c.requires.ready
+    (as_kind c.step_end_of-in-NoSession.result state state script_state steps steps g.A.Actor.semantics script_state c.args.number line NoSession c.requires.ready.short c.in-NoSession.ensures.kind
+    (rw c.step_end_of-in-NoSession.ensures (refusal_executed c.refuse_line-in-NoSession.result whole state script_state steps c.requires.ready.counts c.requires.ready.going c.refuse_line-in-NoSession.ensures refl refl refl)))
 
 pub returns-in-Stmt : goal.returns-in-Stmt
 returns-in-Stmt g c =

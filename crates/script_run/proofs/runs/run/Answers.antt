@@ -2,7 +2,7 @@
 use Rattle.std.proofs.Common.{◌≡◌, ◌<◌, ◌^◌, ℕ, List, [], length, sym, ap, ◌∙◌, subst, arith, refl}
 use Rattle.std.specs.Io.KnownBytes.{prepend_known}
 use Rattle.script_run.specs.Sessions.{sessions_of, script_state_of, waiting_in, AreSessions}
-use Rattle.script_run.specs.Runs.{Left, Ran, executed}
+use Rattle.script_run.specs.Runs.{Left, Ran, executed_lines}
 use Rattle.script_run.specs.declared.ends.RunEnd.{RunEnd}
 use Rattle.script_run.specs.declared.ends.RunEnd.TheVariants as ends
 use Rattle.script_run.proofs.WalkedAlone.{went_same, went_trans}
@@ -13,7 +13,7 @@ use Rattle.script_run.proofs.runs.run.Goals as goal
 pub returns-in-Err-clause-ran : goal.returns-in-Err-clause-ran
 returns-in-Err-clause-ran g c =
     let state = g.B.Backend.state c.args.backend.now in
-    ends_first (g.S.Source.left c.args.source.now) _ (λ input. never_began g.A.Actor.semantics state.history (executed input) state (g.K.Sink.written c.args.sink.now) c.args.steps.now refl (omega (arith, c.count-so_far.ensures.count)))
+    ends_first (g.S.Source.left c.args.source.now) _ (λ input. never_began g.A.Actor.semantics state.history (executed_lines input) state (g.K.Sink.written c.args.sink.now) c.args.steps.now refl (omega (arith, c.count-so_far.ensures.count)))
 
 pub loop-script-init : goal.loop-script-init
 loop-script-init g c =
@@ -88,10 +88,10 @@ returns-in-Err-execute-clause-ran g c =
     let rest_left = g.S.Source.left c.next.new.source in
     let ran = λ (end : RunEnd) (input : List ℕ). Ran end g.A.Actor.semantics first.history input rest_left
     (record { store = new; written_before = before; written = v; read_before = c.args.steps.now; read = c.execute.new.steps }) in
-    ends_at_line come c.loop-script.lines.allowed c.next.new.self.allowed (ran c.stopped.result) (g.S.Source.left c.args.source.now) left (prepend_known c.next.new.self.held rest_left)
+    ends_at_line come c.loop-script.lines.allowed c.next.new.self.allowed (ran c.run_end_of_stop.result) (g.S.Source.left c.args.source.now) left (prepend_known c.next.new.self.held rest_left)
     c.next.new.self.line c.line.result.now c.line.ensures.line c.in-Line.ensures.line
-    (λ input rest p. subst (λ end. ran end input) (sym c.stopped.ensures)
-    (stops_at g.A.Actor.semantics first.history (executed input) rest c.line.result.now before c.args.steps.now old new w v c.loop-script.steps c.execute.new.steps sessions later script.line next.line script.refused next.refused p
+    (λ input rest p. subst (λ end. ran end input) (sym c.run_end_of_stop.ensures)
+    (stops_at g.A.Actor.semantics first.history (executed_lines input) rest c.line.result.now before c.args.steps.now old new w v c.loop-script.steps c.execute.new.steps sessions later script.line next.line script.refused next.refused p
     c.in-Err-execute.stop input rest_left refl c.in-Err-execute.ensures.cut)) c.loop-script.invariant.progress
 
 pub loop-script-preserved : goal.loop-script-preserved
@@ -147,10 +147,10 @@ returns-in-Err-refuse_long-clause-ran g c =
     let rest_left = g.S.Source.left c.next.new.source in
     let ran = λ (end : RunEnd) (input : List ℕ). Ran end g.A.Actor.semantics first.history input rest_left
     (record { store = old; written_before = before; written = v; read_before = c.args.steps.now; read = c.loop-script.steps }) in
-    ends_at_long_line come c.loop-script.lines.allowed c.next.new.self.allowed (ran c.stopped-in-Err-refuse_long.result) (g.S.Source.left c.args.source.now) left
+    ends_at_long_line come c.loop-script.lines.allowed c.next.new.self.allowed (ran c.run_end_of_stop-in-Err-refuse_long.result) (g.S.Source.left c.args.source.now) left
     (prepend_known c.next.new.self.held rest_left) c.next.new.self.line c.in-LineLong.ensures.line
-    (λ input rest line long p. subst (λ end. ran end input) (sym c.stopped-in-Err-refuse_long.ensures)
-    (stops_at g.A.Actor.semantics first.history (executed input) rest line before c.args.steps.now old old w v c.loop-script.steps c.loop-script.steps sessions later script.line next.line script.refused next.refused p
+    (λ input rest line long p. subst (λ end. ran end input) (sym c.run_end_of_stop-in-Err-refuse_long.ensures)
+    (stops_at g.A.Actor.semantics first.history (executed_lines input) rest line before c.args.steps.now old old w v c.loop-script.steps c.loop-script.steps sessions later script.line next.line script.refused next.refused p
     c.in-Err-refuse_long.stop input rest_left refl
     (refused_cut g.A.Actor.semantics (script_state_of g.A.Actor.places old.history script.sessions.entries) script.line line long c.in-Err-refuse_long.stop old (script_state_of g.A.Actor.places old.history next.sessions.entries) w v
     c.loop-script.steps c.loop-script.invariant.counts refl same_script_state c.in-Err-refuse_long.ensures.cut))) c.loop-script.invariant.progress
@@ -168,11 +168,11 @@ returns-in-End-clause-ran g c =
     let rest_left = g.S.Source.left c.next.new.source in
     let here : Left = record { store = old; written_before = before; written = w; read_before = c.args.steps.now; read = c.loop-script.steps } in
     let ran = λ (end : RunEnd) (input : List ℕ). Ran end g.A.Actor.semantics first.history input rest_left here in
-    ends_last come c.loop-script.lines.allowed c.next.new.self.allowed (ran c.ended.result) (g.S.Source.left c.args.source.now) left rest_left c.next.new.self.held c.next.new.self.line c.in-End.ensures.line
-    (λ input whole p. subst (λ end. ran end input) (sym c.ended.ensures)
+    ends_last come c.loop-script.lines.allowed c.next.new.self.allowed (ran c.run_end_of_input.result) (g.S.Source.left c.args.source.now) left rest_left c.next.new.self.held c.next.new.self.line c.in-End.ensures.line
+    (λ input whole p. subst (λ end. ran end input) (sym c.run_end_of_input.ensures)
     (end_ran script.refused g.A.Actor.semantics first.history input rest_left here whole
-    (all_done g.A.Actor.semantics first.history (executed input) [] here sessions script.line script.refused p refl)
-    (all_faults g.A.Actor.semantics first.history (executed input) [] here sessions script.line script.refused p refl))) c.loop-script.invariant.progress
+    (all_done g.A.Actor.semantics first.history (executed_lines input) [] here sessions script.line script.refused p refl)
+    (all_faults g.A.Actor.semantics first.history (executed_lines input) [] here sessions script.line script.refused p refl))) c.loop-script.invariant.progress
 
 pub returns-in-InputLong-clause-ran : goal.returns-in-InputLong-clause-ran
 returns-in-InputLong-clause-ran g c =
@@ -188,7 +188,7 @@ returns-in-InputLong-clause-ran g c =
     let here : Left = record { store = old; written_before = before; written = w; read_before = c.args.steps.now; read = c.loop-script.steps } in
     ends_beyond come c.loop-script.lines.allowed c.next.new.self.allowed (λ input. Ran ends.InputLong g.A.Actor.semantics first.history input rest_left here) (g.S.Source.left c.args.source.now) left
     (prepend_known c.next.new.self.held rest_left) c.next.new.self.line c.in-InputLong.ensures.line
-    (λ input long p. (long, all_done g.A.Actor.semantics first.history (executed input) [] here sessions script.line script.refused p refl)) c.loop-script.invariant.progress
+    (λ input long p. (long, all_done g.A.Actor.semantics first.history (executed_lines input) [] here sessions script.line script.refused p refl)) c.loop-script.invariant.progress
 
 pub returns-in-ReadFault-clause-ran : goal.returns-in-ReadFault-clause-ran
 returns-in-ReadFault-clause-ran g c =
@@ -203,4 +203,4 @@ returns-in-ReadFault-clause-ran g c =
     let rest_left = g.S.Source.left c.next.new.source in
     let here : Left = record { store = old; written_before = before; written = w; read_before = c.args.steps.now; read = c.loop-script.steps } in
     ends_anywhere come c.loop-script.lines.allowed c.next.new.self.allowed (λ input. Ran ends.ReadFault g.A.Actor.semantics first.history input rest_left here) (g.S.Source.left c.args.source.now) left
-    (λ input rest p. stops_before g.A.Actor.semantics first.history (executed input) rest here sessions script.line script.refused p) c.loop-script.invariant.progress
+    (λ input rest p. stops_before g.A.Actor.semantics first.history (executed_lines input) rest here sessions script.line script.refused p) c.loop-script.invariant.progress

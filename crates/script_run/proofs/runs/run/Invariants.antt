@@ -4,7 +4,7 @@ use Rattle.std.specs.Io.KnownBytes.{prepend_known}
 use Rattle.ts_io.specs.Reader.{Follows}
 use Rattle.ts_io.specs.declared.limits.TheConstants.{INPUT_LIMIT}
 use Rattle.script_run.specs.Sessions.{sessions_of, waiting_in, AreSessions}
-use Rattle.script_run.specs.Went.{WentOn}
+use Rattle.script_run.specs.RunStates.{WentOn}
 use Rattle.script_run.proofs.Progress.{Come}
 use Rattle.script_run.proofs.RunLaws.{OfInput}
 use Rattle.script_run.proofs.runs.run.Given as goal

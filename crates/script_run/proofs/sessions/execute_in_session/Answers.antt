@@ -17,8 +17,8 @@ take_turn-requires-clause-holds g c κs within =
     let entry : Vec ℕ × g.row.A.Denot = (c.pair_mut-actor.result.0.now, c.pair_mut-actor.result.1.now) in
     (sessions_at g.A.Actor (g.B.Backend.state c.args.backend.now) 0 c.args.sessions.now.entries c.in-Some.place entry c.requires.ready.sessions c.pair_mut-actor.ensures.value).holds_well
 
-pub meet_session-requires-clause-absent : goal.meet_session-requires-clause-absent
-meet_session-requires-clause-absent g c κs within = no_places_found g.A.Actor.places c.args.name.now c.args.sessions.now.entries (sym c.in-None.ensures.found)
+pub find_or_begin-requires-clause-absent : goal.find_or_begin-requires-clause-absent
+find_or_begin-requires-clause-absent g c κs within = no_places_found g.A.Actor.places c.args.name.now c.args.sessions.now.entries (sym c.in-None.ensures.found)
 
 pub returns-in-Some : goal.returns-in-Some
 returns-in-Some g c =
@@ -53,11 +53,11 @@ returns-in-None g c =
     let places = g.A.Actor.places in
     let name = c.args.name.now in
     let old = g.B.Backend.state c.args.backend.now in
-    let new = c.meet_session.new.backend in
+    let new = c.find_or_begin.new.backend in
     let entries = c.args.sessions.now.entries in
-    let then = c.meet_session.new.sessions.entries in
+    let then = c.find_or_begin.new.sessions.entries in
     let script_state = script_state_of places old.history entries in
-    taken_as g.A.Actor g.B.Backend c.args.backend.now entries (length c.args.text.now) _ c.meet_session.result (length c.args.text.now) _ new then _ _ (omega arith)
-    (as_missing c.meet_session.result old (g.B.Backend.state new) (script_state_of places (g.B.Backend.state new).history then) c.args.steps.now c.meet_session.new.steps g.A.Actor.semantics script_state name c.args.text.now c.args.skip
+    taken_as g.A.Actor g.B.Backend c.args.backend.now entries (length c.args.text.now) _ c.find_or_begin.result (length c.args.text.now) _ new then _ _ (omega arith)
+    (as_missing c.find_or_begin.result old (g.B.Backend.state new) (script_state_of places (g.B.Backend.state new).history then) c.args.steps.now c.find_or_begin.new.steps g.A.Actor.semantics script_state name c.args.text.now c.args.skip
     (places_of name script_state.sessions) (no_places_found places name entries (sym c.in-None.ensures.found)))
-    c.meet_session.ensures
+    c.find_or_begin.ensures

@@ -1,16 +1,16 @@
 use Rattle.std.proofs.Common.{◌≡◌, ◌<◌, ◌^◌, ◌∙◌, true, None, length, refl, ap, sym, subst}
 use Rattle.std.specs.Prelude.{Ok, Err, IsTrue}
 use Rattle.ts_bucket.specs.Bucket.{first_of}
-use Rattle.ts_model.specs.Calls.{committing}
+use Rattle.ts_model.specs.Calls.{act_of_commit}
 use Rattle.ts_model.proofs.CallLaws.{begins_looked}
 use Rattle.stmt_check.proofs.RosterLaws.{rosters_are_numbered}
 use Rattle.ts_sessions.specs.Held.{is_lost}
 use Rattle.ts_sessions.specs.declared.calls.CallOutcome.TheVariants as outcomes
 use Rattle.ts_sessions.specs.declared.deeds.Deed.TheVariants as deeds
-use Rattle.ts_sessions.specs.Deeds.{DeedFits, IsLostBy, at_in, cut_in, cut_left, finished, left_by, line_of, making_of, rest, says}
+use Rattle.ts_sessions.specs.Deeds.{DeedFits, IsLostBy, at_in, cut_in, cut_left, turn_of_finish, left_by, line_of, making_of, rest, says}
 use Rattle.ts_sessions.specs.Procedures.{ends, tries}
 use Rattle.ts_sessions.specs.Sound.{number_at}
-use Rattle.ts_sessions.specs.Step.{after_view, committed, cuts_refresh, finishes_refresh, reported}
+use Rattle.ts_sessions.specs.Step.{after_view, turn_of_commit, cuts_refresh, finishes_refresh, turn_of_line}
 use Rattle.ts_sessions.specs.Walks.{Breaks}
 use Rattle.ts_sessions.proofs.DeedWalks.{call_broken, found_meets, job_tries, look_meets, tried_broken, tried_meets, view_meets}
 use Rattle.ts_sessions.proofs.JobLaws.{finish_lost, known_job}
@@ -26,25 +26,25 @@ pub returns-in_err-tried-in-Make-clause-meets : goal.returns-in_err-tried-in-Mak
 returns-in_err-tried-in-Make-clause-meets g c =
     let old = g.B.Backend.state c.args.backend.now in
     let m = c.in-Make.making in
-    tried_broken g.B.Shot.Shown g.B.Backend.alone old c.args.deed (deeds.Make m) (tries (making_of m)) (λ p read r. ends (reported p (says (line_of m)) r)) c.from_residual.result (g.B.Backend.state c.make_one.new.backend) c.from_residual.ensures.0 c.in-Make.is (λ p read. refl) c.in_err-tried-in-Make.ensures.tries
+    tried_broken g.B.Shot.Shown g.B.Backend.alone old c.args.deed (deeds.Make m) (tries (making_of m)) (λ p read r. ends (turn_of_line p (says (line_of m)) r)) c.from_residual.result (g.B.Backend.state c.make_one.new.backend) c.from_residual.ensures.0 c.in-Make.is (λ p read. refl) c.in_err-tried-in-Make.ensures.tries
 
 pub returns-in_ok-tried-in-Make-clause-meets : goal.returns-in_ok-tried-in-Make-clause-meets
 returns-in_ok-tried-in-Make-clause-meets g c =
     let old = g.B.Backend.state c.args.backend.now in
     let m = c.in-Make.making in
-    let r = c.came-came.result in
-    tried_meets g.B.Shot.Shown g.B.Backend.alone old c.args.deed (deeds.Make m) (tries (making_of m)) (λ p read r. ends (reported p (says (line_of m)) r)) c.in_ok-tried-in-Make.tried r c.failed-failed.result (outcomes.Number c.line-line.result r) (g.B.Backend.state c.make_one.new.backend) c.in-Make.is (λ p read. refl) (λ p read. ap (λ l. ends (reported p (says l) r)) c.line-line.ensures) c.in_ok-tried-in-Make.ensures.tries c.failed-failed.ensures c.came-came.ensures (record { fits = tt; left_so = refl; spent_so = λ read. refl })
+    let r = c.into_result-came.result in
+    tried_meets g.B.Shot.Shown g.B.Backend.alone old c.args.deed (deeds.Make m) (tries (making_of m)) (λ p read r. ends (turn_of_line p (says (line_of m)) r)) c.in_ok-tried-in-Make.tried r c.has_disk_fault-failed.result (outcomes.Number c.line-line.result r) (g.B.Backend.state c.make_one.new.backend) c.in-Make.is (λ p read. refl) (λ p read. ap (λ l. ends (turn_of_line p (says l) r)) c.line-line.ensures) c.in_ok-tried-in-Make.ensures.tries c.has_disk_fault-failed.ensures c.into_result-came.ensures (record { fits = tt; left_so = refl; spent_so = λ read. refl })
 
 pub returns-in_err-tried-in-Commit-clause-meets : goal.returns-in_err-tried-in-Commit-clause-meets
 returns-in_err-tried-in-Commit-clause-meets g c =
     let old = g.B.Backend.state c.args.backend.now in
-    tried_broken g.B.Shot.Shown g.B.Backend.alone old c.args.deed (deeds.Commit c.in-Commit.ops c.in-Commit.leaves) (tries (committing c.in-Commit.ops)) (λ p read r. ends (committed p (left_by c.in-Commit.leaves p) r)) c.from_residual-in_err-tried-in-Commit.result (g.B.Backend.state c.commit.new.backend) c.from_residual-in_err-tried-in-Commit.ensures.0 c.in-Commit.is (λ p read. refl) c.in_err-tried-in-Commit.ensures.tries
+    tried_broken g.B.Shot.Shown g.B.Backend.alone old c.args.deed (deeds.Commit c.in-Commit.ops c.in-Commit.leaves) (tries (act_of_commit c.in-Commit.ops)) (λ p read r. ends (turn_of_commit p (left_by c.in-Commit.leaves p) r)) c.from_residual-in_err-tried-in-Commit.result (g.B.Backend.state c.commit.new.backend) c.from_residual-in_err-tried-in-Commit.ensures.0 c.in-Commit.is (λ p read. refl) c.in_err-tried-in-Commit.ensures.tries
 
 pub returns-in_ok-tried-in-Commit-clause-meets : goal.returns-in_ok-tried-in-Commit-clause-meets
 returns-in_ok-tried-in-Commit-clause-meets g c =
     let old = g.B.Backend.state c.args.backend.now in
-    let r = c.came-came-in-Commit.result in
-    tried_meets g.B.Shot.Shown g.B.Backend.alone old c.args.deed (deeds.Commit c.in-Commit.ops c.in-Commit.leaves) (tries (committing c.in-Commit.ops)) (λ p read r. ends (committed p (left_by c.in-Commit.leaves p) r)) c.in_ok-tried-in-Commit.tried r c.failed-failed-in-Commit.result (outcomes.Commit c.in-Commit.leaves r) (g.B.Backend.state c.commit.new.backend) c.in-Commit.is (λ p read. refl) (λ p read. refl) c.in_ok-tried-in-Commit.ensures.tries c.failed-failed-in-Commit.ensures c.came-came-in-Commit.ensures (record { fits = tt; left_so = refl; spent_so = λ read. refl })
+    let r = c.into_result-came-in-Commit.result in
+    tried_meets g.B.Shot.Shown g.B.Backend.alone old c.args.deed (deeds.Commit c.in-Commit.ops c.in-Commit.leaves) (tries (act_of_commit c.in-Commit.ops)) (λ p read r. ends (turn_of_commit p (left_by c.in-Commit.leaves p) r)) c.in_ok-tried-in-Commit.tried r c.has_disk_fault-failed-in-Commit.result (outcomes.Commit c.in-Commit.leaves r) (g.B.Backend.state c.commit.new.backend) c.in-Commit.is (λ p read. refl) (λ p read. refl) c.in_ok-tried-in-Commit.ensures.tries c.has_disk_fault-failed-in-Commit.ensures c.into_result-came-in-Commit.ensures (record { fits = tt; left_so = refl; spent_so = λ read. refl })
 
 pub returns-in_err-tried-in-Cut-clause-meets : goal.returns-in_err-tried-in-Cut-clause-meets
 returns-in_err-tried-in-Cut-clause-meets g c =
@@ -58,21 +58,21 @@ returns-in_ok-tried-in-Cut-clause-meets g c =
     let old = g.B.Backend.state c.args.backend.now in
     let a = c.in-Cut.asked in
     let then = c.in-Cut.then in
-    let r = c.came-came-in-Cut.result in
-    tried_meets g.B.Shot.Shown g.B.Backend.alone old c.args.deed (deeds.Cut a then) (cuts_refresh a.view a.lo a.hi) (λ p read r. cut_left p a.min then r) c.in_ok-tried-in-Cut.tried r c.failed-failed-in-Cut.result (outcomes.Cut a then r) (g.B.Backend.state c.cut.new.backend) c.in-Cut.is (λ p read. refl) (λ p read. refl) c.in_ok-tried-in-Cut.ensures.tries c.failed-failed-in-Cut.ensures c.came-came-in-Cut.ensures (record { fits = tt; left_so = refl; spent_so = λ read. refl })
+    let r = c.into_result-came-in-Cut.result in
+    tried_meets g.B.Shot.Shown g.B.Backend.alone old c.args.deed (deeds.Cut a then) (cuts_refresh a.view a.lo a.hi) (λ p read r. cut_left p a.min then r) c.in_ok-tried-in-Cut.tried r c.has_disk_fault-failed-in-Cut.result (outcomes.Cut a then r) (g.B.Backend.state c.cut.new.backend) c.in-Cut.is (λ p read. refl) (λ p read. refl) c.in_ok-tried-in-Cut.ensures.tries c.has_disk_fault-failed-in-Cut.ensures c.into_result-came-in-Cut.ensures (record { fits = tt; left_so = refl; spent_so = λ read. refl })
 
 pub returns-in_err-tried-in-Finish-clause-meets : goal.returns-in_err-tried-in-Finish-clause-meets
 returns-in_err-tried-in-Finish-clause-meets g c =
     let old = g.B.Backend.state c.args.backend.now in
     let f = c.in-Finish.finishing in
-    tried_broken g.B.Shot.Shown g.B.Backend.alone old c.args.deed (deeds.Finish c.in-Finish.job f) (finishes_refresh (cut_in f) (at_in f)) (λ p read r. ends (finished p read f r)) c.from_residual-in_err-tried-in-Finish.result (g.B.Backend.state c.finish.new.backend) c.from_residual-in_err-tried-in-Finish.ensures.0 c.in-Finish.is (λ p read. refl) (job_tries g.B.Shot.Shown g.B.Backend.alone old c.args.deed c.in-Finish.job f (Err _) (g.B.Backend.state c.finish.new.backend) c.requires.fits c.in-Finish.is c.in_err-tried-in-Finish.ensures.tries)
+    tried_broken g.B.Shot.Shown g.B.Backend.alone old c.args.deed (deeds.Finish c.in-Finish.job f) (finishes_refresh (cut_in f) (at_in f)) (λ p read r. ends (turn_of_finish p read f r)) c.from_residual-in_err-tried-in-Finish.result (g.B.Backend.state c.finish.new.backend) c.from_residual-in_err-tried-in-Finish.ensures.0 c.in-Finish.is (λ p read. refl) (job_tries g.B.Shot.Shown g.B.Backend.alone old c.args.deed c.in-Finish.job f (Err _) (g.B.Backend.state c.finish.new.backend) c.requires.fits c.in-Finish.is c.in_err-tried-in-Finish.ensures.tries)
 
 pub returns-in_ok-tried-in-Finish-clause-meets : goal.returns-in_ok-tried-in-Finish-clause-meets
 returns-in_ok-tried-in-Finish-clause-meets g c =
     let old = g.B.Backend.state c.args.backend.now in
     let f = c.in-Finish.finishing in
-    let r = c.came-came-in-Finish.result in
-    tried_meets g.B.Shot.Shown g.B.Backend.alone old c.args.deed (deeds.Finish c.in-Finish.job f) (finishes_refresh (cut_in f) (at_in f)) (λ p read r. ends (finished p read f r)) c.in_ok-tried-in-Finish.tried r c.failed-failed-in-Finish.result (outcomes.Finish f r) (g.B.Backend.state c.finish.new.backend) c.in-Finish.is (λ p read. refl) (λ p read. refl) (job_tries g.B.Shot.Shown g.B.Backend.alone old c.args.deed c.in-Finish.job f (Ok c.in_ok-tried-in-Finish.tried) (g.B.Backend.state c.finish.new.backend) c.requires.fits c.in-Finish.is c.in_ok-tried-in-Finish.ensures.tries) c.failed-failed-in-Finish.ensures c.came-came-in-Finish.ensures (record { fits = tt; left_so = refl; spent_so = λ read. refl })
+    let r = c.into_result-came-in-Finish.result in
+    tried_meets g.B.Shot.Shown g.B.Backend.alone old c.args.deed (deeds.Finish c.in-Finish.job f) (finishes_refresh (cut_in f) (at_in f)) (λ p read r. ends (turn_of_finish p read f r)) c.in_ok-tried-in-Finish.tried r c.has_disk_fault-failed-in-Finish.result (outcomes.Finish f r) (g.B.Backend.state c.finish.new.backend) c.in-Finish.is (λ p read. refl) (λ p read. refl) (job_tries g.B.Shot.Shown g.B.Backend.alone old c.args.deed c.in-Finish.job f (Ok c.in_ok-tried-in-Finish.tried) (g.B.Backend.state c.finish.new.backend) c.requires.fits c.in-Finish.is c.in_ok-tried-in-Finish.ensures.tries) c.has_disk_fault-failed-in-Finish.ensures c.into_result-came-in-Finish.ensures (record { fits = tt; left_so = refl; spent_so = λ read. refl })
 
 -- the refresh can't be finished any more
 pub returns-in_ok-tried-in-Finish-clause-lost : goal.returns-in_ok-tried-in-Finish-clause-lost
@@ -97,7 +97,7 @@ returns-in_err-tried-in-View-clause-meets g c =
 pub returns-in_ok-tried-in-View-clause-meets : goal.returns-in_ok-tried-in-View-clause-meets
 returns-in_ok-tried-in-View-clause-meets g c =
     let old = g.B.Backend.state c.args.backend.now in
-    view_meets g.B.Shot.Shown g.B.Backend.alone old c.args.deed c.in-View.def c.in-View.filled _ _ c.in_ok-tried-in-View.tried c.came-came-in-View.result c.failed-failed-in-View.result c.in_ok-new-in-View.new (g.B.Backend.state c.make_view-outcome.new.self) c.in-View.is c.make_view-outcome.ensures.called c.position.ensures c.in_ok-tried-in-View.ensures c.failed-failed-in-View.ensures c.came-came-in-View.ensures c.in_ok-new-in-View.ensures.name c.in_ok-new-in-View.ensures.width
+    view_meets g.B.Shot.Shown g.B.Backend.alone old c.args.deed c.in-View.def c.in-View.filled _ _ c.in_ok-tried-in-View.tried c.into_result-came-in-View.result c.has_disk_fault-failed-in-View.result c.in_ok-new-in-View.new (g.B.Backend.state c.make_view-outcome.new.self) c.in-View.is c.make_view-outcome.ensures.called c.position.ensures c.in_ok-tried-in-View.ensures c.has_disk_fault-failed-in-View.ensures c.into_result-came-in-View.ensures c.in_ok-new-in-View.ensures.name c.in_ok-new-in-View.ensures.width
 
 -- ---- an aggregate that is filled
 

@@ -30,12 +30,12 @@ returns-in_err-completion-in-Deed-clause-ends g t c = λ p read.
 
 pub returns-in_ok-completion-in-Deed-clause-ends : goal.returns-in_ok-completion-in-Deed-clause-ends
 returns-in_ok-completion-in-Deed-clause-ends g t c = λ p read.
-    went_on g.B.Backend.alone (g.B.Backend.state c.args.backend.now) p read c.args.next c.in-Deed.deed c.in_ok-advanced-in-Deed.advanced _ c.in_ok-completion-in-Deed.completion c.joined.result _ _ _ _ c.in-Deed.is (c.in_ok-advanced-in-Deed.ensures.advances p read) (λ had. c.in_ok-completion-in-Deed.ensures.ends p had) c.joined.ensures
+    went_on g.B.Backend.alone (g.B.Backend.state c.args.backend.now) p read c.args.next c.in-Deed.deed c.in_ok-advanced-in-Deed.advanced _ c.in_ok-completion-in-Deed.completion c.prepend_line.result _ _ _ _ c.in-Deed.is (c.in_ok-advanced-in-Deed.ensures.advances p read) (λ had. c.in_ok-completion-in-Deed.ensures.ends p had) c.prepend_line.ensures
 
 pub returns-in_ok-completion-in-Deed-clause-change : goal.returns-in_ok-completion-in-Deed-clause-change
 returns-in_ok-completion-in-Deed-clause-change g t c = λ bytes fits.
-    joined_brings g.B.Shot.Shown bytes _ _ _ c.in_ok-completion-in-Deed.completion c.joined.result c.joined.ensures (c.in_ok-completion-in-Deed.ensures.change bytes (c.in_ok-advanced-in-Deed.ensures.fits bytes))
+    joined_brings g.B.Shot.Shown bytes _ _ _ c.in_ok-completion-in-Deed.completion c.prepend_line.result c.prepend_line.ensures (c.in_ok-completion-in-Deed.ensures.change bytes (c.in_ok-advanced-in-Deed.ensures.fits bytes))
 
 pub returns-in_ok-completion-in-Deed-clause-lost : goal.returns-in_ok-completion-in-Deed-clause-lost
 returns-in_ok-completion-in-Deed-clause-lost g t c =
-    lost_later g.B.Backend.alone c.args.next c.in-Deed.deed _ no_places 0 _ c.joined.result (g.B.Backend.state c.advance.new.backend) _ _ _ c.in-Deed.is (c.in_ok-completion-in-Deed.ensures.ends no_places 0) c.in_ok-advanced-in-Deed.ensures.lost
+    lost_later g.B.Backend.alone c.args.next c.in-Deed.deed _ no_places 0 _ c.prepend_line.result (g.B.Backend.state c.advance.new.backend) _ _ _ c.in-Deed.is (c.in_ok-completion-in-Deed.ensures.ends no_places 0) c.in_ok-advanced-in-Deed.ensures.lost

@@ -3,12 +3,12 @@ use Rattle.result_text.specs.declared.replies.Said.TheVariants as said
 use Rattle.ts_sessions.specs.declared.blocks.Open.TheVariants as opens
 use Rattle.ts_sessions.specs.declared.changes.Change.TheVariants as changes
 use Rattle.ts_sessions.specs.declared.deeds.AfterLook.TheVariants as looks_for
-use Rattle.ts_sessions.specs.declared.deeds.Lacks.TheVariants as lacks
+use Rattle.ts_sessions.specs.declared.deeds.MissingPart.TheVariants as lacks
 use Rattle.ts_model.specs.declared.refreshes.Pending.TheVariants.{Unknown}
 use Rattle.ts_sessions.specs.Deeds.{lack_code}
 use Rattle.ts_sessions.specs.Places.{cuts, enters, reading, refuses, turns}
 use Rattle.ts_sessions.specs.Procedures.{ends}
-use Rattle.ts_sessions.specs.Step.{after_snapshot, snap_turn, unfinished}
+use Rattle.ts_sessions.specs.Step.{after_snapshot, snap_turn, unfinished_refusal}
 use Rattle.ts_sessions.proofs.FollowLaws.{look_says, look_snaps}
 use Rattle.ts_sessions.proofs.HoldLaws.{whole_holds}
 use Rattle.ts_sessions.proofs.follows.after_look.Goals as goal
@@ -33,9 +33,9 @@ returns-in_ok-snapped-in-Hold g c = λ h stands allowed.
 pub returns-in-Refuse : goal.returns-in-Refuse
 returns-in-Refuse g c = λ h stands allowed.
     let lacks = c.in-Refuse.lacks in
-    look_says g.T.Shown h c.args.then (looks_for.Refuse c.in-Refuse.cut lacks) c.refuse.result (said.Fault (unfinished (lack_code lacks h) h c.pending.result)) changes.Nothing _ c.requires.counts c.in-Refuse.is refl (c.refuse.ensures h (c.position.ensures h stands))
-    (λ p. ap (λ q. ends (refuses p (unfinished (lack_code lacks h) h q))) (c.pending.ensures h stands)) (λ bytes. tt)
+    look_says g.T.Shown h c.args.then (looks_for.Refuse c.in-Refuse.cut lacks) c.refuse.result (said.Fault (unfinished_refusal (lack_code lacks h) h c.pending.result)) changes.Nothing _ c.requires.counts c.in-Refuse.is refl (c.refuse.ensures h (c.position.ensures h stands))
+    (λ p. ap (λ q. ends (refuses p (unfinished_refusal (lack_code lacks h) h q))) (c.pending.ensures h stands)) (λ bytes. tt)
 
 pub returns-in-Unknown : goal.returns-in-Unknown
 returns-in-Unknown g c = λ h stands allowed.
-    look_says g.T.Shown h c.args.then looks_for.Unknown c.refuse-in-Unknown.result (said.Fault (unfinished (lack_code lacks.Snapshot h) h Unknown)) changes.Nothing _ c.requires.counts c.in-Unknown.is refl (c.refuse-in-Unknown.ensures h (c.position-in-Unknown.ensures h stands)) (λ p. refl) (λ bytes. tt)
+    look_says g.T.Shown h c.args.then looks_for.Unknown c.refuse-in-Unknown.result (said.Fault (unfinished_refusal (lack_code lacks.Snapshot h) h Unknown)) changes.Nothing _ c.requires.counts c.in-Unknown.is refl (c.refuse-in-Unknown.ensures h (c.position-in-Unknown.ensures h stands)) (λ p. refl) (λ bytes. tt)

@@ -3,20 +3,20 @@ use Rattle.ts_bucket.specs.Bucket.{first_of}
 use Rattle.ts_sessions.specs.declared.calls.CallOutcome.TheVariants as outcomes
 use Rattle.ts_sessions.specs.declared.deeds.AfterCut.TheVariants as after_cuts
 use Rattle.ts_sessions.specs.Calls.{OutcomeFits}
-use Rattle.ts_sessions.specs.Deeds.{MadeFits, finished, left_by, says, spent_by, view_leaves}
+use Rattle.ts_sessions.specs.Deeds.{MadeFits, turn_of_finish, left_by, says, spent_by, view_leaves}
 use Rattle.ts_sessions.specs.Procedures.{ends}
 use Rattle.ts_sessions.specs.Sound.{number_at}
-use Rattle.ts_sessions.specs.Step.{after_cut, committed, cut_turn, reported}
+use Rattle.ts_sessions.specs.Step.{after_cut, turn_of_commit, cut_turn, turn_of_line}
 use Rattle.ts_sessions.proofs.FollowLaws.{found_follows, quiet_follows, quiet_looks}
 use Rattle.ts_sessions.proofs.follows.follow.Goals as goal
 
 pub returns-in-Number : goal.returns-in-Number
 returns-in-Number g c = λ h fits.
-    quiet_follows g.T.Shown h c.args.outcome (outcomes.Number c.in-Number.line c.in-Number.came) c.after_number.result c.quietly.result (λ s. Unit {0}) (λ read. 0) (λ p read h. ends (reported p (says c.in-Number.line) c.in-Number.came)) _ (c.in-Number.is) c.quietly.ensures c.after_number.ensures (λ s e. tt) (λ p read. refl) (λ read. refl)
+    quiet_follows g.T.Shown h c.args.outcome (outcomes.Number c.in-Number.line c.in-Number.came) c.after_number.result c.quietly.result (λ s. Unit {0}) (λ read. 0) (λ p read h. ends (turn_of_line p (says c.in-Number.line) c.in-Number.came)) _ (c.in-Number.is) c.quietly.ensures c.after_number.ensures (λ s e. tt) (λ p read. refl) (λ read. refl)
 
 pub returns-in-Commit : goal.returns-in-Commit
 returns-in-Commit g c = λ h fits.
-    quiet_follows g.T.Shown h c.args.outcome (outcomes.Commit c.in-Commit.leaves c.in-Commit.came) c.after_commit.result c.quietly-in-Commit.result (λ s. Unit {0}) (λ read. 0) (λ p read h. ends (committed p (left_by c.in-Commit.leaves p) c.in-Commit.came)) _ (c.in-Commit.is) c.quietly-in-Commit.ensures c.after_commit.ensures (λ s e. tt) (λ p read. refl) (λ read. refl)
+    quiet_follows g.T.Shown h c.args.outcome (outcomes.Commit c.in-Commit.leaves c.in-Commit.came) c.after_commit.result c.quietly-in-Commit.result (λ s. Unit {0}) (λ read. 0) (λ p read h. ends (turn_of_commit p (left_by c.in-Commit.leaves p) c.in-Commit.came)) _ (c.in-Commit.is) c.quietly-in-Commit.ensures c.after_commit.ensures (λ s e. tt) (λ p read. refl) (λ read. refl)
 
 pub returns-in-View : goal.returns-in-View
 returns-in-View g c = λ h fits.
@@ -26,7 +26,7 @@ returns-in-View g c = λ h fits.
 pub returns-in-Finish : goal.returns-in-Finish
 returns-in-Finish g c = λ h fits.
     let f = c.in-Finish.finishing in
-    quiet_follows g.T.Shown h c.args.outcome (outcomes.Finish f c.in-Finish.came) c.after_finish.result c.quietly-in-Finish.result (λ s. Unit {0}) (λ read. spent_by read f) (λ p read h. ends (finished p read f c.in-Finish.came)) _ (c.in-Finish.is) c.quietly-in-Finish.ensures c.after_finish.ensures (λ s e. tt) (λ p read. refl) (λ read. refl)
+    quiet_follows g.T.Shown h c.args.outcome (outcomes.Finish f c.in-Finish.came) c.after_finish.result c.quietly-in-Finish.result (λ s. Unit {0}) (λ read. spent_by read f) (λ p read h. ends (turn_of_finish p read f c.in-Finish.came)) _ (c.in-Finish.is) c.quietly-in-Finish.ensures c.after_finish.ensures (λ s e. tt) (λ p read. refl) (λ read. refl)
 
 pub returns-in-Found : goal.returns-in-Found
 returns-in-Found g c = λ h fits.

@@ -5,7 +5,7 @@ use Rattle.ts_disk.specs.Disk.{Keeps}
 use Rattle.ts_io.specs.Faults.{Counted}
 use Rattle.ts_store.specs.Images.{HasHeader, IsDurable}
 use Rattle.ts_store.specs.Stands.{Stands}
-use Rattle.ts_store.specs.Stores.{seen}
+use Rattle.ts_store.specs.Stores.{history_seen}
 use Rattle.ts_top.specs.Checkpoints.{CheckpointTo}
 use Rattle.ts_top.specs.Endings.{is_disk_fault}
 use Rattle.ts_top.specs.Outcomes.{IfWentOn, Outside, LeftAfter}
@@ -35,7 +35,7 @@ pub save-requires-clause-images : goal.save-requires-clause-images
 save-requires-clause-images g c =
     let D = g.D.Disk in
     let store = c.in-Ok.store in
-    subst (λ b. (x : List ℕ) → LeftAfter D.bytes D.may_leave D.moment D.left_since b store.journal.disk x → Stands x (seen store)) (sym c.in-Ok.ensures.begun) c.in-Ok.ensures.images
+    subst (λ b. (x : List ℕ) → LeftAfter D.bytes D.may_leave D.moment D.left_since b store.journal.disk x → Stands x (history_seen store)) (sym c.in-Ok.ensures.begun) c.in-Ok.ensures.images
 
 pub returns-in-Ok-clause-outcome : goal.returns-in-Ok-clause-outcome
 returns-in-Ok-clause-outcome g c input rest =

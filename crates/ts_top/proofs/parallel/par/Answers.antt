@@ -6,7 +6,7 @@ use Rattle.ts_io.specs.Faults.{Counted}
 use Rattle.ts_schema.specs.Faults.{Rose}
 use Rattle.ts_store.specs.Images.{HasHeader}
 use Rattle.ts_store.specs.Stands.{Stands}
-use Rattle.ts_store.specs.Stores.{seen}
+use Rattle.ts_store.specs.Stores.{history_seen}
 use Rattle.ts_top.specs.Outcomes.{IfWentOn, Outside, LeftAfter}
 use Rattle.ts_top.specs.Parallel.{CountedAfterWorkers, ParTo}
 use Rattle.ts_top.proofs.OutcomeLaws.{if_known}
@@ -22,7 +22,7 @@ returns-in-Ok-clause-outcome g c =
     let store = c.in-Ok.store in
     let end = c.run_all.result in
     let o : Outside = record { input = S.left c.args.source.now; rest = S.left c.run_all.new.source; written_before = K.written c.args.sink.now; written = K.written c.run_all.new.sink; file_before = D.bytes c.args.disk; file = D.bytes end.disk; reads = end.reads } in
-    let stood : IfSome (D.bytes c.args.disk) (λ file. Stands file (seen store)) = if_known (D.bytes c.args.disk) (λ file. Stands file (seen store)) c.in-Ok.ensures.stands in
+    let stood : IfSome (D.bytes c.args.disk) (λ file. Stands file (history_seen store)) = if_known (D.bytes c.args.disk) (λ file. Stands file (history_seen store)) c.in-Ok.ensures.stands in
     let failed : Type 0 = Rose (K.faults c.args.sink.now) (K.faults c.run_all.new.sink) in
     par_or_not c.args.replies (IsSome (D.bytes c.args.disk)) (LeftAfter D.bytes D.may_leave D.moment D.left_since c.args.disk end.disk) failed o end.status _ _ _
     (subst (λ b. ParTo c.args.replies end.status (IsSome (D.bytes b)) (LeftAfter D.bytes D.may_leave D.moment D.left_since b end.disk) failed ⊥ ⊥ ⊥ o) c.in-Ok.ensures.begun (c.run_all.ensures.outcome (D.bytes c.args.disk) stood))

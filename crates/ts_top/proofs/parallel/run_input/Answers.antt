@@ -6,7 +6,7 @@ use Rattle.ts_schema.specs.Faults.{Rose}
 use Rattle.ts_model.specs.States.{State}
 use Rattle.par_run.specs.Outputs.{output_of}
 use Rattle.ts_store.specs.Images.{IsBetween, IsDurable}
-use Rattle.ts_store.specs.Stores.{opening, seen, state_of}
+use Rattle.ts_store.specs.Stores.{opening_history, history_seen, state_of}
 use Rattle.ts_top.specs.contracts.parallel.run_input.{D-row}
 use Rattle.ts_store.proofs.Crossing.{shot_send, store_send}
 use Rattle.ts_top.specs.Parallel.{CountedAfterWorkers, Prints}
@@ -30,17 +30,17 @@ returns-clause-ran g c =
     let new = end.backend in
     let state : State = state_of D.faults D.moment new in
     let begun : new.begun ≡ old.begun = ap (λ k. k.disk) c.run_sessions-backend.ensures.kin in
-    let from : opening new ≡ seen old = ap (λ o. o.opening) c.run_sessions-backend.ensures.goes_on.origin ∙ c.requires.whole in
+    let from : opening_history new ≡ history_seen old = ap (λ o. o.opening) c.run_sessions-backend.ensures.goes_on.origin ∙ c.requires.whole in
     let told : Type 0 = IsSome (D.bytes old.begun) in
     let left : List ℕ → Type 0 = LeftAfter D.bytes D.may_leave D.moment D.left_since old.begun c.close.result in
     let still_told : told → IsSome (D.bytes new.begun) = λ some. subst (λ disk. IsSome (D.bytes disk)) (sym begun) some in
-    let closed : Closed told left (seen old) state (D.bytes c.close.result) = record {
+    let closed : Closed told left (history_seen old) state (D.bytes c.close.result) = record {
       shown = λ some. c.close.ensures.shown (still_told some);
-      images = λ x image. subst (λ h. IsBetween h (seen new) new.failed x) from (c.close.ensures.images (subst (λ disk. IsDurable D.bytes D.may_leave disk) (sym begun) image.0) x (subst (λ disk. D.left_since c.close.result (D.moment disk) x) (sym begun) image.1));
+      images = λ x image. subst (λ h. IsBetween h (history_seen new) new.failed x) from (c.close.ensures.images (subst (λ disk. IsDurable D.bytes D.may_leave disk) (sym begun) image.0) x (subst (λ disk. D.left_since c.close.result (D.moment disk) x) (sym begun) image.1));
     } in
     let failed : Type 0 = Rose (g.K.Sink.faults c.args.sink.now) (g.K.Sink.faults c.print_run-status.new.sink) in
     let prints = subst (λ start. Prints c.args.replies end.stop start (output_of end) c.print_run-status.result failed (g.K.Sink.written c.args.sink.now) (g.K.Sink.written c.print_run-status.new.sink)) c.run_sessions-backend.ensures.start c.print_run-status.ensures.prints in
-    input_to told left failed (seen old) c.args.input.now end.reads (g.K.Sink.written c.args.sink.now) (g.K.Sink.written c.print_run-status.new.sink) (D.bytes c.close.result) state (output_of end) closed
+    input_to told left failed (history_seen old) c.args.input.now end.reads (g.K.Sink.written c.args.sink.now) (g.K.Sink.written c.print_run-status.new.sink) (D.bytes c.close.result) state (output_of end) closed
     c.args.replies end.stop c.print_run-status.result prints c.run_sessions-backend.ensures.ran c.run_sessions-backend.ensures.stop c.run_sessions-backend.ensures.goes_on.begins
 
 pub returns-clause-disk : goal.returns-clause-disk

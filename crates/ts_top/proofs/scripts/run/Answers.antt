@@ -5,7 +5,7 @@ use Rattle.ts_disk.specs.Disk.{Keeps}
 use Rattle.ts_io.specs.Faults.{Counted}
 use Rattle.ts_store.specs.Images.{HasHeader}
 use Rattle.ts_store.specs.Stands.{Stands}
-use Rattle.ts_store.specs.Stores.{seen}
+use Rattle.ts_store.specs.Stores.{history_seen}
 use Rattle.ts_top.specs.Endings.{is_disk_fault}
 use Rattle.ts_top.specs.Outcomes.{IfWentOn, Outside, RanTo, LeftAfter}
 use Rattle.ts_top.proofs.OutcomeLaws.{if_known, ran_or_not}
@@ -29,7 +29,7 @@ returns-in-Ok-clause-outcome g c =
     let store = c.in-Ok.store in
     let end = c.run_lines.result in
     let o : Outside = record { input = S.left c.args.source.now; rest = S.left c.run_lines.new.source; written_before = K.written c.args.sink.now; written = K.written c.run_lines.new.sink; file_before = D.bytes c.args.disk; file = D.bytes end.disk; reads = end.reads } in
-    let stood : IfSome (D.bytes c.args.disk) (λ file. Stands file (seen store)) = if_known (D.bytes c.args.disk) (λ file. Stands file (seen store)) c.in-Ok.ensures.stands in
+    let stood : IfSome (D.bytes c.args.disk) (λ file. Stands file (history_seen store)) = if_known (D.bytes c.args.disk) (λ file. Stands file (history_seen store)) c.in-Ok.ensures.stands in
     ran_or_not end.status (IsSome (D.bytes c.args.disk)) (LeftAfter D.bytes D.may_leave D.moment D.left_since c.args.disk end.disk) _ _ _ o
     (subst (λ b. RanTo end.status (IsSome (D.bytes b)) (LeftAfter D.bytes D.may_leave D.moment D.left_since b end.disk) ⊥ ⊥ ⊥ o) c.in-Ok.ensures.begun
     (c.run_lines.ensures.outcome (D.bytes c.args.disk) stood))

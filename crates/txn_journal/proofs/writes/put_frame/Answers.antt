@@ -1,5 +1,5 @@
 use Rattle.std.proofs.Common.{◌≡◌, ℕ, ◌+◌, List, [], ◌∷◌, length, inl, refl, sym, ◌∙◌, ap, subst}
-use Rattle.ts_disk.specs.CrashImage.{Torn, written}
+use Rattle.ts_disk.specs.CrashImage.{Torn, file_after_write}
 use Rattle.ts_disk.proofs.Told.{some_also}
 use Rattle.txn_journal.specs.Contents.{with_payload}
 use Rattle.txn_journal.specs.Frames.{HoldsTo, WithOrWithout}
@@ -29,14 +29,14 @@ returns-clause-any_moment g c = λ version content rests.
     let holds = lies.holds in
     let next = written_behind holds.mark holds.all c.args.end lies.place file payload holds.gate holds.ignored holds.split in
     let mid = c.in_ok-write_synced.ensures.done file rests.tells.told in
-    let is_staged : written file (c.args.end + 1) c.bytes.result.now ≡ staged holds.mark holds.all c.args.end lies.place holds.gate payload next.0 =
-    ap (λ (piece : List ℕ). written file (c.args.end + 1) piece) c.bytes.ensures.bytes ∙ next.1 in
+    let is_staged : file_after_write file (c.args.end + 1) c.bytes.result.now ≡ staged holds.mark holds.all c.args.end lies.place holds.gate payload next.0 =
+    ap (λ (piece : List ℕ). file_after_write file (c.args.end + 1) piece) c.bytes.ensures.bytes ∙ next.1 in
     follows g.D.Disk.moment g.D.Disk.left_since c.args.disk.now c.write_synced.new.disk c.write_synced-2.new.disk
     (Torn (c.args.end + 1) (length c.bytes.result.now) file)
-    (Torn c.args.end 1 (written file (c.args.end + 1) c.bytes.result.now))
+    (Torn c.args.end 1 (file_after_write file (c.args.end + 1) c.bytes.result.now))
     (WithOrWithout version content payload)
     (c.write_synced.ensures.crash file rests.tells.told rests.durable)
-    (c.write_synced-2.ensures.crash (written file (c.args.end + 1) c.bytes.result.now) mid.told mid.durable)
+    (c.write_synced-2.ensures.crash (file_after_write file (c.args.end + 1) c.bytes.result.now) mid.told mid.durable)
     (λ image torn. inl (torn_behind version content c.args.end file image (length c.bytes.result.now) lies torn))
     (λ image torn. torn_gate holds.mark holds.all c.args.end lies.place version content holds.gate payload next.0 image lies.of_version holds.counts c.bytes.ensures.fits holds.fit
     (subst (λ (whole : List ℕ). Torn c.args.end 1 whole image) is_staged torn))
@@ -48,12 +48,12 @@ returns-clause-shown g c = λ version content tells.
     let holds = lies.holds in
     let next = written_behind holds.mark holds.all c.args.end lies.place tells.file payload holds.gate holds.ignored holds.split in
     let mid = c.in_ok-write_synced.ensures.done tells.file tells.told in
-    let is_staged : written tells.file (c.args.end + 1) c.bytes.result.now ≡ staged holds.mark holds.all c.args.end lies.place holds.gate payload next.0 =
-    ap (λ (piece : List ℕ). written tells.file (c.args.end + 1) piece) c.bytes.ensures.bytes ∙ next.1 in
-    some_also (g.D.Disk.bytes c.write_synced-2.new.disk) (Torn c.args.end 1 (written tells.file (c.args.end + 1) c.bytes.result.now)) (WithOrWithout version content payload)
+    let is_staged : file_after_write tells.file (c.args.end + 1) c.bytes.result.now ≡ staged holds.mark holds.all c.args.end lies.place holds.gate payload next.0 =
+    ap (λ (piece : List ℕ). file_after_write tells.file (c.args.end + 1) piece) c.bytes.ensures.bytes ∙ next.1 in
+    some_also (g.D.Disk.bytes c.write_synced-2.new.disk) (Torn c.args.end 1 (file_after_write tells.file (c.args.end + 1) c.bytes.result.now)) (WithOrWithout version content payload)
     (λ now torn. torn_gate holds.mark holds.all c.args.end lies.place version content holds.gate payload next.0 now lies.of_version holds.counts c.bytes.ensures.fits holds.fit
     (subst (λ (whole : List ℕ). Torn c.args.end 1 whole now) is_staged torn))
-    (c.write_synced-2.ensures.shown (written tells.file (c.args.end + 1) c.bytes.result.now) mid.told)
+    (c.write_synced-2.ensures.shown (file_after_write tells.file (c.args.end + 1) c.bytes.result.now) mid.told)
 
 pub returns-clause-done : goal.returns-clause-done
 returns-clause-done g c = on_ok _ _ c.write_synced-2.result c.write_synced-2.ensures.done (λ done version content tells.
@@ -63,14 +63,14 @@ returns-clause-done g c = on_ok _ _ c.write_synced-2.result c.write_synced-2.ens
     let next = written_behind holds.mark holds.all c.args.end lies.place tells.file payload holds.gate holds.ignored holds.split in
     let mid = c.in_ok-write_synced.ensures.done tells.file tells.told in
     let later = c.args.end + 5 + length payload in
-    let is_staged : written tells.file (c.args.end + 1) c.bytes.result.now ≡ staged holds.mark holds.all c.args.end lies.place holds.gate payload next.0 =
-    ap (λ (piece : List ℕ). written tells.file (c.args.end + 1) piece) c.bytes.ensures.bytes ∙ next.1 in
-    let last = done (written tells.file (c.args.end + 1) c.bytes.result.now) mid.told in
+    let is_staged : file_after_write tells.file (c.args.end + 1) c.bytes.result.now ≡ staged holds.mark holds.all c.args.end lies.place holds.gate payload next.0 =
+    ap (λ (piece : List ℕ). file_after_write tells.file (c.args.end + 1) piece) c.bytes.ensures.bytes ∙ next.1 in
+    let last = done (file_after_write tells.file (c.args.end + 1) c.bytes.result.now) mid.told in
     record {
       tells = record {
-        file = written (written tells.file (c.args.end + 1) c.bytes.result.now) c.args.end (1 ∷ []);
+        file = file_after_write (file_after_write tells.file (c.args.end + 1) c.bytes.result.now) c.args.end (1 ∷ []);
         told = last.told;
-        lies = subst (λ (whole : List ℕ). HoldsTo (written whole c.args.end (1 ∷ [])) version later (with_payload version content payload)) (sym is_staged)
+        lies = subst (λ (whole : List ℕ). HoldsTo (file_after_write whole c.args.end (1 ∷ [])) version later (with_payload version content payload)) (sym is_staged)
             (written_gate holds.mark holds.all c.args.end lies.place version content holds.gate payload next.0 lies.of_version holds.counts c.bytes.ensures.fits holds.fit later refl);
       };
       durable = last.durable;

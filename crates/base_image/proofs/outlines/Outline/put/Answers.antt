@@ -4,7 +4,7 @@ use Rattle.event_codec.specs.Formed.{Many}
 use Rattle.event_codec.specs.Spelling.{eight, many}
 use Rattle.base_image.specs.Formed.{IsFramed}
 use Rattle.base_image.specs.Outlines.{commits}
-use Rattle.base_image.specs.Spelling.{finished, framed, saved, waiting}
+use Rattle.base_image.specs.Spelling.{bytes_of_finished, bytes_of_frame, bytes_of_saved_view, bytes_of_waiting}
 use Rattle.base_image.specs.declared.tallies.Tally.{Tally}
 use Rattle.base_image.proofs.OutlineLaws.{joined, rest_writable}
 use Rattle.base_image.proofs.WritableLaws.{writable}
@@ -25,12 +25,12 @@ returns g c =
     let held = g.I.Imaged.held c.args.of.now in
     let rest = c.args.self.now.rest in
     let out = c.args.out.now.items in
-    let behind = many saved rest.views ++ (many waiting rest.waiting ++ many finished rest.done) in
-    let framed_by = λ (ts : List Tally). many framed (commits held 0 (length ts)) in
+    let behind = many bytes_of_saved_view rest.views ++ (many bytes_of_waiting rest.waiting ++ many bytes_of_finished rest.done) in
+    let framed_by = λ (ts : List Tally). many bytes_of_frame (commits held 0 (length ts)) in
     record {
       put = on_ok_weaker c.put_behind.result
           (λ e.
-          joined out c.put_front.new.out.items c.put_commits.new.out.items c.put_behind.new.out.items (eight rest.pos) (many framed rest.roster) (framed_by c.items.result.now) behind c.in_ok-put_front.ensures.put c.in_ok-put_commits.ensures.put e
-          ∙ ap (λ ts. out ++ (8 ∷ (eight rest.pos ++ (many framed rest.roster ++ (framed_by ts ++ behind))))) c.items.ensures.items)
+          joined out c.put_front.new.out.items c.put_commits.new.out.items c.put_behind.new.out.items (eight rest.pos) (many bytes_of_frame rest.roster) (framed_by c.items.result.now) behind c.in_ok-put_front.ensures.put c.in_ok-put_commits.ensures.put e
+          ∙ ap (λ ts. out ++ (8 ∷ (eight rest.pos ++ (many bytes_of_frame rest.roster ++ (framed_by ts ++ behind))))) c.items.ensures.items)
           c.put_behind.ensures.put;
     }

@@ -7,7 +7,7 @@ use Rattle.ts_schema.specs.declared.conditions.Test.{Test}
 use Rattle.seg_rows.specs.Hulls.{hull_of}
 use Rattle.seg_rows.specs.Versions.{taken_at}
 use Rattle.chunk_catalog.specs.Chunks.{after_drop, dropped_at}
-use Rattle.chunk_catalog.specs.Places.{versions_of, after_kill_in, reached}
+use Rattle.chunk_catalog.specs.Places.{versions_of, after_kill_in, versions_in}
 use Rattle.chunk_catalog.specs.Reach.{in_reach}
 use Rattle.chunk_catalog.proofs.CatalogLaws.{killed_placed, dropped_reached, dropped_killed}
 use Rattle.chunk_catalog.proofs.catalog.Chunks.drop_below.Goals as goal
@@ -42,7 +42,7 @@ returns-clause-removed c =
     let fits_n : FitsSigned w64 c.args.n = c.ranges.n in
     let ended : (s : ℤ) → negsuc (2 ^ 63 - 1) ≤ℤ s → in_reach c.drop_reach-reach.result s ≡ int_le (s +ℤ c.self.inside.interval) c.args.n = simp to_z-of_z at c.drop_reach-reach.ensures.ended in
     c.in_ok-killed.ensures.removed
-    ∙ ap length (ap (λ (ts : List Test). taken_at c.args.pos ts (reached c.drop_reach-reach.result c.self.inside.tree.0)) c.new-tests.ensures.items
+    ∙ ap length (ap (λ (ts : List Test). taken_at c.args.pos ts (versions_in c.drop_reach-reach.result c.self.inside.tree.0)) c.new-tests.ensures.items
     ∙ (dropped_reached c.self.inside.interval c.args.n c.drop_reach-reach.result c.self.invariant.wide ended c.args.pos c.self.inside.tree.0 c.self.invariant.placed
     ∙ (ap (λ i. dropped_at i c.args.n c.args.pos (versions_of c.self.inside.tree.0)) interval_is ∙ ap (dropped_at c.args.self.now.interval c.args.n c.args.pos) versions_is)))
 
@@ -54,6 +54,6 @@ returns-clause-hull c =
     let fits_n : FitsSigned w64 c.args.n = c.ranges.n in
     let ended : (s : ℤ) → negsuc (2 ^ 63 - 1) ≤ℤ s → in_reach c.drop_reach-reach.result s ≡ int_le (s +ℤ c.self.inside.interval) c.args.n = simp to_z-of_z at c.drop_reach-reach.ensures.ended in
     c.in_ok-killed.ensures.hull
-    ∙ ap hull_of (ap (λ (ts : List Test). taken_at c.args.pos ts (reached c.drop_reach-reach.result c.self.inside.tree.0)) c.new-tests.ensures.items
+    ∙ ap hull_of (ap (λ (ts : List Test). taken_at c.args.pos ts (versions_in c.drop_reach-reach.result c.self.inside.tree.0)) c.new-tests.ensures.items
     ∙ (dropped_reached c.self.inside.interval c.args.n c.drop_reach-reach.result c.self.invariant.wide ended c.args.pos c.self.inside.tree.0 c.self.invariant.placed
     ∙ (ap (λ i. dropped_at i c.args.n c.args.pos (versions_of c.self.inside.tree.0)) interval_is ∙ ap (dropped_at c.args.self.now.interval c.args.n c.args.pos) versions_is)))

@@ -8,8 +8,8 @@ use Rattle.chunk_catalog.specs.Trees.{tree_view}
 use Rattle.chunk_catalog.proofs.LevelLaws.{countable_left, countable_right}
 use Rattle.chunk_catalog.proofs.trees.Tree.+with.Goals as goal
 
-pub balanced-requires-clause-countable : goal.balanced-requires-clause-countable
-balanced-requires-clause-countable t c =
+pub balance-requires-clause-countable : goal.balance-requires-clause-countable
+balance-requires-clause-countable t c =
     let l = c.in-Fork.left.value.0 in
     let r = c.in-Fork.right.value.0 in
     let start = to_z w64 (of_z w64 c.args.start) in
@@ -18,8 +18,8 @@ balanced-requires-clause-countable t c =
     λ test. ap (λ v. count_by test v.0) c.in_ok-left-in-Fork-2.ensures.ok ∙ (c.in_ok-left-in-Fork.ensures.versions test ∙ ap (λ v. count_by test v.0 + count_by test (in_chunk start c.args.segment)) c.deref.ensures) in
     countable_left c.args.self.now.0 l r c.in_ok-left-in-Fork-2.left.value.0 c.in-Fork.chunk start c.args.segment shown c.requires.countable more
 
-pub balanced-requires-then-here-start-clause-countable : goal.balanced-requires-then-here-start-clause-countable
-balanced-requires-then-here-start-clause-countable t c =
+pub balance-requires-then-here-start-clause-countable : goal.balance-requires-then-here-start-clause-countable
+balance-requires-then-here-start-clause-countable t c =
     let l = c.in-Fork.left.value.0 in
     let r = c.in-Fork.right.value.0 in
     let start = to_z w64 (of_z w64 c.args.start) in

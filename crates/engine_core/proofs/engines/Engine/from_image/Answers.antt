@@ -1,6 +1,6 @@
 -- The rows were read before memory ran out.
 use Rattle.std.proofs.Common.{◌<◌, ◌^◌, arith}
-use Rattle.engine_state.specs.Refolding.{rows_refolded}
+use Rattle.engine_state.specs.GroupRebuilds.{rows_refolded}
 use Rattle.engine_state.proofs.RefoldLaws.{ticks_of}
 use Rattle.engine_core.proofs.engines.Engine.from_image.Goals as goal
 

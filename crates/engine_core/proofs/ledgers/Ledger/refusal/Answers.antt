@@ -14,7 +14,7 @@ returns c =
     let own : IsLedgerOf (history_of c.args.self.now.past) c.self.inside.roster c.self.inside.refreshes = subst (λ (p : Past). IsLedgerOf (history_of p) c.self.inside.roster c.self.inside.refreshes) same c.self.invariant in
     c.refusal_of.ensures.refused (history_of past) (record {
       roster_is = own.relations_are;
-      pending_is = c.finished-pending.ensures (history_of past) own.stand;
+      pending_is = c.pending_of-pending.ensures (history_of past) own.stand;
       position_is = c.length-end.ensures.position;
       base_is = c.begun_at.ensures ∙ ap (λ (p : Past). position (begun_by p.base)) same ∙ base_of past;
     })

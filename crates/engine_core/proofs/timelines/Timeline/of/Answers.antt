@@ -10,8 +10,8 @@ use Rattle.engine_core.proofs.EventLaws.{base_of}
 use Rattle.engine_core.proofs.TimelineLaws.{AreKept, first_next, kept_none, next_allowed, next_kept, timeline_made, up_to}
 use Rattle.engine_core.proofs.timelines.Timeline.of.Goals as goal
 
-pub opening-requires : goal.opening-requires
-opening-requires g c = record { allowed = allowed_begins (begins_followed (begun_by c.args.base.now) c.args.events.now) c.requires.allowed }
+pub initial_state-requires : goal.initial_state-requires
+initial_state-requires g c = record { allowed = allowed_begins (begins_followed (begun_by c.args.base.now) c.args.events.now) c.requires.allowed }
 
 pub loop-event-init : goal.loop-event-init
 loop-event-init g c =

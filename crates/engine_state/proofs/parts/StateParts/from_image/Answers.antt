@@ -16,8 +16,8 @@ use Rattle.engine_state.specs.Stands.{ViewAt}
 use Rattle.engine_state.proofs.ResumedStates.{state_resumed}
 use Rattle.engine_state.proofs.parts.StateParts.from_image.Goals as goal
 
-pub resumed_tables-requires-clause-few : goal.resumed_tables-requires-clause-few
-resumed_tables-requires-clause-few g c =
+pub tables_from_image-requires-clause-few : goal.tables_from_image-requires-clause-few
+tables_from_image-requires-clause-few g c =
     let is = c.in_ok-roster.ensures ∙ ap (roster_over no_relations) c.items.ensures.items in
     subst (λ (r : Roster). length r.tables ≤ 64) (sym is) (rosters_are_sound (resumed c.args.image.now) c.requires.valid).few_tables
 

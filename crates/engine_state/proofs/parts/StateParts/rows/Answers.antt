@@ -26,6 +26,6 @@ returns-in_ok-scan-in-Some c = record {
       let position : c.self.inside.position ≡ c.args.self.now.position = ap (λ (s : StateValue). s.position) c.self.view_is in
       let found : c.in_ok-scan-in-Some.field-0 ≡ rows_of_span all_times (seen_rows c.args.self.now.position c.in-Some.state.now) =
       c.in_ok-scan-in-Some.ensures.rows ∙ (λ i. rows_of_span (c.all_times.ensures i) (visible_rows (position i) (c.rows.ensures.rows i).versions)) in
-      IfOk-weaker c.sorted.result (λ sorted. sorted ≡ in_order c.in_ok-scan-in-Some.field-0) (λ sorted. sorted ≡ rows c.args.table h)
-      (λ sorted is. rows_taken h c.args.table s table c.in_ok-scan-in-Some.field-0 sorted st at found is) c.sorted.ensures;
+      IfOk-weaker c.sort_rows.result (λ sorted. sorted ≡ in_order c.in_ok-scan-in-Some.field-0) (λ sorted. sorted ≡ rows c.args.table h)
+      (λ sorted is. rows_taken h c.args.table s table c.in_ok-scan-in-Some.field-0 sorted st at found is) c.sort_rows.ensures;
 }

@@ -4,7 +4,7 @@ use Rattle.std.proofs.lemmas.Result.{IfOk-weaker}
 use Rattle.ts_model.specs.Rows.{in_order}
 use Rattle.row_versions.specs.Tables.{rows_of_span, visible_rows}
 use Rattle.base_image.specs.Outlines.{rows_in}
-use Rattle.engine_state.specs.Parted.{state_rows}
+use Rattle.engine_state.specs.ChunkParts.{state_rows}
 use Rattle.engine_state.specs.Scans.{seen_rows}
 use Rattle.engine_state.specs.Stands.{StateValue}
 use Rattle.engine_state.specs.Tables.{table_at}
@@ -20,6 +20,6 @@ returns-in_ok-found-in-Some c =
     let found : c.in_ok-found-in-Some.found ≡ rows_of_span c.args.span (seen_rows c.args.self.now.position c.in-Some.state.now) =
     c.in_ok-found-in-Some.ensures.rows ∙ (λ i. rows_of_span c.args.span (visible_rows (position i) (c.rows.ensures.rows i).versions)) in
     record {
-      rows = IfOk-weaker c.sorted.result (λ sorted. sorted ≡ in_order c.in_ok-found-in-Some.found) (λ found. found ≡ rows_in c.args.span (state_rows c.args.self.now c.args.table))
-          (λ sorted is. span_of s c.args.table table c.args.span c.in_ok-found-in-Some.found sorted at found is) c.sorted.ensures;
+      rows = IfOk-weaker c.sort_rows.result (λ sorted. sorted ≡ in_order c.in_ok-found-in-Some.found) (λ found. found ≡ rows_in c.args.span (state_rows c.args.self.now c.args.table))
+          (λ sorted is. span_of s c.args.table table c.args.span c.in_ok-found-in-Some.found sorted at found is) c.sort_rows.ensures;
     }

@@ -35,8 +35,8 @@ table-table-requires c =
     let at = got s.views c.args.view view (view_place n.history c.args.view s own.0 n.stands own.1) item in
     record { there = subst (λ t. IsSome (table_at s.tables t)) (sym c.table-number.ensures.table) (some_table n.history c.args.view s own.0 view (view_there n.history c.args.view s own.0 view n.stands own.1 at)) }
 
-pub all_fed-requires : goal.all_fed-requires
-all_fed-requires c =
+pub feed_all-requires : goal.feed_all-requires
+feed_all-requires c =
     let n = c.requires.next in
     let table = c.table-table.result.now in
     let same : c.items.result.now ≡ c.args.self.now.views = c.items.ensures.items ∙ ap (λ (s : StateValue). s.views) c.self.view_is in
@@ -63,7 +63,7 @@ returns c = record {
       let s = c.args.self.now in
       let view = c.get.result.now in
       let table = c.table-table.result.now in
-      let new = c.in_ok-emptied.field-0 in
+      let new = c.in_ok-after_cut.field-0 in
       let number = c.table-number.result in
       let own = cut_view h c.args.view c.args.span ok in
       let item : view ≡ get_or s.views c.args.view view = c.get.ensures.item ∙ ap (λ (s : StateValue). get_or s.views c.args.view view) c.self.view_is in
@@ -73,7 +73,7 @@ returns c = record {
       let table_is : table_at s.tables own.0.table ≡ Some table = subst (λ t. table_at s.tables t ≡ Some table) named c.table-table.ensures.table in
       let fits : FitsSigned w64 c.span.inside.hi = search rules in
       let hi : to_z w64 (of_z w64 c.span.inside.hi) ≡ c.args.span.hi = to_z-of_z w64 c.span.inside.hi fits ∙ ap (λ (span : Span). span.hi) c.span.view_is in
-      let cut : TableCut c.args.span.hi table new = subst (λ hi. TableCut hi table new) hi c.in_ok-emptied.ensures.cut in
+      let cut : TableCut c.args.span.hi table new = subst (λ hi. TableCut hi table new) hi c.in_ok-after_cut.ensures.cut in
       let same : c.items.result.now ≡ s.views = c.items.ensures.items ∙ ap (λ (s : StateValue). s.views) c.self.view_is in
       let fed : Each (FedAt own.0.table table) s.views c.in_ok-views.views =
       subst (λ t. Each (FedAt t table) s.views c.in_ok-views.views) named (subst (λ (views : List ViewValue). Each (FedAt number table) views c.in_ok-views.views) same c.in_ok-views.ensures.fed) in

@@ -21,8 +21,8 @@ get-view-requires c =
     let has = job_has n.history job n.job_is.2 in
     subst (λ (s : StateValue). job.view < length s.views) (sym c.self.view_is) (view_place n.history job.view c.args.self.now has.def n.stands has.there)
 
-pub renewed-requires-clause-whole : goal.renewed-requires-clause-whole
-renewed-requires-clause-whole c =
+pub to_renew-requires-clause-whole : goal.to_renew-requires-clause-whole
+to_renew-requires-clause-whole c =
     let n = c.requires.next in
     let s = c.args.self.now in
     let job = c.args.job.now in
@@ -33,8 +33,8 @@ renewed-requires-clause-whole c =
     let width = ap (λ l. l.width) c.log.ensures.log ∙ own.stands.width in
     subst (λ w. IsWholeSpan w job.span) (sym width) (job_whole n.history job has.def n.stands.consistent has.there has.fits)
 
-pub renewed-requires-clause-ranges : goal.renewed-requires-clause-ranges
-renewed-requires-clause-ranges c =
+pub to_renew-requires-clause-ranges : goal.to_renew-requires-clause-ranges
+to_renew-requires-clause-ranges c =
     let n = c.requires.next in
     let s = c.args.self.now in
     let job = c.args.job.now in
@@ -45,8 +45,8 @@ renewed-requires-clause-ranges c =
     let width = ap (λ l. l.width) c.log.ensures.log ∙ own.stands.width in
     subst (λ w. AllByRecursion (IsWholeRange w) c.items.result.now) (sym width) (subst (AllByRecursion (IsWholeRange has.def.fold.width)) (sym c.items.ensures.items) (parts_whole has.def.fold.width job.span job.spans has.fits.whole))
 
-pub finished-requires-clause-whole : goal.finished-requires-clause-whole
-finished-requires-clause-whole c =
+pub finish_view-requires-clause-whole : goal.finish_view-requires-clause-whole
+finish_view-requires-clause-whole c =
     let n = c.requires.next in
     let s = c.args.self.now in
     let job = c.args.job.now in
@@ -56,11 +56,11 @@ finished-requires-clause-whole c =
     let own = view_there n.history job.view s has.def view n.stands has.there (got s.views job.view view (view_place n.history job.view s has.def n.stands has.there) item) in
     subst (λ w. IsWholeSpan w job.span) (sym own.stands.width) (job_whole n.history job has.def n.stands.consistent has.there has.fits)
 
-pub finished-requires-clause-sizes : goal.finished-requires-clause-sizes
-finished-requires-clause-sizes c = ranges_sizes c.log.result.now.width c.in_ok-renewed.renewed c.in_ok-renewed.ensures.ranges.whole
+pub finish_view-requires-clause-sizes : goal.finish_view-requires-clause-sizes
+finish_view-requires-clause-sizes c = ranges_sizes c.log.result.now.width c.in_ok-renewed.renewed c.in_ok-renewed.ensures.ranges.whole
 
-pub finished-requires-clause-rising : goal.finished-requires-clause-rising
-finished-requires-clause-rising c = ranges_rise c.in_ok-renewed.renewed c.in_ok-renewed.ensures.ranges.rising
+pub finish_view-requires-clause-rising : goal.finish_view-requires-clause-rising
+finish_view-requires-clause-rising c = ranges_rise c.in_ok-renewed.renewed c.in_ok-renewed.ensures.ranges.rising
 
 pub set-requires : goal.set-requires
 set-requires c =
@@ -89,5 +89,5 @@ returns c = record {
       c.in_ok-position.ensures.next c.in_ok-same_roster.ensures.same
       (c.in_ok-copy.ensures.same ∙ ap (λ (s : StateValue). s.tables) c.self.view_is)
       (c.views.view_is ∙ c.set.ensures.set ∙ ap (λ (views : List ViewValue). set views job.view c.in_ok-done.done) (c.in_ok-views.ensures.same ∙ ap (λ (s : StateValue). s.views) c.self.view_is))
-      (c.in_ok-finished.ensures.finished ∙ ap (λ (s : StateValue). map (finished_at job.cut c.in_ok-position.position) s.refreshes) c.self.view_is ∙ ap (λ n. map (finished_at job.cut n) s.refreshes) c.in_ok-position.ensures.next);
+      (c.in_ok-with_finish.ensures.finished ∙ ap (λ (s : StateValue). map (finished_at job.cut c.in_ok-position.position) s.refreshes) c.self.view_is ∙ ap (λ n. map (finished_at job.cut n) s.refreshes) c.in_ok-position.ensures.next);
 }

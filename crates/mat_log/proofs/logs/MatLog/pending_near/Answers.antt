@@ -23,10 +23,10 @@ latest-requires c =
 pub returns : goal.returns
 returns c =
     let near = filter (λ (e : Entry). overlaps e.hull c.args.span) c.args.entries.now.items in
-    let Near : LogValue → Type 0 = λ log. IfOk c.combined-4.result (λ pending. (t : ℤ) → at pending t ≡ cond (in_span c.args.span t) (pending_or_fresh log near t) None) in
+    let Near : LogValue → Type 0 = λ log. IfOk c.combine-4.result (λ pending. (t : ℤ) → at pending t ≡ cond (in_span c.args.span t) (pending_or_fresh log near t) None) in
     let w = c.self.inside.width in
     record {
-      values = subst Near c.self.view_is (IfOk-weaker c.combined-4.result _ _ (λ (made : MapValue) e t.
+      values = subst Near c.self.view_is (IfOk-weaker c.combine-4.result _ _ (λ (made : MapValue) e t.
           near_chain (in_span c.args.span t) (at made t) _ (at c.self.inside.pending t) _ _ (at c.self.inside.refreshed t) _ (touch_at w c.deref.result.now t) (touch_at w near t)
           (e t)
           (c.in_ok-within-2.ensures.values t)
@@ -34,5 +34,5 @@ returns c =
           (c.in_ok-within.ensures.values t)
           (c.in_ok-newest.ensures.values t ∙ ap (λ v. cond (in_span c.args.span t) v None) (c.in_ok-latest.ensures t))
           (ap (λ es. touch_at w es t) (c.deref.ensures.value ∙ c.in_ok-near.ensures)))
-          c.combined-4.ensures.values);
+          c.combine-4.ensures.values);
     }

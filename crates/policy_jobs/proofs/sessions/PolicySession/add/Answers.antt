@@ -8,7 +8,7 @@ use Rattle.ts_sessions.proofs.SoundLaws.{is_numbered}
 use Rattle.ts_sessions.proofs.StateLaws.{goes_seen, looked_reports, sees_looked}
 use Rattle.policy_jobs.specs.Adding.{AreKept, adding_refusal}
 use Rattle.policy_jobs.specs.Sessions.{HoldsOf, places_in}
-use Rattle.policy_jobs.specs.Turns.{added}
+use Rattle.policy_jobs.specs.Turns.{turn_of_adding}
 use Rattle.policy_jobs.specs.declared.policies.Policy.{Policy}
 use Rattle.policy_jobs.proofs.AddLaws.{added_stepped, adding_at, always, if_answered, kept_push, offsets_passed}
 use Rattle.policy_jobs.proofs.TurnLaws.{line_stepped, seen_stepped}
@@ -38,8 +38,8 @@ returns-in-Some-clause-stepped g c = λ n short.
     let refused_there = adding_at h c.position-pos.result c.roster.result.now (length p.policies) job every (Some r) (c.position-pos.ensures h t.1) (c.roster.ensures h t.1) asked in
     let policy : Policy = record { job = job; every = every; ran = None } in
     let said_so : AnswersSo name (said.Fault r ∷ []) false c.refuse.result = subst (λ m. AnswersSo m (said.Fault r ∷ []) false c.refuse.result) c.name.ensures c.refuse.ensures in
-    seen_stepped alone old mid (λ l. true) (λ l. ends (added p (position l) policy (adding_refusal (position l) (roster l) (length p.policies) job every))) name c.refuse.result mid p n n (sees_looked alone old _ mid looked)
-    (subst (λ o. Stepped alone mid (ends (added p (position h) policy o)) name c.refuse.result mid p n n) (sym refused_there) (line_stepped alone mid name p (said.Fault r) c.refuse.result n short refl said_so))
+    seen_stepped alone old mid (λ l. true) (λ l. ends (turn_of_adding p (position l) policy (adding_refusal (position l) (roster l) (length p.policies) job every))) name c.refuse.result mid p n n (sees_looked alone old _ mid looked)
+    (subst (λ o. Stepped alone mid (ends (turn_of_adding p (position h) policy o)) name c.refuse.result mid p n n) (sym refused_there) (line_stepped alone mid name p (said.Fault r) c.refuse.result n short refl said_so))
 
 pub returns-in-Some-clause-holds : goal.returns-in-Some-clause-holds
 returns-in-Some-clause-holds g c =
@@ -77,8 +77,8 @@ returns-in-None-clause-stepped g c = λ n short.
     let says : AnswersSo name (said.Policy (suc (length p.policies)) (position h) ∷ []) false c.keep.result =
     subst (λ x. AnswersSo name (said.Policy (suc (length p.policies)) x ∷ []) false c.keep.result) at c.keep.ensures.says
     in
-    seen_stepped alone old mid (λ l. true) (λ l. ends (added p (position l) policy (adding_refusal (position l) (roster l) (length p.policies) job every))) name c.keep.result mid q n n (sees_looked alone old _ mid looked)
-    (subst (λ o. Stepped alone mid (ends (added p (position h) policy o)) name c.keep.result mid q n n) (sym passed_there) (added_stepped alone mid name p q (position h) policy c.keep.result n short says there))
+    seen_stepped alone old mid (λ l. true) (λ l. ends (turn_of_adding p (position l) policy (adding_refusal (position l) (roster l) (length p.policies) job every))) name c.keep.result mid q n n (sees_looked alone old _ mid looked)
+    (subst (λ o. Stepped alone mid (ends (turn_of_adding p (position h) policy o)) name c.keep.result mid q n n) (sym passed_there) (added_stepped alone mid name p q (position h) policy c.keep.result n short says there))
 
 pub returns-in-None-clause-holds : goal.returns-in-None-clause-holds
 returns-in-None-clause-holds g c =

@@ -23,7 +23,7 @@ returns-in_err-fun c =
 
 pub returns-then-is_at_mark : goal.returns-then-is_at_mark
 returns-then-is_at_mark c =
-    keys_done c.loop-keys.keys c.in_ok-name.name c.in_ok-fun.fun (ahead c.loop-keys.self) (ahead c.mark.new.self) (ahead c.name.new.self) (ahead c.known.new.self) (keys_and_function [] (ahead c.args.self.now)) c.in_ok-mark.ensures c.in_ok-name.ensures
+    keys_done c.loop-keys.keys c.in_ok-name.name c.in_ok-fun.fun (ahead c.loop-keys.self) (ahead c.mark.new.self) (ahead c.name.new.self) (ahead c.read_function.new.self) (keys_and_function [] (ahead c.args.self.now)) c.in_ok-mark.ensures c.in_ok-name.ensures
     (sym c.is_at_mark.ensures ∙ c.if-is_at_mark.true) c.in_ok-fun.ensures c.loop-keys.invariant
 
 pub loop-keys-smaller : goal.loop-keys-smaller

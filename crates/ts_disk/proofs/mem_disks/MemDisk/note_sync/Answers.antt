@@ -1,8 +1,8 @@
 use Rattle.std.proofs.Common.{ap, ◌∙◌, sym, subst, List}
 use Rattle.ts_disk.specs.CrashImage.{at_rest}
 use Rattle.ts_disk.specs.MemDisk.{state_after, all_within}
-use Rattle.ts_disk.specs.declared.acts.Act.{Act}
-use Rattle.ts_disk.specs.declared.acts.Act.TheVariants.{Sync}
+use Rattle.ts_disk.specs.declared.disk_acts.Act.{Act}
+use Rattle.ts_disk.specs.declared.disk_acts.Act.TheVariants.{Sync}
 use Rattle.ts_disk.proofs.ActLaws.{state_push, within_push}
 use Rattle.ts_disk.proofs.mem_disks.MemDisk.note_sync.Goals as goal
 

@@ -1,7 +1,7 @@
 use Rattle.std.proofs.Common.{◌≡◌, ◌≤◌, ℕ, Bool, List, true, if◌then◌else◌, length, sym, ◌∙◌, ap, subst}
 use Rattle.ts_disk.specs.CrashImage.{at_rest}
 use Rattle.ts_disk.specs.MemDisk.{content, state_after}
-use Rattle.ts_disk.specs.declared.acts.Piece.{Piece}
+use Rattle.ts_disk.specs.declared.disk_acts.Piece.{Piece}
 use Rattle.ts_disk.proofs.ActLaws.{noted}
 use Rattle.ts_disk.proofs.mem_disks.MemDisk.put.Goals as goal
 

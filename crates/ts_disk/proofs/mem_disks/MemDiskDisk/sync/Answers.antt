@@ -1,5 +1,5 @@
 use Rattle.ts_disk.proofs.ActLaws.{did_sync, did_last, did_leave_less, did_time}
-use Rattle.ts_disk.specs.declared.acts.Act.TheVariants.{Sync}
+use Rattle.ts_disk.specs.declared.disk_acts.Act.TheVariants.{Sync}
 use Rattle.ts_disk.proofs.mem_disks.MemDiskDisk.sync.Goals as goal
 
 pub returns-clause-same : goal.returns-clause-same

@@ -1,5 +1,5 @@
 use Rattle.ts_disk.proofs.ActLaws.{did_write, did_tear, did_time}
-use Rattle.ts_disk.specs.declared.acts.Act.TheVariants.{Write}
+use Rattle.ts_disk.specs.declared.disk_acts.Act.TheVariants.{Write}
 use Rattle.ts_disk.proofs.mem_disks.MemDiskDisk.write_at.Goals as goal
 
 pub returns-clause-written : goal.returns-clause-written

@@ -7,7 +7,7 @@ use Rattle.ts_io.proofs.line_reader.Lines.give_last.Goals as goal
 pub returns-clause-line : goal.returns-clause-line
 returns-clause-line c start left end same =
     let was = c.args.self.now in
-    let size : length c.held-last.result.now ≡ length was.held = ap length c.held-last.ensures in
+    let size : length c.buffered-last.result.now ≡ length was.held = ap length c.buffered-last.ensures in
     let empty : c.advance.new.self.held ≡ [] = c.advance.ensures.held ∙ drop_all _ was.held (omega arith) in
     let whole : c.advance.new.self.line ≡ was.held = c.advance.ensures.line ∙ take_all _ was.held (omega arith) in
     let some : 0 < length was.held = omega (arith, c.if-last-eq0.false) in

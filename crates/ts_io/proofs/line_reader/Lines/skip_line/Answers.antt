@@ -10,11 +10,11 @@ pub returns-in-Bytes-eq0-clause-line : goal.returns-in-Bytes-eq0-clause-line
 returns-in-Bytes-eq0-clause-line g c =
     let was = c.loop-self.self in
     let filled = c.in-Bytes-eq0.ensures.filled in
-    let size : length c.held-skipped.result.now ≡ length was.held = ap length c.held-skipped.ensures in
+    let size : length c.buffered-skipped.result.now ≡ length was.held = ap length c.buffered-skipped.ensures in
     let within : length was.held ≤ was.allowed = search rules in
     let step =
     Skips-step _ (g.S.Source.left c.loop-self.source) (g.S.Source.left c.ask.new.source) was.held c.advance.new.self.held c.ask.new.self.held _ was.allowed c.ask.new.self.allowed
-    (length c.held-skipped.result.now) 0 c.loop-self.invariant.skips c.loop-self.invariant.none within size c.advance.ensures.held (c.ask.ensures.allowed ∙ c.advance.ensures.allowed)
+    (length c.buffered-skipped.result.now) 0 c.loop-self.invariant.skips c.loop-self.invariant.none within size c.advance.ensures.held (c.ask.ensures.allowed ∙ c.advance.ensures.allowed)
     filled.0 filled.1 in
     let dropped : length c.advance.new.self.held ≡ 0 = ap length (c.advance.ensures.held ∙ drop_all _ was.held (omega arith)) in
     let empty : c.ask.new.self.held ≡ [] = nil_from_length c.ask.new.self.held (omega (arith, filled.2)) in
@@ -25,7 +25,7 @@ pub note_end-requires : goal.note_end-requires
 note_end-requires g c =
     let was = c.loop-self.self in
     let filled = c.in-Bytes-eq0.ensures.filled in
-    let size : length c.held-skipped.result.now ≡ length was.held = ap length c.held-skipped.ensures in
+    let size : length c.buffered-skipped.result.now ≡ length was.held = ap length c.buffered-skipped.ensures in
     let dropped : length c.advance.new.self.held ≡ 0 = ap length (c.advance.ensures.held ∙ drop_all _ was.held (omega arith)) in
     omega (arith, filled.2)
 
@@ -33,11 +33,11 @@ pub returns-in-Some-clause-line : goal.returns-in-Some-clause-line
 returns-in-Some-clause-line g c =
     let was = c.loop-self.self in
     let filled = c.in-Bytes.ensures.filled in
-    let size : length c.held-skipped.result.now ≡ length was.held = ap length c.held-skipped.ensures in
+    let size : length c.buffered-skipped.result.now ≡ length was.held = ap length c.buffered-skipped.ensures in
     let within : length was.held ≤ was.allowed = search rules in
     let step =
     Skips-step _ (g.S.Source.left c.loop-self.source) (g.S.Source.left c.ask.new.source) was.held c.advance.new.self.held c.ask.new.self.held _ was.allowed c.ask.new.self.allowed
-    (length c.held-skipped.result.now) 0 c.loop-self.invariant.skips c.loop-self.invariant.none within size c.advance.ensures.held (c.ask.ensures.allowed ∙ c.advance.ensures.allowed)
+    (length c.buffered-skipped.result.now) 0 c.loop-self.invariant.skips c.loop-self.invariant.none within size c.advance.ensures.held (c.ask.ensures.allowed ∙ c.advance.ensures.allowed)
     filled.0 filled.1 in
     let (below, found) = IsFirstEnd-front c.ask.new.self.held c.ask.new.self.allowed c.in-Some.n c.in-Some.ensures.end in
     rw (c.advance-in-Some.ensures.held, c.advance-in-Some.ensures.allowed)
@@ -47,11 +47,11 @@ pub loop-self-preserved : goal.loop-self-preserved
 loop-self-preserved g c =
     let was = c.loop-self.self in
     let filled = c.in-Bytes.ensures.filled in
-    let size : length c.held-skipped.result.now ≡ length was.held = ap length c.held-skipped.ensures in
+    let size : length c.buffered-skipped.result.now ≡ length was.held = ap length c.buffered-skipped.ensures in
     let within : length was.held ≤ was.allowed = search rules in
     record {
       skips = Skips-step _ (g.S.Source.left c.loop-self.source) (g.S.Source.left c.ask.new.source) was.held c.advance.new.self.held c.ask.new.self.held _ was.allowed
-          c.ask.new.self.allowed (length c.held-skipped.result.now) (length c.ask.new.self.held) c.loop-self.invariant.skips c.loop-self.invariant.none within size
+          c.ask.new.self.allowed (length c.buffered-skipped.result.now) (length c.ask.new.self.held) c.loop-self.invariant.skips c.loop-self.invariant.none within size
           c.advance.ensures.held (c.ask.ensures.allowed ∙ c.advance.ensures.allowed) filled.0 filled.1;
       none = c.in-None.ensures.end;
       some = omega (arith, filled.2);

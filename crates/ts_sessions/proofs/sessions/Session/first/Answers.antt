@@ -6,7 +6,7 @@ use Rattle.ts_sessions.specs.Deeds.{Opens, Takes, rest_next}
 use Rattle.ts_sessions.specs.Held.{places_in}
 use Rattle.ts_sessions.specs.Procedures.{looks}
 use Rattle.ts_sessions.specs.Sessions.{finish_meant}
-use Rattle.ts_sessions.specs.Step.{finishes, named, performs, read_at, refresh_meant}
+use Rattle.ts_sessions.specs.Step.{finishes, turn_of_names, performs, read_at, refresh_meant}
 use Rattle.ts_sessions.proofs.BlockWalks.{finishes_outside, passes_as}
 use Rattle.ts_sessions.proofs.FirstLaws.{leads_then, opens_broken, opens_here, performs_looks}
 use Rattle.ts_sessions.proofs.HeldDeeds.{takes_none, takes_nothing}
@@ -52,7 +52,7 @@ returns-in-Finish-clause-opens g c =
     subst (λ x. Opens g.T.Shown c.args.bytes alone old (performs p c.args.bytes x) p next old n n) (sym is)
     (opens_here g.T.Shown c.args.bytes alone old (performs p c.args.bytes stmt) p next n c.requires.counts
     (leads_then alone false old (performs p c.args.bytes stmt) old left old (rest_next p 0 old.history next)
-    (performs_looks alone old p c.args.bytes stmt (λ h. finishes p h (refresh_meant p number)) refl (λ h on. ap (λ b. named p c.args.bytes stmt (read_at b h)) outside))
+    (performs_looks alone old p c.args.bytes stmt (λ h. finishes p h (refresh_meant p number)) refl (λ h on. ap (λ b. turn_of_names p c.args.bytes stmt (read_at b h)) outside))
     (c.finish.ensures.stands old c.requires.holds alone))
     (c.finish.ensures.fits old c.requires.holds))
 
@@ -64,8 +64,8 @@ returns-in-Finish-clause-takes g c =
 
 -- ---- names
 
-pub named-requires-clause-names : goal.named-requires-clause-names
-named-requires-clause-names g c κs within = names_first {T = _} {J = _} (places_in c.args.self.now) c.args.stmt.now (sym c.in_ok-opening.ensures ∙ c.in-Names.is)
+pub resolve_names-requires-clause-names : goal.resolve_names-requires-clause-names
+resolve_names-requires-clause-names g c κs within = names_first {T = _} {J = _} (places_in c.args.self.now) c.args.stmt.now (sym c.in_ok-opening.ensures ∙ c.in-Names.is)
 
 pub returns-in-Names-clause-takes : goal.returns-in-Names-clause-takes
-returns-in-Names-clause-takes g c = takes_none g.T.Shown g.met.T.Shown.fits_on (finish_meant (places_in c.args.self.now) c.args.stmt.now) c.named.result c.args.self.now c.named.ensures.taken
+returns-in-Names-clause-takes g c = takes_none g.T.Shown g.met.T.Shown.fits_on (finish_meant (places_in c.args.self.now) c.args.stmt.now) c.resolve_names.result c.args.self.now c.resolve_names.ensures.taken

@@ -58,11 +58,11 @@ returns-in-Err-clause-ends g c =
 
 pub returns-in-Err-clause-spared : goal.returns-in-Err-clause-spared
 returns-in-Err-clause-spared g c =
-    (c.in_ok-next.ensures.takes.broken c.give_up.new.self (subst (λ o. Forgets o c.first.new.self c.give_up.new.self) c.taken-taken.ensures c.give_up.ensures.forgets)).0
+    (c.in_ok-next.ensures.takes.broken c.give_up.new.self (subst (λ o. Forgets o c.first.new.self c.give_up.new.self) c.cut_taken-taken.ensures c.give_up.ensures.forgets)).0
 
 pub returns-in-Err-clause-holds : goal.returns-in-Err-clause-holds
 returns-in-Err-clause-holds g c =
     let old = g.B.Backend.state c.args.backend.now in
     let p = places_in c.args.self.now in
     let w = carried g.T.Shown c.args.bytes g.B.Backend.alone old p (performs p c.args.bytes c.args.stmt.now) c.in_ok-next.next _ _ _ _ _ _ c.requires.counts c.in_ok-next.ensures.opens (λ had. c.in-Err.ensures.ends p had) in
-    (c.in_ok-next.ensures.takes.broken c.give_up.new.self (subst (λ o. Forgets o c.first.new.self c.give_up.new.self) c.taken-taken.ensures c.give_up.ensures.forgets)).1 old _ c.requires.holds (goes_ended g.B.Backend.alone old (performs p c.args.bytes c.args.stmt.now) p _ _ _ _ w)
+    (c.in_ok-next.ensures.takes.broken c.give_up.new.self (subst (λ o. Forgets o c.first.new.self c.give_up.new.self) c.cut_taken-taken.ensures c.give_up.ensures.forgets)).1 old _ c.requires.holds (goes_ended g.B.Backend.alone old (performs p c.args.bytes c.args.stmt.now) p _ _ _ _ w)

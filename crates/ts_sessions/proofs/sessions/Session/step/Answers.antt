@@ -1,6 +1,6 @@
 use Rattle.std.proofs.Common.{◌≡◌, ◌<◌, ◌^◌, subst, rules}
 use Rattle.ts_sessions.specs.Held.{places_in}
-use Rattle.ts_sessions.specs.Sessions.{AnswersSo, IfAnswered, changed}
+use Rattle.ts_sessions.specs.Sessions.{AnswersSo, IfAnswered, places_after}
 use Rattle.ts_sessions.proofs.StepLaws.{stepped}
 use Rattle.ts_sessions.proofs.sessions.Session.step.Goals as goal
 
@@ -15,4 +15,4 @@ returns-in-Ok-clause-stepped g c =
     let short : c.args.steps.now < 2 ^ 64 = search rules in
     stepped g.B.Backend.alone old p c.args.text.now c.args.skip name completion c.answer.result new q c.args.steps.now c.take_line.new.steps short c.in-Ok.ensures.ends
     (subst (λ x. AnswersSo x completion.said completion.failed c.answer.result) c.in-Ok.ensures.name c.answer.ensures.answers)
-    (subst (λ x. IfAnswered c.answer.result (q ≡ changed completion.change x)) c.in-Ok.ensures.places c.answer.ensures.places)
+    (subst (λ x. IfAnswered c.answer.result (q ≡ places_after completion.change x)) c.in-Ok.ensures.places c.answer.ensures.places)

@@ -4,11 +4,11 @@ use Rattle.ts_model.specs.Calls.{making_hyper}
 use Rattle.engine_core.specs.Acts.{making_event}
 use Rattle.engine_core.proofs.ActLaws.{answered_hyper}
 use Rattle.engine_core.proofs.StoreLaws.{called_as}
-use Rattle.ts_store.specs.Stores.{StoreDoes, seen, state_of}
+use Rattle.ts_store.specs.Stores.{StoreDoes, history_seen, state_of}
 use Rattle.ts_store.proofs.backends.StoreBackend.make_hyper.Goals as goal
 
 pub returns-clause-called : goal.returns-clause-called
 returns-clause-called g c =
-    subst (λ o. StoreDoes g.D.Disk.faults g.D.Disk.moment (making_hyper c.args.table c.args.hyper) c.args.self.now o c.make.new.self) (sym c.numbered.ensures)
+    subst (λ o. StoreDoes g.D.Disk.faults g.D.Disk.moment (making_hyper c.args.table c.args.hyper) c.args.self.now o c.make.new.self) (sym c.number_only.ensures)
     (called_as (λ r. r.pos) (making_event (Hyper c.args.table c.args.hyper)) (making_hyper c.args.table c.args.hyper) (state_of g.D.Disk.faults g.D.Disk.moment c.args.self.now) c.make.result (state_of g.D.Disk.faults g.D.Disk.moment c.make.new.self)
-    (answered_hyper c.args.table c.args.hyper (seen c.args.self.now)) c.make.ensures.does)
+    (answered_hyper c.args.table c.args.hyper (history_seen c.args.self.now)) c.make.ensures.does)

@@ -4,11 +4,11 @@ use Rattle.ts_model.specs.Calls.{making_table}
 use Rattle.engine_core.specs.Acts.{making_event}
 use Rattle.engine_core.proofs.ActLaws.{answered_table}
 use Rattle.engine_core.proofs.StoreLaws.{called_as}
-use Rattle.ts_store.specs.Stores.{StoreDoes, seen, state_of}
+use Rattle.ts_store.specs.Stores.{StoreDoes, history_seen, state_of}
 use Rattle.ts_store.proofs.backends.StoreBackend.make_table.Goals as goal
 
 pub returns-clause-called : goal.returns-clause-called
 returns-clause-called g c =
-    subst (λ o. StoreDoes g.D.Disk.faults g.D.Disk.moment (making_table c.args.def) c.args.self.now o c.make.new.self) (sym c.numbered.ensures)
+    subst (λ o. StoreDoes g.D.Disk.faults g.D.Disk.moment (making_table c.args.def) c.args.self.now o c.make.new.self) (sym c.number_only.ensures)
     (called_as (λ r. r.pos) (making_event (Table c.args.def)) (making_table c.args.def) (state_of g.D.Disk.faults g.D.Disk.moment c.args.self.now) c.make.result (state_of g.D.Disk.faults g.D.Disk.moment c.make.new.self)
-    (answered_table c.args.def (seen c.args.self.now)) c.make.ensures.does)
+    (answered_table c.args.def (history_seen c.args.self.now)) c.make.ensures.does)

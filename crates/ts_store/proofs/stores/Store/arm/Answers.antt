@@ -6,7 +6,7 @@ use Rattle.ts_store.specs.Images.{BeginSince}
 use Rattle.ts_store.specs.Recorders.{store_of}
 use Rattle.ts_store.specs.Safe.{StopsBy}
 use Rattle.ts_store.specs.Stands.{Stands}
-use Rattle.ts_store.specs.Stores.{StoreValue, Rests, Tells, seen}
+use Rattle.ts_store.specs.Stores.{StoreValue, Rests, Tells, history_seen}
 use Rattle.ts_store.proofs.AppendLaws.{armed_done, armed_stays}
 use Rattle.ts_store.proofs.KeptLaws.{kept_armed_now}
 use Rattle.ts_store.proofs.RecordLaws.{stopped_same}
@@ -41,17 +41,17 @@ returns-clause-done g c =
 
 pub returns-clause-any_moment : goal.returns-clause-any_moment
 returns-clause-any_moment g c =
-    subst (λ (s : StoreValue g.row.D.Denot). Rests g.D.Disk.bytes g.D.Disk.may_leave s → LeavesOnly g.D.Disk.moment g.D.Disk.left_since s.journal.disk c.arm-answer.new.self.journal.disk (λ file. Stands file (seen s))) c.self.view_is
+    subst (λ (s : StoreValue g.row.D.Denot). Rests g.D.Disk.bytes g.D.Disk.may_leave s → LeavesOnly g.D.Disk.moment g.D.Disk.left_since s.journal.disk c.arm-answer.new.self.journal.disk (λ file. Stands file (history_seen s))) c.self.view_is
     c.arm-answer.ensures.arms.any_moment
 
 pub returns-clause-shown : goal.returns-clause-shown
 returns-clause-shown g c =
-    subst (λ (s : StoreValue g.row.D.Denot). Tells g.D.Disk.bytes s → IsSomeAnd (g.D.Disk.bytes c.arm-answer.new.self.journal.disk) (λ file. Stands file (seen s))) c.self.view_is
+    subst (λ (s : StoreValue g.row.D.Denot). Tells g.D.Disk.bytes s → IsSomeAnd (g.D.Disk.bytes c.arm-answer.new.self.journal.disk) (λ file. Stands file (history_seen s))) c.self.view_is
     c.arm-answer.ensures.arms.shown
 
 pub returns-clause-earlier : goal.returns-clause-earlier
 returns-clause-earlier g c =
-    subst (λ (s : StoreValue g.row.D.Denot). (t : ℕ) (h : History) → Rests g.D.Disk.bytes g.D.Disk.may_leave s → Begins h (seen s) → t ≤ g.D.Disk.moment s.journal.disk
+    subst (λ (s : StoreValue g.row.D.Denot). (t : ℕ) (h : History) → Rests g.D.Disk.bytes g.D.Disk.may_leave s → Begins h (history_seen s) → t ≤ g.D.Disk.moment s.journal.disk
     → BeginSince g.D.Disk.left_since s.journal.disk t h → BeginSince g.D.Disk.left_since c.arm-answer.new.self.journal.disk t h) c.self.view_is
     c.arm-answer.ensures.arms.earlier
 

@@ -5,17 +5,17 @@ use Rattle.refresh_build.specs.Fitting.{JobIsFor}
 use Rattle.engine_core.specs.Acts.{making_event}
 use Rattle.ts_store.specs.Recorders.{store_of}
 use Rattle.ts_store.specs.Safe.{IsSafe}
-use Rattle.ts_store.specs.Stores.{StoreValue, StoreDoes, known_of, seen}
+use Rattle.ts_store.specs.Stores.{StoreValue, StoreDoes, known_of, history_seen}
 use Rattle.ts_store.proofs.stores.Store.make.Goals as goal
 
 pub make-requires-clause-history : goal.make-requires-clause-history
 make-requires-clause-history g c = c.self.invariant.sound
 
 pub make-requires-clause-sound : goal.make-requires-clause-sound
-make-requires-clause-sound g c = subst (λ (s : StoreValue g.row.D.Denot). IsTrue (sound (seen s) c.args.event)) (sym c.self.view_is) c.requires.sound
+make-requires-clause-sound g c = subst (λ (s : StoreValue g.row.D.Denot). IsTrue (sound (history_seen s) c.args.event)) (sym c.self.view_is) c.requires.sound
 
 pub make-requires-clause-job : goal.make-requires-clause-job
-make-requires-clause-job g c = subst (λ (s : StoreValue g.row.D.Denot). JobIsFor (seen s) c.args.event c.args.job) (sym c.self.view_is) c.requires.job
+make-requires-clause-job g c = subst (λ (s : StoreValue g.row.D.Denot). JobIsFor (history_seen s) c.args.event c.args.job) (sym c.self.view_is) c.requires.job
 
 pub returns-clause-does : goal.returns-clause-does
 returns-clause-does g c =

@@ -3,7 +3,7 @@ use Rattle.ts_disk.specs.CrashImage.{LeavesOnly}
 use Rattle.txn_journal.specs.Calls.{Logged, IsAtRest, IsTold}
 use Rattle.txn_journal.specs.Contents.{Content, with_payload}
 use Rattle.txn_journal.specs.Frames.{WithOrWithout, body}
-use Rattle.txn_journal.specs.declared.journals.Standing.TheVariants.{Bare}
+use Rattle.txn_journal.specs.declared.journals.JournalState.TheVariants.{Bare}
 use Rattle.txn_journal.proofs.FrameLaws.{length-body}
 use Rattle.txn_journal.proofs.JournalLaws.{begin_on, either_more, rests_after, run_from, shown_from}
 use Rattle.txn_journal.proofs.journals.Journal.append.Goals as goal

@@ -2,7 +2,7 @@ use Rattle.std.proofs.Common.{◌≡◌, IsSomeAnd, subst, sym, ◌∙◌, ap}
 use Rattle.txn_journal.specs.Calls.{Logged, IsAtRest, IsTold}
 use Rattle.txn_journal.specs.Contents.{Content}
 use Rattle.txn_journal.specs.Frames.{StandsFor}
-use Rattle.txn_journal.specs.declared.journals.Standing.TheVariants.{Bare, Ready}
+use Rattle.txn_journal.specs.declared.journals.JournalState.TheVariants.{Bare, Ready}
 use Rattle.txn_journal.proofs.JournalLaws.{armed, armed_shows}
 use Rattle.txn_journal.proofs.journals.Journal.arm.Goals as goal
 

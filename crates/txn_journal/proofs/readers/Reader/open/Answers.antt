@@ -1,7 +1,7 @@
 use Rattle.std.proofs.Common.{inl, refl, ◌∙◌, subst}
 use Rattle.txn_journal.specs.Reading.{BeginsAt, StartsAs}
 use Rattle.txn_journal.specs.declared.heads.Start.{Start}
-use Rattle.txn_journal.specs.declared.journals.Standing.TheVariants.{Bare, Ready}
+use Rattle.txn_journal.specs.declared.journals.JournalState.TheVariants.{Bare, Ready}
 use Rattle.txn_journal.specs.declared.versions.Version.TheVariants.{One}
 use Rattle.txn_journal.proofs.HeadLaws.{told_length}
 use Rattle.txn_journal.proofs.ReadingLaws.{opens_at}

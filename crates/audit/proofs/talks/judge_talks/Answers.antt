@@ -1,8 +1,0 @@
-use Rattle.std.proofs.Common.{◌∙◌, IfOk, subst}
-use Rattle.audit.specs.Judged.{JudgesTalks}
-use Rattle.audit.proofs.talks.judge_talks.Goals as goal
-
-pub returns : goal.returns
-returns g c =
-    let all = g.P.Past.all c.args.past.now in
-    record { judged = subst (λ ts. IfOk c.judge_in_order.result (JudgesTalks all c.args.start ts)) (c.in_ok-hear_side_by_side.ensures.talks ∙ c.in_ok-hearings.ensures.talks) c.judge_in_order.ensures.judged }

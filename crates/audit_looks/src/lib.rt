@@ -1,0 +1,15 @@
+//! The positions of looks, and the numbers of events, read from the text of the reply that prints them.
+//!
+//! - `numbers`: the numbers that a text begins with.
+//! - `lines`: the looks of one line, by its head.
+//! - `replies`: the looks of a reply.
+//! - `laws`: what is read of a text is what its reply tells.
+#![tactic(auto)]
+
+mod laws;
+mod lines;
+mod numbers;
+mod replies;
+
+pub use laws::{texts_tell_looks, texts_tell_numbers};
+pub use replies::looks_of_reply;

@@ -1,0 +1,9 @@
+pub mod ReplayLaws
+pub mod LookLaws
+pub mod TellWalks
+pub mod TellDeeds
+pub mod TellViews
+pub mod TellStatements
+pub mod StandingLaws
+pub mod TellQueues
+pub mod TellLines

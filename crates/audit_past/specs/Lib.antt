@@ -1,0 +1,4 @@
+pub mod Replay
+pub mod Pasts
+pub mod ReplayLaws
+pub mod ReplaySteps

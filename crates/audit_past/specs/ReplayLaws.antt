@@ -1,0 +1,47 @@
+-- Laws of what procedures come to where their looks are told, each in one sentence.
+use Rattle.std.specs.Prelude.{◌≡◌, ℕ, ◌≤◌, List, [], Option, Some, None}
+use Rattle.std.specs.List.{AllByRecursion}
+use Rattle.ts_model.specs.declared.events.Event.{Event}
+use Rattle.ts_model.specs.History.{History, base_position, position}
+use Rattle.ts_sessions.specs.Gives.{Gives}
+use Rattle.ts_sessions.specs.Looks.{looks_told}
+use Rattle.ts_sessions.specs.Places.{Places, Turn}
+use Rattle.ts_sessions.specs.Procedures.{Procedure}
+use Rattle.audit_past.specs.Replay.{Told, Tells}
+
+-- what was told is what a procedure gives by some looks, where no store stopped
+pub record IsGivenSo {A : Type 0} (all : History) (at : ℕ) (procedure : Procedure A) (told : Told A) : Type 0 where
+  pub looks : List (Option ℕ)
+  pub gives : Gives all None at [] procedure looks told.last told.given told.end
+
+-- what a procedure comes to where its looks are told, it gives
+abbrev pub ToldIsGiven : (A : Type 0) → Type 0
+ToldIsGiven A =
+    (all : History) (at : ℕ) (procedure : Procedure A) (positions : List ℕ) (told : Told A)
+    → Tells all at [] procedure positions (Some told) → IsGivenSo all at procedure told
+
+-- by the same positions a procedure comes to one thing
+abbrev pub ToldOnce : (A : Type 0) → Type 0
+ToldOnce A =
+    (all : History) (at : ℕ) (so_far : List (ℕ × Event)) (procedure : Procedure A) (positions : List ℕ)
+    (r s : Option (Told A))
+    → Tells all at so_far procedure positions r → Tells all at so_far procedure positions s → r ≡ s
+
+-- a line comes to this by the looks that its reply tells, which are positions of the history. How many rows it looked
+-- at may be another number
+pub record IsToldByReply (all : History) (at : ℕ) (procedure : Procedure (Turn Places)) (last : ℕ)
+    (given : List (ℕ × Event)) (y : Turn Places) : Type 0 where
+  pub end : Turn Places
+  pub said : end.said ≡ y.said
+  pub places : end.places ≡ y.places
+  pub within : AllByRecursion (λ p. p ≤ position all) (looks_told y.said)
+  pub tells : Tells all at [] procedure (looks_told y.said) (Some (record { last = last; given = given; end = end }))
+
+-- what a line gives over a history that no store stopped, it comes to by the looks that its reply tells; its session
+-- had looked at what the history begins with, or later
+abbrev pub RepliesTellTheirLooks : {P : Type 0} → (P → List ℕ → ℕ → Procedure (Turn Places)) → Type 0
+RepliesTellTheirLooks {P} reply =
+    (all : History) (at : ℕ) (p : P) (text : List ℕ) (skip : ℕ) (looks : List (Option ℕ)) (last : ℕ)
+    (given : List (ℕ × Event)) (y : Turn Places)
+    → base_position all ≤ at → Gives all None at [] (reply p text skip) looks last given y
+    → IsToldByReply all at (reply p text skip) last given y

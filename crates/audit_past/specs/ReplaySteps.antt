@@ -1,0 +1,285 @@
+-- Telling a statement over a whole history: what each part of it comes to there.
+use Rattle.std.specs.Prelude.{◌≡◌, ℕ, suc, ◌≤◌, ◌<◌, Bool, true, false, ◌&&◌, nat_le, cond, List, [], ◌∷◌, ◌++◌, IsTrue, Option, Some, None, Result, Ok, Err, ⊤}
+use Rattle.ts_schema.specs.declared.memory.NoMemory.{NoMemory}
+use Rattle.ts_model.specs.declared.events.Event.{Event}
+use Rattle.ts_model.specs.declared.outcomes.Refusal.{Refusal}
+use Rattle.ts_model.specs.declared.snapshots.Shown.{Ghosts as Shown}
+use Rattle.ts_model.specs.History.{History, Begins, position, prefix}
+use Rattle.ts_model.specs.States.{State}
+use Rattle.ts_model.specs.Calls.{Act}
+use Rattle.result_text.specs.declared.replies.Said.{Said}
+use Rattle.ts_sessions.specs.declared.deeds.Deed.{Deed}
+use Rattle.ts_sessions.specs.declared.deeds.Deed.TheVariants as deeds
+use Rattle.ts_sessions.specs.declared.deeds.Next.{Next}
+use Rattle.ts_sessions.specs.declared.deeds.Next.TheVariants as nexts
+use Rattle.audit_past.specs.declared.deed_replays.CallAt.{CallAt}
+use Rattle.audit_past.specs.declared.deed_replays.OutcomeAt.{OutcomeAt}
+use Rattle.audit_past.specs.declared.deed_replays.StatementOutcome.{StatementOutcome}
+use Rattle.audit_past.specs.declared.deed_replays.StepOutcome.{StepOutcome}
+use Rattle.audit_past.specs.declared.history_view.PastOutcome.{PastOutcome}
+use Rattle.audit_past.specs.declared.history_view.PastOutcome.TheVariants.{Made, Returned, Refused, Otherwise}
+use Rattle.ts_sessions.specs.Calls.{OutcomeFits, left_after, meets_left}
+use Rattle.ts_sessions.specs.Deeds.{EndFits, IsAsked, Joins, with_line, left_next, rest, rest_next, said_once}
+use Rattle.ts_sessions.specs.Places.{Block, Places, Turn}
+use Rattle.ts_sessions.specs.Procedures.{Procedure, sees, adds, ends, followed_by, tries_at}
+use Rattle.ts_sessions.specs.Sessions.{IsReply, places_after, turn_of}
+use Rattle.ts_sessions.specs.Sound.{IsThere}
+use Rattle.audit_past.specs.Replay.{Told, Tells}
+use Rattle.stmt_syntax.specs.declared.statements.Stmt.{Stmt}
+use Rattle.audit_past.specs.declared.lines.ReplayedLine.{ReplayedLine}
+use Rattle.ts_model.specs.Allowed.{all_allowed}
+use Rattle.ts_model.specs.Sound.{op_fits}
+use Rattle.ts_model.specs.declared.events.Op.{Op}
+use Rattle.ts_model.specs.declared.rosters.Roster.{Roster}
+use Rattle.stmt_check.specs.Sound.{IsQueue}
+use Rattle.ts_sessions.specs.declared.blocks.Queue.{Queue}
+use Rattle.ts_sessions.specs.Held.{most_queued}
+use Rattle.ts_model.specs.Roster.{roster}
+use Rattle.stmt_check.specs.declared.actions.Action.{Action}
+use Rattle.stmt_check.specs.declared.actions.Action.TheVariants as actions
+use Rattle.stmt_check.specs.Check.{action_of, refusal_of}
+use Rattle.result_text.specs.declared.replies.Said.TheVariants as said
+use Rattle.ts_sessions.specs.declared.changes.Change.TheVariants as changes
+use Rattle.ts_sessions.specs.declared.name_checks.Resolved.{Resolved}
+use Rattle.ts_sessions.specs.declared.name_checks.Resolved.TheVariants as meant
+use Rattle.ts_sessions.specs.ResolvedNames.{answered_line}
+
+-- ---- looks
+
+-- the position of the next look that is told, where it lies from the last one on and within the history
+abbrev pub next_look : History → ℕ → List ℕ → Option ℕ
+next_look all at [] = None
+next_look all at (p ∷ ps) = cond (nat_le at p && nat_le p (position all)) (Some p) None
+
+-- the looks after it
+abbrev pub later_looks : List ℕ → List ℕ
+later_looks [] = []
+later_looks (p ∷ ps) = ps
+
+-- what is left of a procedure after its first look, where this history was found
+abbrev pub after_look : {A : Type 0} → History → Procedure A → Procedure A
+after_look h (sees shown f) = f h
+after_look h (adds e next stopped) = adds e next stopped
+after_look h (ends a) = ends a
+
+-- ---- deeds
+
+-- a deed meets the past at its look, but for an aggregate that is filled: its number is looked up where it was made
+abbrev pub meets_at : {T J : Type 0} → History → ℕ → List ℕ → Deed T J → Option ℕ
+meets_at all at ps (deeds.Fill new made) = Some at
+meets_at all at ps other = next_look all at ps
+
+-- whether it is one
+abbrev pub fills_view : {T J : Type 0} → Deed T J → Bool
+fills_view (deeds.Fill new made) = true
+fills_view other = false
+
+-- the looks that are left then
+abbrev pub looks_then : {T J : Type 0} → List ℕ → Deed T J → List ℕ
+looks_then ps (deeds.Fill new made) = ps
+looks_then ps other = later_looks ps
+
+-- what is left of a statement whose deed meets the past at this history
+abbrev pub rest_at : {T J : Type 0} → Places → ℕ → History → Deed T J → Procedure (Turn Places)
+rest_at {T} {J} p read h (deeds.Fill new made) = rest {T = T} {J = J} p read h (deeds.Fill new made)
+rest_at {T} {J} p read h other = after_look h (rest {T = T} {J = J} p read h other)
+
+-- the aggregate that is to be refreshed is there
+abbrev pub AsksThere : {T J : Type 0} → Deed T J → History → Type 0
+AsksThere (deeds.Cut asked then) h = IsAsked h asked
+AsksThere (deeds.Fill new made) h = IsThere h new.name
+AsksThere other h = ⊤
+
+-- ---- calls
+
+-- what a call that does this at a history leads to, by what came of it
+abbrev pub does_at : {A B : Type 0} → History → (History → Act A) → (Result A Refusal → Procedure B) → Procedure B
+does_at h act k = followed_by (tries_at h (act h)) k
+
+-- an event that is made lies within the history
+abbrev pub CameWithin : {A : Type 0} → ℕ → ℕ → PastOutcome A → Type 0
+CameWithin at end (Made a) = suc at ≤ end
+CameWithin at end other = ⊤
+
+-- what came of a call at a position, and the position after it
+abbrev pub met_of : {A : Type 0} → ℕ → PastOutcome A → Option (CallAt A)
+met_of at (Made a) = Some (record { came = Ok a; at = suc at })
+met_of at (Returned a) = Some (record { came = Ok a; at = at })
+met_of at (Refused r) = Some (record { came = Err r; at = at })
+met_of at Otherwise = None
+
+-- ---- what is told
+
+-- a state of which only its history is known
+abbrev pub state_of : History → State
+state_of h = record {
+  history = h;
+  failed = None;
+  faults = 0;
+  made = [];
+  origin = record { faults = 0; opening = h; moment = 0 };
+}
+
+-- what comes next goes with a history that was told up to a position: the aggregate that is asked for is there, and
+-- what a statement of a text of so many bytes brings to its session goes with the whole history
+abbrev pub NextStands : {T J : Type 0} → Shown T J → ℕ → History → ℕ → Next T J → Type 0
+NextStands shown bytes all at (nexts.Deed d) = AsksThere d (prefix all at)
+NextStands shown bytes all at (nexts.End t) = EndFits shown bytes t (state_of all)
+
+-- what a procedure comes to, with these looks from a position on, is what another comes to from where the first has led
+pub record TellsBy {A : Type 0} (all : History) (at : ℕ) (procedure : Procedure A) (ps : List ℕ) (to : ℕ)
+    (left : Procedure A) (qs : List ℕ) : Type 0 where
+  pub given : List (ℕ × Event) → List (ℕ × Event)
+  pub tells : (so_far : List (ℕ × Event)) (r : Option (Told A))
+      → Tells all to (given so_far) left qs r → Tells all at so_far procedure ps r
+
+-- a procedure comes to nothing
+abbrev pub TellsNothing : {A : Type 0} → History → ℕ → Procedure A → List ℕ → Type 0
+TellsNothing all at procedure ps = (so_far : List (ℕ × Event)) → Tells all at so_far procedure ps None
+
+-- a call at a position of the past came to this, which leaves what was left of a procedure
+pub record IsMet {T J : Type 0} (shown : Shown T J) (all : History) (at before : ℕ)
+    (procedure : Places → ℕ → Procedure (Turn Places)) (m : OutcomeAt T) : Type 0 where
+  pub tells : (p : Places) (read : ℕ) (ps : List ℕ) → TellsBy all at (procedure p read) ps m.at
+      (left_after p read (prefix all m.at) m.outcome) ps
+  pub fits : OutcomeFits shown (prefix all m.at) m.outcome
+  pub left_so : meets_left m.outcome ≡ before
+  pub low : at ≤ m.at
+  pub high : m.at ≤ position all
+
+-- so, or it came to nothing
+abbrev pub MeetsAt :
+    {T J : Type 0} → Shown T J → History → ℕ → ℕ → (Places → ℕ → Procedure (Turn Places)) → Option (OutcomeAt T) → Type 0
+MeetsAt shown all at before procedure (Some m) = IsMet shown all at before procedure m
+MeetsAt shown all at before procedure None = (p : Places) (read : ℕ) (ps : List ℕ) → TellsNothing all at (procedure p read) ps
+
+-- a deed that met the past at a position led to this, which meets the past less often than before
+pub record IsWent {T J : Type 0} (shown : Shown T J) (all : History) (at before : ℕ)
+    (procedure : Places → ℕ → Procedure (Turn Places)) (w : StepOutcome T J) : Type 0 where
+  pub read_then : ℕ → ℕ
+  pub tells : (p : Places) (read : ℕ) (ps : List ℕ) → TellsBy all at (procedure p read) ps w.at
+      (with_line w.said (rest_next p (read_then read) (prefix all w.at) w.next)) ps
+  pub stands : (bytes : ℕ) → NextStands shown bytes all w.at w.next
+  pub low : at ≤ w.at
+  pub high : w.at ≤ position all
+  pub shorter : left_next w.next < before
+
+-- so, or it came to nothing
+abbrev pub GoesTo :
+    {T J : Type 0} → Shown T J → History → ℕ → ℕ → (Places → ℕ → Procedure (Turn Places))
+    → Result (Option (StepOutcome T J)) NoMemory → Type 0
+GoesTo shown all at before procedure (Ok (Some w)) = IsWent shown all at before procedure w
+GoesTo shown all at before procedure (Ok None) =
+    (p : Places) (read : ℕ) (ps : List ℕ) → TellsNothing all at (procedure p read) ps
+GoesTo shown all at before procedure (Err e) = ⊤
+
+-- a statement of a session with these places, of a text of so many bytes, came to this
+pub record IsReached {T J : Type 0} (shown : Shown T J) (bytes : ℕ) (all : History) (at : ℕ)
+    (procedure : Procedure (Turn Places)) (ps : List ℕ) (p : Places) (r : StatementOutcome T J) : Type 0 where
+  pub total : ℕ
+  pub given : List (ℕ × Event) → List (ℕ × Event)
+  pub tells : (so_far : List (ℕ × Event)) → Tells all at so_far procedure ps
+      (Some (record { last = r.last; given = given so_far; end = turn_of p total r.completion }))
+  pub stands : EndFits shown bytes r.completion (state_of all)
+  pub low : at ≤ r.last
+  pub high : r.last ≤ position all
+
+-- so, or it came to nothing
+abbrev pub ReachesTo :
+    {T J : Type 0} → Shown T J → ℕ → History → ℕ → Procedure (Turn Places) → List ℕ → Places
+    → Result (Option (StatementOutcome T J)) NoMemory → Type 0
+ReachesTo shown bytes all at procedure ps p (Ok (Some r)) = IsReached shown bytes all at procedure ps p r
+ReachesTo shown bytes all at procedure ps p (Ok None) = TellsNothing all at procedure ps
+ReachesTo shown bytes all at procedure ps p (Err e) = ⊤
+
+-- what a statement came to, led by a line that was said before
+abbrev pub LedTo :
+    {T J : Type 0} → Option Said → Option (StatementOutcome T J) → Result (Option (StatementOutcome T J)) NoMemory → Type 0
+LedTo said None (Ok o) = o ≡ None
+LedTo said (Some r) (Ok (Some q)) = Joins said false r.completion (Ok q.completion) × (q.last ≡ r.last)
+LedTo said (Some r) (Ok None) = ⊥
+LedTo said o (Err e) = ⊤
+
+-- ---- statements and lines
+
+-- the end of a statement, where this is its end
+abbrev pub ended_of : {T J : Type 0} → Next T J → ℕ → Option (StatementOutcome T J)
+ended_of (nexts.Deed d) last = None
+ended_of (nexts.End t) last = Some (record { completion = t; last = last })
+
+-- a statement that is refused by names looked at there, or isn't
+abbrev pub refused_to : {T J : Type 0} → Option Refusal → ℕ → Option (StatementOutcome T J)
+refused_to None look = None
+refused_to (Some q) look = ended_of (said_once (said.Fault q) changes.Nothing) look
+
+-- by its names at a look, if it has one that is told
+abbrev pub refused_at : {T J : Type 0} → History → Stmt → Option ℕ → Option (StatementOutcome T J)
+refused_at all stmt None = None
+refused_at all stmt (Some look) =
+    refused_to (refusal_of (position (prefix all look)) (roster (prefix all look)) stmt) look
+
+-- an operation from a text of so many bytes waits. Only an operation does
+abbrev pub queued_operation : {T J : Type 0} → Action → ℕ → Next T J
+queued_operation (actions.Change op) bytes = said_once said.Queued (changes.Queues op bytes)
+queued_operation other bytes = said_once said.Queued changes.Nothing
+
+-- unless this refuses it
+abbrev pub unless_refused : {T J : Type 0} → Option Refusal → Next T J → ℕ → Option (StatementOutcome T J)
+unless_refused None next last = ended_of next last
+unless_refused (Some q) next last = None
+
+-- a change that waits by what stands at the end of a history
+abbrev pub waits_at : {T J : Type 0} → History → ℕ → ℕ → Stmt → Option (StatementOutcome T J)
+waits_at all at bytes stmt =
+    unless_refused (refusal_of (position all) (roster all) stmt) (queued_operation (action_of (roster all) stmt) bytes) at
+
+-- what is said of what is asked for in a block
+abbrev pub shown_as : {T J : Type 0} → Block → History → Resolved T J → Next T J
+shown_as b h (meant.Refused q) = said_once (said.Fault q) changes.Nothing
+shown_as b h (meant.Shows plan) = said_once (answered_line b h plan) changes.Nothing
+shown_as b h other = said_once said.Queued changes.Nothing
+
+-- an operation that fits the tables of a roster, or none
+abbrev pub if_fits : Roster → Op → List Op
+if_fits r op = cond (op_fits r op) (op ∷ []) []
+
+-- those of some operations that fit the tables of a roster
+abbrev pub ops_that_fit : Roster → List Op → List Op
+ops_that_fit r [] = []
+ops_that_fit r (op ∷ ops) = if_fits r op ++ ops_that_fit r ops
+
+-- a snapshot shows an allowed history, and a queue waits by a longer one
+pub record IsSeenUnder {T : Type 0} (stands : T → History → Type 0) (shot : T) (queue : Queue) : Type 0 where
+  pub history : History
+  pub holds : stands shot history
+  pub allowed : IsTrue (all_allowed history)
+  pub later : History
+  pub begins : Begins history later
+  pub waits : IsQueue later queue.bytes queue.ops
+  pub room : queue.bytes ≤ most_queued
+
+-- a line of the session with a name, which has these places then, has this reply
+pub record IsToldLine (all : History) (at : ℕ) (procedure : Procedure (Turn Places)) (ps : List ℕ) (name : List ℕ)
+    (places : Places) (line : ReplayedLine) : Type 0 where
+  pub said : List Said
+  pub read : ℕ
+  pub given : List (ℕ × Event)
+  pub tells : Tells all at [] procedure ps
+      (Some (record { last = line.last; given = given; end = record { places = places; said = said; reads = read } }))
+  pub reply : IsReply name said line.reply
+  pub low : at ≤ line.last
+  pub high : line.last ≤ position all
+
+-- so, or it comes to nothing
+abbrev pub LineTells :
+    History → ℕ → Procedure (Turn Places) → List ℕ → List ℕ → Places → Result (Option ReplayedLine) NoMemory → Type 0
+LineTells all at procedure ps name places (Ok (Some line)) = IsToldLine all at procedure ps name places line
+LineTells all at procedure ps name places (Ok None) = Tells all at [] procedure ps None
+LineTells all at procedure ps name places (Err e) = ⊤
+
+-- the reply to what a line came to, and the places then
+abbrev pub RepliesTo :
+    {T J : Type 0} → List ℕ → StatementOutcome T J → Places → Places → Result ReplayedLine NoMemory → Type 0
+RepliesTo name r old new (Ok line) =
+    IsReply name r.completion.said line.reply × (line.last ≡ r.last) × (new ≡ places_after r.completion.change old)
+RepliesTo name r old new (Err e) = ⊤

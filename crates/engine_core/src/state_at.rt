@@ -1,0 +1,65 @@
+//! What is kept of a history at a position.
+ghost use Rattle.std.specs.Prelude.{◌≡◌, IfOk};
+
+use engine_state::{AfterEvent, State};
+use std::alloc::Global;
+use std::marker::Model;
+use std::sync::Arc;
+use ts_model::Committed;
+use ts_schema::NoMemory;
+
+/// The state of a history, and how many rows its last event moved over all tables.
+#[derive(Drop)]
+pub(crate) struct StateAt {
+    /// The state.
+    pub state: Arc<State>,
+    /// How many rows were appended.
+    pub inserted: u64,
+    /// How many rows were taken away.
+    pub removed: u64,
+}
+
+impl Model for StateAt {
+    ghost use Rattle.std.specs.Arc.{arc_value};
+    ghost use Rattle.engine_core.specs.Values.{MomentValue};
+
+    ghost Value = { MomentValue };
+
+    ghost view = { λ m. record {
+      state = arc_value m.state;
+      inserted = m.inserted;
+      removed = m.removed;
+    } };
+}
+
+impl StateAt {
+    /// What is kept of a state that an event led to.
+    pub(crate) fn of(alloc: Global, moved: AfterEvent<State>) -> Result<StateAt, NoMemory>
+        ensures moment { IfOk result (λ moment. moment ≡ record {
+          state = moved.made;
+          inserted = moved.inserted;
+          removed = moved.removed;
+        }) }
+    {
+        Ok(StateAt {
+            state: Arc::new(alloc, moved.made)?,
+            inserted: moved.inserted,
+            removed: moved.removed,
+        })
+    }
+
+    /// What the last event did: its number, and how many rows it moved.
+    pub(crate) fn effect(&self) -> Committed
+        ensures effect { result ≡ record {
+          pos = self.now.state.position;
+          inserted = self.now.inserted;
+          removed = self.now.removed;
+        } }
+    {
+        Committed {
+            pos: self.state.position(),
+            inserted: self.inserted,
+            removed: self.removed,
+        }
+    }
+}

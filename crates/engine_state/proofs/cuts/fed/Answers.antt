@@ -1,7 +1,0 @@
--- What was fed was fed as it was noted.
-use Rattle.std.proofs.Common.{ap, ◌∙◌}
-use Rattle.engine_state.proofs.FeedSteps.{fed_view}
-use Rattle.engine_state.proofs.cuts.fed.Goals as goal
-
-pub returns : goal.returns
-returns c = record { fed = fed_view c.fed.result c.entries.result.now.items c.args.table.now c.args.view.now (c.entries.ensures.entries ∙ ap (λ l. l.entries) c.log.ensures.log) c.fed.ensures.table c.fed.ensures.groups c.fed.ensures.mark c.fed.ensures.fed }

@@ -1,0 +1,10 @@
+use Rattle.std.proofs.Common.{◌≡◌, length}
+use Rattle.ts_schema.specs.Counts.{raised_by}
+use Rattle.engine_state.proofs.group_rebuilds.count.Given as goal
+
+-- with the steps of the rows that are left there are as many as of all
+abbrev pub invariant-loop-left : goal.invariant-loop-left
+invariant-loop-left g l = raised_by (length l.left) l.steps ≡ raised_by (length l.rows) l.initial.steps
+
+abbrev pub decreases-loop-left : goal.decreases-loop-left
+decreases-loop-left g l = length l.left

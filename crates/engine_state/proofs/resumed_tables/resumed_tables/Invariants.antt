@@ -1,7 +1,0 @@
-use Rattle.std.proofs.Common.{take}
-use Rattle.engine_state.specs.Lists.{Each}
-use Rattle.engine_state.specs.Resumed.{ResumedAt}
-use Rattle.engine_state.proofs.resumed_tables.resumed_tables.Given as goal
-
-abbrev pub invariant-loop-table : goal.invariant-loop-table
-invariant-loop-table l = Each (ResumedAt l.image) (take l.table l.roster.tables) l.tables

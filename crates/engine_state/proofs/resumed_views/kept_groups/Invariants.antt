@@ -1,6 +1,0 @@
-use Rattle.std.proofs.Common.{◌≡◌, map, take}
-use Rattle.ts_model.specs.Saved.{group_of}
-use Rattle.engine_state.proofs.resumed_views.kept_groups.Given as goal
-
-abbrev pub invariant-loop-group : goal.invariant-loop-group
-invariant-loop-group l = l.groups ≡ map group_of (take l.group-index l.saved)

@@ -1,0 +1,188 @@
+-- No two sessions of a sorted input have one name, also where those that run first and last stand apart.
+use Rattle.std.proofs.Common.{◌≡◌, ℕ, suc, Bool, true, false, cond, not, ◌&&◌, ◌||◌, List, [], ◌∷◌, ◌++◌, length, take, get_or, filter, map, nat_lt, refl, sym, ap, ◌∙◌, subst, true≢false, arith}
+use Rattle.std.specs.List.{AllByRecursion, list_any}
+use Rattle.std.specs.Cmp.Lexicographic.{same_text}
+use Rattle.std.specs.Prelude.{bytes_eq}
+use Rattle.std.proofs.lemmas.Cmp.{nat_list_eq_equiv}
+use Rattle.std.proofs.lemmas.Slice.Eq.{bytes_eq-Decides}
+use Rattle.ts_schema.proofs.Cases.{all_weaker, by_test}
+use Rattle.ts_io.specs.Lines.{lines_of}
+use Rattle.ts_model.specs.Roster.{same_name}
+use Rattle.stmt_tokens.specs.declared.lines.LineKind.{LineKind}
+use Rattle.stmt_tokens.specs.declared.lines.LineKind.TheVariants.{Blank, NotAscii, NoSession, Stmt}
+use Rattle.stmt_tokens.specs.Lines.{line_kind, session_name}
+use Rattle.ts_model.specs.Numbers.{line_long, too_many_sessions}
+use Rattle.result_text.specs.declared.replies.Said.TheVariants as said
+use Rattle.result_text.specs.Replies.{line_fault_text, reply_text}
+use Rattle.ts_sessions.specs.Script.{SessionLine, SessionScript}
+use Rattle.ts_model.specs.Limits.{most_sessions}
+use Rattle.stmt_syntax.specs.Limits.{longest_line}
+use Rattle.ts_sessions.specs.Step.{bare}
+use Rattle.par_lines.specs.Sorted.{Sorted, appears_in, at_once, final, only, refuses, setup, sorted_lines, sorts, sorts_all, sorts_as, sorts_kind, with_line}
+use Rattle.transcript.specs.Shape.{are_apart, is_among}
+
+-- ---- names apart
+
+abbrev IsOther : List ℕ → List ℕ → Type 0
+IsOther a b = a ≡ b → ⊥
+
+-- a name isn't among these
+abbrev pub IsNew : List ℕ → List (List ℕ) → Type 0
+IsNew name names = AllByRecursion (IsOther name) names
+
+-- no name comes twice
+abbrev pub Apart : List (List ℕ) → Type 0
+Apart [] = Unit {0}
+Apart (name ∷ names) = IsNew name names × Apart names
+
+-- the same by tests
+other_bytes : (a b : List ℕ) (t : Bool) → bytes_eq a b ≡ t → IsOther a b → t ≡ false
+other_bytes a b true e other = absurd (other ((bytes_eq-Decides a b).0 e))
+other_bytes a b false e other = refl
+
+not_among : (name : List ℕ) (names : List (List ℕ)) → IsNew name names → is_among name names ≡ false
+not_among name [] all = refl
+not_among name (x ∷ names) all = λ i. other_bytes name x (bytes_eq name x) refl all.0 i || not_among name names all.1 i
+
+pub apart_told : (names : List (List ℕ)) → Apart names → are_apart names ≡ true
+apart_told [] all = refl
+apart_told (name ∷ names) all = λ i. not (not_among name names all.0 i) && apart_told names all.1 i
+
+all_appended : (P : List ℕ → Type 0) (xs ys : List (List ℕ)) → AllByRecursion P xs → AllByRecursion P ys → AllByRecursion P (xs ++ ys)
+all_appended P [] ys a b = b
+all_appended P (x ∷ xs) ys a b = (a.0, all_appended P xs ys a.1 b)
+
+-- names of which none is among others
+apart_appended : (xs ys : List (List ℕ)) → Apart xs → Apart ys → AllByRecursion (λ x. IsNew x ys) xs → Apart (xs ++ ys)
+apart_appended [] ys a b all = b
+apart_appended (x ∷ xs) ys a b all = (all_appended (IsOther x) xs ys a.0 all.0, apart_appended xs ys a.1 b all.1)
+
+-- ---- sessions
+
+abbrev pub names_of : List SessionScript → List (List ℕ)
+names_of scripts = map (λ script. script.name) scripts
+
+different : (a b : List ℕ) → same_name a b ≡ false → IsOther a b
+different a b e same = true≢false (sym (nat_list_eq_equiv.refl b) ∙ ap (λ x. same_name x b) (sym same) ∙ e)
+
+-- what holds of each name, and of the name of one line more
+all_with : (P : List ℕ → Type 0) (name : List ℕ) (line : SessionLine) (scripts : List SessionScript) → P name → AllByRecursion P (names_of scripts) → AllByRecursion P (names_of (with_line name line scripts))
+all_with P name line [] p all = (p, tt)
+all_with P name line (x ∷ scripts) p all = by (same_name x.name name) (all_with P name line scripts p all.1)
+  where
+    by : (b : Bool) → AllByRecursion P (names_of (with_line name line scripts)) → AllByRecursion P (names_of (cond b (record x { lines = x.lines ++ line ∷ [] } ∷ scripts) (x ∷ with_line name line scripts)))
+    by true rest = all
+    by false rest = (all.0, rest)
+
+apart_with : (name : List ℕ) (line : SessionLine) (scripts : List SessionScript) → Apart (names_of scripts) → Apart (names_of (with_line name line scripts))
+apart_with name line [] all = (tt, tt)
+apart_with name line (x ∷ scripts) all = by (same_name x.name name) refl (apart_with name line scripts all.1)
+  where
+    by : (b : Bool) → same_name x.name name ≡ b → Apart (names_of (with_line name line scripts)) → Apart (names_of (cond b (record x { lines = x.lines ++ line ∷ [] } ∷ scripts) (x ∷ with_line name line scripts)))
+    by true e rest = all
+    by false e rest = (all_with (IsOther x.name) name line scripts (different x.name name e) all.0, rest)
+
+abbrev AreApart : Sorted → Type 0
+AreApart s = Apart (names_of s.sessions)
+
+apart_as : (name : List ℕ) (line : SessionLine) (s : Sorted) → AreApart s → AreApart (sorts_as name line s)
+apart_as name line s all = by (appears_in name s.sessions || nat_lt (length s.sessions) most_sessions)
+  where
+    by : (b : Bool) → AreApart (cond b (record s { sessions = with_line name line s.sessions }) (refuses (reply_text name (said.Fault (bare too_many_sessions))) s))
+    by true = apart_with name line s.sessions all
+    by false = all
+
+apart_kind : (n : ℕ) (line : List ℕ) (s : Sorted) (kind : LineKind) → AreApart s → AreApart (sorts_kind n line s kind)
+apart_kind n line s Blank all = all
+apart_kind n line s NotAscii all = all
+apart_kind n line s NoSession all = all
+apart_kind n line s (Stmt len skip end) all = apart_as (session_name line len skip) (record { text = take end line; skip = skip }) s all
+
+apart_line : (n : ℕ) (line : List ℕ) (s : Sorted) → AreApart s → AreApart (sorts n line s)
+apart_line n line s all = by (nat_lt longest_line (length line))
+  where
+    by : (b : Bool) → AreApart (cond b (refuses (line_fault_text n (bare line_long)) s) (sorts_kind n line s (line_kind line)))
+    by true = all
+    by false = apart_kind n line s (line_kind line) all
+
+apart_lines : (n : ℕ) (lines : List (List ℕ)) (s : Sorted) → AreApart s → AreApart (sorts_all n lines s)
+apart_lines n [] s all = all
+apart_lines n (line ∷ lines) s all = apart_lines (suc n) lines (sorts n line s) (apart_line n line s all)
+
+apart_input : (input : List ℕ) → AreApart (sorted_lines input)
+apart_input input = apart_lines 1 (lines_of input) (record { refusals = []; sessions = [] }) tt
+
+-- ---- sessions that pass a test
+
+module _ (test : SessionScript → Bool) where
+  all_filtered : (P : List ℕ → Type 0) (scripts : List SessionScript) → AllByRecursion P (names_of scripts) → AllByRecursion P (names_of (filter test scripts))
+  all_filtered P [] all = tt
+  all_filtered P (x ∷ scripts) all = by (test x) (all_filtered P scripts all.1)
+    where
+      by : (b : Bool) → AllByRecursion P (names_of (filter test scripts)) → AllByRecursion P (names_of (cond b (x ∷ filter test scripts) (filter test scripts)))
+      by true rest = (all.0, rest)
+      by false rest = rest
+
+  apart_filtered : (scripts : List SessionScript) → Apart (names_of scripts) → Apart (names_of (filter test scripts))
+  apart_filtered [] all = tt
+  apart_filtered (x ∷ scripts) all = by (test x) (apart_filtered scripts all.1)
+    where
+      by : (b : Bool) → Apart (names_of (filter test scripts)) → Apart (names_of (cond b (x ∷ filter test scripts) (filter test scripts)))
+      by true rest = (all_filtered (IsOther x.name) scripts all.0, rest)
+      by false rest = rest
+
+-- what follows from a test of a name holds of the names that pass it
+passing : (test : List ℕ → Bool) (P : List ℕ → Type 0) → ((name : List ℕ) → test name ≡ true → P name) → (scripts : List SessionScript) → AllByRecursion P (names_of (filter (λ script. test script.name) scripts))
+passing test P gives [] = tt
+passing test P gives (x ∷ scripts) = by (test x.name) refl (passing test P gives scripts)
+  where
+    by : (b : Bool) → test x.name ≡ b → AllByRecursion P (names_of (filter (λ script. test script.name) scripts)) → AllByRecursion P (names_of (cond b (x ∷ filter (λ script. test script.name) scripts) (filter (λ script. test script.name) scripts)))
+    by true e rest = (gives x.name e, rest)
+    by false e rest = rest
+
+-- ---- the phases
+
+either_false : (a b : Bool) → not (a || b) ≡ true → (a ≡ false) × (b ≡ false)
+either_false true b e = absurd (true≢false (sym e))
+either_false false true e = absurd (true≢false (sym e))
+either_false false false e = (refl, refl)
+
+two_names : setup ≡ final → ⊥
+two_names e =
+    let head : List ℕ → ℕ = λ l. get_or l 0 0 in
+    let heads : ◌≡◌ {A = ℕ} 115 102 = ap head e in
+    absurd (omega arith)
+
+named : (name other : List ℕ) → same_name other name ≡ true → other ≡ name
+named name other e = same_text other name (sym e)
+
+module _ (scripts : List SessionScript) where
+  -- none of those that run at once is named as another phase
+  others_new : (phase : List ℕ) → ((name : List ℕ) → not (same_name name setup || same_name name final) ≡ true → same_name name phase ≡ false) → IsNew phase (names_of (at_once scripts))
+  others_new phase gives = passing (λ name. not (same_name name setup || same_name name final)) (IsOther phase) (λ name e same. different name phase (gives name e) (sym same)) scripts
+
+  setup_new : IsNew setup (names_of (at_once scripts))
+  setup_new = others_new setup (λ name e. (either_false (same_name name setup) (same_name name final) e).0)
+
+  last_new : (name : List ℕ) → IsOther name final → IsNew name (names_of (only final scripts))
+  last_new name other = passing (λ x. same_name x final) (IsOther name) (λ x e same. other (same ∙ named final x e)) scripts
+
+  apart_phases : Apart (names_of scripts) → Apart (names_of (only setup scripts) ++ names_of (at_once scripts) ++ names_of (only final scripts))
+  apart_phases all =
+      let first : Apart (names_of (only setup scripts)) = apart_filtered (λ script. same_name script.name setup) scripts all in
+      let middle : Apart (names_of (at_once scripts)) = apart_filtered (λ script. not (same_name script.name setup || same_name script.name final)) scripts all in
+      let last : Apart (names_of (only final scripts)) = apart_filtered (λ script. same_name script.name final) scripts all in
+      let second : AllByRecursion (λ x. IsNew x (names_of (at_once scripts))) (names_of (only setup scripts)) =
+      passing (λ name. same_name name setup) (λ x. IsNew x (names_of (at_once scripts))) (λ name e. subst (λ x. IsNew x (names_of (at_once scripts))) (sym (named setup name e)) setup_new) scripts in
+      let third_a : AllByRecursion (λ x. IsNew x (names_of (only final scripts))) (names_of (only setup scripts)) =
+      passing (λ name. same_name name setup) (λ x. IsNew x (names_of (only final scripts))) (λ name e. last_new name (λ same. two_names (sym (named setup name e) ∙ same))) scripts in
+      let third_b : AllByRecursion (λ x. IsNew x (names_of (only final scripts))) (names_of (at_once scripts)) =
+      passing (λ name. not (same_name name setup || same_name name final)) (λ x. IsNew x (names_of (only final scripts)))
+      (λ name e. last_new name (different name final (either_false (same_name name setup) (same_name name final) e).1)) scripts in
+      apart_appended (names_of (only setup scripts) ++ names_of (at_once scripts)) (names_of (only final scripts))
+      (apart_appended (names_of (only setup scripts)) (names_of (at_once scripts)) first middle second) last
+      (all_appended (λ x. IsNew x (names_of (only final scripts))) (names_of (only setup scripts)) (names_of (at_once scripts)) third_a third_b)
+
+-- the sessions of an input in the order in which they run
+pub names_apart : (input : List ℕ) → Apart (names_of (only setup (sorted_lines input).sessions) ++ names_of (at_once (sorted_lines input).sessions) ++ names_of (only final (sorted_lines input).sessions))
+names_apart input = apart_phases (sorted_lines input).sessions (apart_input input)

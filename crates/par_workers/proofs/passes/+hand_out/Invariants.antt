@@ -1,5 +1,0 @@
-use Rattle.std.proofs.Common.{length}
-use Rattle.par_workers.proofs.passes.+hand_out.Given as goal
-
-abbrev pub decreases-hand_out : goal.decreases-hand_out
-decreases-hand_out g l = length l.slots.now

@@ -1,9 +1,0 @@
-pub mod ToldLaws
-pub mod LookLaws
-pub mod TellWalks
-pub mod TellDeeds
-pub mod TellViews
-pub mod TellStatements
-pub mod StandingLaws
-pub mod TellQueues
-pub mod TellLines

@@ -1,5 +1,0 @@
-use Rattle.ts_sessions.specs.Deeds.{left_next}
-use Rattle.past_sessions.proofs.deeds.+go_on.Given as goal
-
-abbrev pub decreases-go_on : goal.decreases-go_on
-decreases-go_on g l = left_next l.went.next

@@ -1,9 +1,0 @@
-use Rattle.ts_model.specs.History.{prefix}
-use Rattle.ts_sessions.specs.Deeds.{left}
-use Rattle.past_sessions.specs.Telling.{rest_at}
-use Rattle.past_sessions.proofs.deeds.act.Goals as goal
-
-pub returns : goal.returns
-returns g c =
-    let all = g.P.Past.all c.args.past.now in
-    c.follow_met.ensures all c.args.at (left c.args.deed) (λ p read. rest_at p read (prefix all c.args.at) c.args.deed) c.in_ok-met.ensures

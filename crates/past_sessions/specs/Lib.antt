@@ -1,4 +1,0 @@
-pub mod Told
-pub mod Pasts
-pub mod ToldLaws
-pub mod Telling

@@ -1,5 +1,0 @@
-use Rattle.reply_looks.proofs.TextLaws.{texts_tell}
-use Rattle.reply_looks.proofs.laws.texts_tell_looks.Goals as goal
-
-pub returns : goal.returns
-returns c = texts_tell

@@ -1,6 +1,0 @@
-use Rattle.std.proofs.Common.{[]}
-use Rattle.ts_store.proofs.NoteLaws.{first_is}
-use Rattle.ts_store.proofs.begun.Begun.of.Goals as goal
-
-pub returns : goal.returns
-returns g c = record { value = first_is _ _ c.args.value.now [] (c.open_row-seen.ensures).1 }
