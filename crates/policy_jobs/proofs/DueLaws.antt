@@ -43,6 +43,7 @@ use Rattle.policy_jobs.specs.declared.statements.PolicyStmt.TheVariants as stmts
 use Rattle.policy_jobs.proofs.ActorLaws.{ended_as}
 use Rattle.policy_jobs.proofs.AddLaws.{interval_passed, offsets_passed}
 use Rattle.policy_jobs.proofs.DueTexts.{due_reads}
+use Rattle.policy_jobs.proofs.FewLaws.{stays_line}
 use Rattle.policy_jobs.proofs.Judging.{reads_by_the_grammar}
 
 -- ---- the statements that policies run
@@ -270,4 +271,5 @@ lines_keep_policies = record {
   others = λ within does alone failed old p text skip new y no_tick w.
       leaves_line alone (IsLonger p.policies) within does p (longer_none does alone p) text skip (left_longer does alone p within (statement (stream text skip)) no_tick) failed old new y w;
   marks = λ does alone failed old p now new y time w. due_marked does alone p failed old now new y time w;
+  refused = λ within does alone failed old p text skip new y r w is. stays_line does alone p within text skip failed old new y r w is;
 }

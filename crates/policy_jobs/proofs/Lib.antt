@@ -10,6 +10,7 @@ pub mod TurnLaws
 pub mod AddLaws
 pub mod OtherLines
 pub mod ActorLaws
+pub mod FewLaws
 pub mod DueLaws
 pub mod PlaceLaws
 pub mod AloneLaws

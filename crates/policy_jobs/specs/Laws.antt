@@ -1,8 +1,9 @@
 -- Laws of policies and ticks, each in one sentence.
-use Rattle.std.specs.Prelude.{◌≡◌, ℕ, ℤ, ◌≤◌, Bool, true, false, List, ◌++◌, codes, length, map, take, Option, Some, None, Result, Ok, Err, IsTrue}
+use Rattle.std.specs.Prelude.{◌≡◌, ℕ, ◌*◌, ℤ, ◌≤◌, Bool, true, false, List, [], ◌∷◌, ◌++◌, codes, length, map, take, Option, Some, None, Result, Ok, Err, IsTrue}
 use Rattle.std.specs.List.{AllByRecursion}
 use Rattle.ts_schema.specs.Names.{is_name}
 use Rattle.ts_bucket.specs.Bucket.{is_time}
+use Rattle.ts_model.specs.declared.outcomes.Refusal.{Refusal}
 use Rattle.ts_model.specs.Roster.{same_name}
 use Rattle.ts_model.specs.States.{State}
 use Rattle.stmt_reader.specs.Grammar.{statement as any_statement}
@@ -17,9 +18,11 @@ use Rattle.stmt_syntax.specs.declared.statements.Stmt.TheVariants as statements
 use Rattle.stmt_syntax.specs.Limits.{longest_line}
 use Rattle.result_text.specs.Replies.{reply_text}
 use Rattle.result_text.specs.declared.replies.Said.TheVariants as said
+use Rattle.ts_sessions.specs.Made.{made_in}
 use Rattle.ts_sessions.specs.Places.{Block, Places, Turn, none, turns}
 use Rattle.ts_sessions.specs.Procedures.{Procedure, ends}
 use Rattle.ts_sessions.specs.Script.{LineResult, ScriptState, Semantics, executes, final_script_state, is_refused, output, places_of, reads_in, session_semantics, with_places}
+use Rattle.ts_sessions.specs.Step.{step}
 use Rattle.ts_sessions.specs.Walks.{Walks}
 use Rattle.policy_jobs.specs.Adding.{has_offsets, is_interval}
 use Rattle.policy_jobs.specs.Policies.{due, due_text, due_texts, end_of, policies_after_tick}
@@ -109,6 +112,20 @@ pub record LinesKeepPolicies (P : Type 0) : Type 0 where
       (does : P → List ℕ → ℕ → Procedure (Turn P)) (alone failed : Bool) (old : State) (p : PolicyPlaces P) (now : ℤ)
       (new : State) (y : Turn (PolicyPlaces P))
       → is_time now ≡ true → Walks alone failed old (ticks does p now) new y → y.places.policies ≡ policies_after_tick now p.policies
+  -- where the reply is a refusal and nothing more, all policies stay as they were
+  pub refused :
+      (within : P → Block) (does : P → List ℕ → ℕ → Procedure (Turn P)) (alone failed : Bool) (old : State)
+      (p : PolicyPlaces P) (text : List ℕ) (skip : ℕ) (new : State) (y : Turn (PolicyPlaces P)) (r : Refusal)
+      → Walks alone failed old (policy_does does within p text skip) new y → y.said ≡ said.Fault r ∷ []
+      → y.places.policies ≡ p.policies
+
+-- a tick of a session makes at most three events for each policy that is due
+abbrev pub TicksMakeFewEvents : Type 0
+TicksMakeFewEvents =
+    (alone failed : Bool) (old : State) (p : PolicyPlaces Places) (now : ℤ) (new : State)
+    (y : Turn (PolicyPlaces Places))
+    → Walks alone failed old (ticks step p now) new y
+    → length (made_in y.said) ≤ 3 * length (due now p.policies)
 
 -- after a tick over any store, whatever came of its statements, a tick at the same time is its line alone, and the
 -- session stays as it is

@@ -1,7 +1,8 @@
 //! Laws of policies and ticks. Each is the clause of a function that does nothing, at any types.
-ghost use Rattle.policy_jobs.specs.Laws.{DueTextsAreStatements, LinesKeepPolicies, LinesSeeTheirOwnPlaces, OnlyNewOnesAreDue, SecondTicksAreIdle, TicksAreTheirLines};
+ghost use Rattle.policy_jobs.specs.Laws.{DueTextsAreStatements, LinesKeepPolicies, LinesSeeTheirOwnPlaces, OnlyNewOnesAreDue, SecondTicksAreIdle, TicksAreTheirLines, TicksMakeFewEvents};
 
 use ts_model::Shown;
+use ts_sessions::laws::lines_make_at_most_three_events;
 use ts_sessions::{Actor, Session};
 
 /// The text that a policy runs is its statement, by the grammar of all statements.
@@ -14,10 +15,18 @@ pub fn only_new_ones_are_due()
     ensures { OnlyNewOnesAreDue }
 {}
 
-/// A line leaves the policies that stand, and may put new ones behind them; a tick marks those that were due.
+/// A line leaves the policies that stand, and may put new ones behind them; a tick marks those that were due. A line
+/// that is refused leaves them all as they were.
 pub fn lines_keep_policies<P>()
     ensures { LinesKeepPolicies P }
 {}
+
+/// A tick of a session makes at most three events for each policy that is due.
+pub fn ticks_make_few_events()
+    ensures { TicksMakeFewEvents }
+{
+    lines_make_at_most_three_events();
+}
 
 /// After a tick, one at the same time is its line alone.
 pub fn second_ticks_are_idle<P>()

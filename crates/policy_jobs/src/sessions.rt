@@ -1,5 +1,5 @@
 //! Sessions with policies.
-ghost use Rattle.std.specs.Prelude.{◌≡◌, ℕ, suc, ◌<◌, ◌≤◌, ◌^◌, List, [], ◌∷◌, ◌++◌, length, None, false, true, IfOk, OnOk};
+ghost use Rattle.std.specs.Prelude.{◌≡◌, ℕ, suc, ◌<◌, ◌≤◌, ◌^◌, List, [], ◌∷◌, ◌++◌, length, None, false, true, IfOk, OnErr, OnOk};
 ghost use Rattle.std.specs.Thread.{IsSync};
 ghost use Rattle.ts_bucket.specs.Bucket.{is_time as is_time_of};
 ghost use Rattle.result_text.specs.declared.replies.Said.TheVariants.{Fault as FaultLine, Policy as PolicyLine};
@@ -85,6 +85,7 @@ impl<A: Actor> PolicySession<A> {
         ensures stepped { (n : ℕ) → n < 2 ^ 64 → Stepped B.alone (B.state backend.old)
             (adds_policy (places_in A.places self.old) job every)
             (A.named self.old.actor) result (B.state backend.new) (places_in A.places self.new) n n }
+        ensures kept { result ≡ StepEnd.NoMemory → self.new.policies ≡ self.old.policies }
         ensures actor { self.new.actor ≡ self.old.actor }
         ensures holds { IfAnswered result (HoldsOf A.holds self.new (B.state backend.new)) }
         ensures kin { B.kin backend.new ≡ B.kin backend.old }
@@ -114,6 +115,7 @@ impl<A: Actor> PolicySession<A> {
             (PolicyLine (suc (length self.old.policies)) pos ∷ []) false result }
         ensures policies { IfAnswered result
             (self.new.policies ≡ self.old.policies ++ policy ∷ []) }
+        ensures kept { result ≡ StepEnd.NoMemory → self.new.policies ≡ self.old.policies }
         ensures actor { self.new.actor ≡ self.old.actor }
     {
         match self.keep_with_reply(alloc, pos, policy) {
@@ -132,6 +134,8 @@ impl<A: Actor> PolicySession<A> {
         ensures reply { IfOk result (λ r. IsReply (A.named self.old.actor)
             (PolicyLine (suc (length self.old.policies)) pos ∷ []) r) }
         ensures policies { OnOk result (self.new.policies ≡ self.old.policies ++ policy ∷ []) }
+        // Where memory ran out none was added, since none was answered.
+        ensures kept { OnErr result (self.new.policies ≡ self.old.policies) }
         ensures actor { self.new.actor ≡ self.old.actor }
     {
         let number = self.policies.len() as u64 + 1;

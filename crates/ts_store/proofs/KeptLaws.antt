@@ -200,6 +200,12 @@ module _ {D : Type 0} (bytes : D → Option (List ℕ)) (may_leave : D → List 
       let tells = kept.tells some going in
       some_is (bytes s.journal.disk) tells.file HasHeader tells.told (holds_header tells.file (content_of (history_seen s)) (lies_ready s.journal.standing s.journal.version tells.file s.journal.end (content_of (history_seen s)) (kept.headed armed) tells.lies).holds)
 
+  -- all that they give is on the disk, where it was at the start and the disk didn't fail
+  pub durable_still : (s : StoreValue D) → Kept s → s.failed ≡ None → IsDurable bytes may_leave s.begun → IsDurable bytes may_leave s.journal.disk
+  durable_still s kept going durable =
+      let rests = kept.rests durable going in
+      record { file = rests.tells.file; told = rests.tells.told; durable = rests.durable }
+
   -- ---- the start
 
   pub kept_at_start : ((disk : D) (c : List ℕ) → left_since disk (moment disk) c → may_leave disk c) → (begun : D) (journal : Logged D) (engine : EngineValue)

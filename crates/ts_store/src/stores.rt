@@ -123,6 +123,10 @@ impl<D: Disk> Store<D> {
         // Where the disk told its bytes at the start, this is what reads give.
         ensures shown { IsSome (D.bytes self.begun)
             → IsSomeAnd (D.bytes result) (StandsForEither (history_seen self) (latest (history_seen self) self.failed)) }
+        // Where all was on the disk at the start, all of it is, unless the disk failed: what a later crash leaves is
+        // what reads give.
+        ensures rests { self.failed ≡ None → IsDurable D.bytes D.may_leave self.begun
+            → IsDurable D.bytes D.may_leave result }
         // Where the store was armed, that begins with the header.
         ensures header { self.armed ≡ true → self.failed ≡ None → IsSome (D.bytes self.begun)
             → IsSomeAnd (D.bytes result) HasHeader }

@@ -55,14 +55,14 @@ module _ (told : Type 0) (left : List ℕ → Type 0) (before after : Option (Li
   not_opened_header InputLong kept P n = absurd n
 
 -- a run that opened no journal
-module _ (told : Type 0) (left : List ℕ → Type 0) (o : Outside) (unread unprinted kept : Type 0) (still : unread × unprinted) where
+module _ (told : Type 0) (left : List ℕ → Type 0) (o : Outside) (unread unprinted kept : Type 0) (still : unread × unprinted × (o.reads ≡ 0)) where
   pub not_opened_run : (status : Status) → NotOpened status told left kept o.file_before o.file → RanTo status told left unread unprinted kept o
   not_opened_run Done n = absurd n
   not_opened_run Refused n = absurd n
   not_opened_run BadWords n = absurd n
   not_opened_run ReadFault n = absurd n
   not_opened_run WriteFault n = absurd n
-  not_opened_run DiskFault n = inl (still.0, still.1, n)
-  not_opened_run (Damaged at) n = ((still.0, still.1, n.0), n.1)
-  not_opened_run NoMemory n = inl (still.0, still.1, n)
+  not_opened_run DiskFault n = inl (still.0, still.1, n, still.2)
+  not_opened_run (Damaged at) n = ((still.0, still.1, n.0, still.2), n.1)
+  not_opened_run NoMemory n = inl (still.0, still.1, n, still.2)
   not_opened_run InputLong n = absurd n

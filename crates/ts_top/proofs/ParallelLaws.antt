@@ -11,11 +11,11 @@ use Rattle.ts_model.specs.History.{History, position, Begins, same, further}
 use Rattle.ts_model.specs.States.{State, stands_still}
 use Rattle.ts_model.proofs.HistoryLaws.{position_begins}
 use Rattle.shared_store.specs.Wrapped.{GoesOn}
-use Rattle.ts_store.specs.Images.{IsBetween, StandsForEither, StandsForMore, latest}
+use Rattle.ts_store.specs.Images.{IsBetween, StandsForEither, latest}
 use Rattle.ts_store.specs.Stands.{Stands}
 use Rattle.par_lines.specs.Sorted.{sorted_lines}
-use Rattle.ts_top.specs.Scripts.{first_places, program_replies}
-use Rattle.par_run.specs.Crews.{LinesRan}
+use Rattle.ts_top.specs.Scripts.{block_in, first_places, program_replies, program_semantics}
+use Rattle.par_run.specs.Crews.{LinesRan, LinesRanAsFar}
 use Rattle.par_run.specs.Outputs.{Output}
 use Rattle.par_transcript.specs.Made.{transcript_in}
 use Rattle.audit_laws.specs.Laws.{ExplainedUnlessPolicies}
@@ -27,7 +27,7 @@ use Rattle.ts_top.specs.declared.endings.Status.{Status}
 use Rattle.ts_top.specs.declared.endings.Status.TheVariants.{Done, Refused, BadWords, ReadFault, WriteFault, DiskFault, Damaged, NoMemory, InputLong}
 use Rattle.ts_top.specs.Endings.{is_disk_fault, is_write_fault, status_answered}
 use Rattle.ts_top.specs.Openings.{NotOpened}
-use Rattle.ts_top.specs.Outcomes.{Holds, Outside, Untouched}
+use Rattle.ts_top.specs.Outcomes.{Holds, IfWentOn, Outside, Untouched}
 use Rattle.ts_top.specs.declared.parallel.Replies.{Replies}
 use Rattle.ts_top.specs.declared.parallel.Replies.TheVariants.{Plain, Json}
 use Rattle.ts_top.specs.Parallel.{Any, ByWorkers, CountedAfterDisk, CountedAfterPrinting, CountedAfterWorkers, GaveUp, InputRan, InputTo, IsPrinted, IsPrintedAfterFault, ParTo, Prints, RanNothing}
@@ -51,15 +51,6 @@ only_one h failed c none image =
     let is : image.history ≡ h = ⊎_elim (λ upto. sym (same_both image.from upto)) (λ is. is ∙ ap (latest h) none) image.upto in
     subst (λ g. Stands c g) is image.stands
 
--- a file that stands for a history on the way from another begins with that
-begins_latest : (h seen : History) (failed : Option Event) → Begins h seen → Begins h (latest seen failed)
-begins_latest h seen None b = b
-begins_latest h seen (Some e) b = further b
-
-either_more : (h seen : History) (failed : Option Event) (file : List ℕ) → Begins h seen → StandsForEither seen (latest seen failed) file → StandsForMore h file
-either_more h seen failed file b (inl stands) = record { all = seen; stands = stands; begins = b }
-either_more h seen failed file b (inr stands) = record { all = latest seen failed; stands = stands; begins = begins_latest h seen failed b }
-
 -- ---- the end of a run
 
 module _ (told : Type 0) (left : List ℕ → Type 0) (sink_failed : Type 0) (h : History) (input : List ℕ) (reads : ℕ) (before written file : Option (List ℕ)) (s : State) (out : Output) (closed : Closed told left h s file) where
@@ -78,12 +69,11 @@ module _ (told : Type 0) (left : List ℕ → Type 0) (sink_failed : Type 0) (h 
     images = closed.images;
   }
 
-  gave_up : Begins h s.history → written ≡ before → GaveUp told left h (written ≡ before) file
-  gave_up b none = record {
-    printed_nothing = none;
-    holds = λ d. some_also file (StandsForEither s.history (latest s.history s.failed)) (StandsForMore h) (λ c either. either_more h s.history s.failed c b either) (closed.shown d);
-    images = λ c image. let i = closed.images c image in record { all = i.history; stands = i.stands; begins = i.from };
-  }
+  abbrev pub RanAsFar : Type 0
+  RanAsFar = LinesRanAsFar block_in program_semantics.does first_places h (sorted_lines input) s reads
+
+  gave_up : RanAsFar → written ≡ before → GaveUp told left h input reads (written ≡ before) file
+  gave_up ran none = record { printed_nothing = none; state = s; ran = ran; holds = closed.shown; images = closed.images }
 
   -- the transcript of a run that didn't stop is explained by what it left
   explained : Ran → stands_still s ≡ false → ExplainedUnlessPolicies s.history (transcript_in (position h) out)
@@ -105,21 +95,21 @@ module _ (told : Type 0) (left : List ℕ → Type 0) (sink_failed : Type 0) (h 
     disk_failed ran stops status p =
         subst (λ x. InputTo replies x told left sink_failed h input reads before written file) (sym p.0) (by_workers true Any (λ all. IsPrintedAfterFault replies sink_failed before written) ran stops tt p.1)
 
-    no_memory : Begins h s.history → (status : Status) → (status ≡ NoMemory) × (written ≡ before) → InputTo replies status told left sink_failed h input reads before written file
-    no_memory b status p = subst (λ x. InputTo replies x told left sink_failed h input reads before written file) (sym p.0) (gave_up b p.1)
+    no_memory : RanAsFar → (status : Status) → (status ≡ NoMemory) × (written ≡ before) → InputTo replies status told left sink_failed h input reads before written file
+    no_memory far status p = subst (λ x. InputTo replies x told left sink_failed h input reads before written file) (sym p.0) (gave_up far p.1)
 
   -- what the run of an input that stopped so has done, once it was printed
   pub input_to : (replies : Replies) (stop : ParStop) (status : Status) → Prints replies stop (position h) out status sink_failed before written → (stop ≢ stops.NoMemory → Ran) → (stop ≢ stops.NoMemory → stands_still s ≡ is_disk_fault_of stop)
-      → Begins h s.history → InputTo replies status told left sink_failed h input reads before written file
-  input_to Plain stops.Done status (inl p) ran stop b = printed_whole Plain (ran (λ e. cc e)) (stop (λ e. cc e)) status p
-  input_to Plain stops.Done status (inr p) ran stop b = printed_part Plain (ran (λ e. cc e)) (stop (λ e. cc e)) status p
-  input_to Plain stops.DiskFault status p ran stop b = disk_failed Plain (ran (λ e. cc e)) (stop (λ e. cc e)) status p
-  input_to Plain stops.NoMemory status p ran stop b = no_memory Plain b status p
-  input_to Json stops.Done status (inl p) ran stop b = printed_whole Json (ran (λ e. cc e)) (stop (λ e. cc e)) status (p.0, (p.1, explained (ran (λ e. cc e)) (stop (λ e. cc e))))
-  input_to Json stops.Done status (inr (inl p)) ran stop b = printed_part Json (ran (λ e. cc e)) (stop (λ e. cc e)) status (p.0, (p.1, explained (ran (λ e. cc e)) (stop (λ e. cc e))))
-  input_to Json stops.Done status (inr (inr p)) ran stop b = no_memory Json b status p
-  input_to Json stops.DiskFault status p ran stop b = disk_failed Json (ran (λ e. cc e)) (stop (λ e. cc e)) status p
-  input_to Json stops.NoMemory status p ran stop b = no_memory Json b status p
+      → RanAsFar → InputTo replies status told left sink_failed h input reads before written file
+  input_to Plain stops.Done status (inl p) ran stop far = printed_whole Plain (ran (λ e. cc e)) (stop (λ e. cc e)) status p
+  input_to Plain stops.Done status (inr p) ran stop far = printed_part Plain (ran (λ e. cc e)) (stop (λ e. cc e)) status p
+  input_to Plain stops.DiskFault status p ran stop far = disk_failed Plain (ran (λ e. cc e)) (stop (λ e. cc e)) status p
+  input_to Plain stops.NoMemory status p ran stop far = no_memory Plain far status p
+  input_to Json stops.Done status (inl p) ran stop far = printed_whole Json (ran (λ e. cc e)) (stop (λ e. cc e)) status (p.0, (p.1, explained (ran (λ e. cc e)) (stop (λ e. cc e))))
+  input_to Json stops.Done status (inr (inl p)) ran stop far = printed_part Json (ran (λ e. cc e)) (stop (λ e. cc e)) status (p.0, (p.1, explained (ran (λ e. cc e)) (stop (λ e. cc e))))
+  input_to Json stops.Done status (inr (inr p)) ran stop far = no_memory Json far status p
+  input_to Json stops.DiskFault status p ran stop far = disk_failed Json (ran (λ e. cc e)) (stop (λ e. cc e)) status p
+  input_to Json stops.NoMemory status p ran stop far = no_memory Json far status p
 
 -- ---- the input
 
@@ -142,12 +132,11 @@ too_long (Some xs) (Some ys) out p = p.0
 module _ (replies : Replies) (told : Type 0) (left : List ℕ → Type 0) (sink_failed : Type 0) (o : Outside) where
   module _ (h : History) (stood : IfSome o.file_before (λ file. Stands file h)) where
     -- no statement was run, over a journal that stands for the opening history
-    pub ran_nothing : o.written ≡ o.written_before → (told → Holds o.file h) → ((c : List ℕ) → left c → Stands c h) → RanNothing told left o
-    ran_nothing same_text holds images = record {
-      opening = h;
-      stood = stood;
-      ran = record { printed_nothing = same_text; holds = holds; images = images };
-    }
+    pub ran_nothing : o.written ≡ o.written_before → (told → Holds o.file h) → ((c : List ℕ) → left c → Stands c h) → o.reads ≡ 0 → RanNothing told left o
+    ran_nothing same_text holds images none = (
+      record { opening = h; stood = stood; ran = record { printed_nothing = same_text; holds = holds; images = images } },
+      none,
+    )
 
     module _ (input : List ℕ) (read : IfSome o.input (λ i. ReadWhole i o.rest × (i ≡ input))) where
       over_input : (status : Status) → InputTo replies status told left sink_failed h input o.reads o.written_before o.written o.file → InputRan replies status told left sink_failed o
@@ -184,15 +173,15 @@ module _ (replies : Replies) (told : Type 0) (left : List ℕ → Type 0) (sink_
   par_or_not InputLong unread unprinted kept ran = ran
 
   -- one that opened no journal
-  pub not_opened_par : (unread unprinted kept : Type 0) → unread × unprinted → (status : Status) → NotOpened status told left kept o.file_before o.file → ParTo replies status told left sink_failed unread unprinted kept o
+  pub not_opened_par : (unread unprinted kept : Type 0) → unread × unprinted × (o.reads ≡ 0) → (status : Status) → NotOpened status told left kept o.file_before o.file → ParTo replies status told left sink_failed unread unprinted kept o
   not_opened_par unread unprinted kept still Done n = absurd n
   not_opened_par unread unprinted kept still Refused n = absurd n
   not_opened_par unread unprinted kept still BadWords n = absurd n
   not_opened_par unread unprinted kept still ReadFault n = absurd n
   not_opened_par unread unprinted kept still WriteFault n = absurd n
-  not_opened_par unread unprinted kept still DiskFault n = inl (still.0, still.1, n)
-  not_opened_par unread unprinted kept still (Damaged at) n = ((still.0, still.1, n.0), n.1)
-  not_opened_par unread unprinted kept still NoMemory n = inl (still.0, still.1, n)
+  not_opened_par unread unprinted kept still DiskFault n = inl (still.0, still.1, n, still.2)
+  not_opened_par unread unprinted kept still (Damaged at) n = ((still.0, still.1, n.0, still.2), n.1)
+  not_opened_par unread unprinted kept still NoMemory n = inl (still.0, still.1, n, still.2)
   not_opened_par unread unprinted kept still InputLong n = absurd n
 
 -- a call that opened no journal prints nothing, and so no fault of the sink is told
@@ -260,6 +249,28 @@ counted_by Json stops.Done start out status sink_failed before written first now
 counted_by Json stops.Done start out status sink_failed before written first now (inr (inr p)) is g = counted_memory first now g status p.0
 counted_by Json stops.DiskFault start out status sink_failed before written first now p is g = counted_disk first now g status p.0 (is (λ e. cc e))
 counted_by Json stops.NoMemory start out status sink_failed before written first now p is g = counted_memory first now g status p.0
+
+-- ---- a call that went on
+
+-- where neither the disk nor want of memory ended it, its run stopped at its end
+module _ (P : Type 0) where
+  went_answered : (status : Status) (fault : Bool) → status ≡ status_answered fault → P → IfWentOn status P
+  went_answered status true is there = subst (λ x. IfWentOn x P) (sym is) there
+  went_answered status false is there = subst (λ x. IfWentOn x P) (sym is) there
+
+  went_so : (status end : Status) → status ≡ end → IfWentOn end P → IfWentOn status P
+  went_so status end is there = subst (λ x. IfWentOn x P) (sym is) there
+
+  pub went_by : (replies : Replies) (stop : ParStop) (start : ℕ) (out : Output) (status : Status) (sink_failed : Type 0) (before written : Option (List ℕ)) → Prints replies stop start out status sink_failed before written → (stop ≡ stops.Done → P) → IfWentOn status P
+  went_by Plain stops.Done start out status sink_failed before written (inl p) there = went_answered status out.fault p.0 (there refl)
+  went_by Plain stops.Done start out status sink_failed before written (inr p) there = went_so status WriteFault p.0 (there refl)
+  went_by Plain stops.DiskFault start out status sink_failed before written p there = went_so status DiskFault p.0 tt
+  went_by Plain stops.NoMemory start out status sink_failed before written p there = went_so status NoMemory p.0 tt
+  went_by Json stops.Done start out status sink_failed before written (inl p) there = went_answered status out.fault p.0 (there refl)
+  went_by Json stops.Done start out status sink_failed before written (inr (inl p)) there = went_so status WriteFault p.0 (there refl)
+  went_by Json stops.Done start out status sink_failed before written (inr (inr p)) there = went_so status NoMemory p.0 tt
+  went_by Json stops.DiskFault start out status sink_failed before written p there = went_so status DiskFault p.0 tt
+  went_by Json stops.NoMemory start out status sink_failed before written p there = went_so status NoMemory p.0 tt
 
 -- one that opened no journal tells of the disk's fault as its parts do
 pub not_opened_disk : (status : Status) (before now : ℕ) → Counted before now (is_disk_fault status) → CountedAfterWorkers status before now

@@ -1,5 +1,5 @@
 -- What a call that audits a transcript beside its journal has printed, by how it ended.
-use Rattle.std.specs.Prelude.{◌≡◌, ◌⊎◌, ◌<◌, ℕ, List, [], ◌++◌, Option, codes, decimal, length, IfSome}
+use Rattle.std.specs.Prelude.{◌≡◌, ◌⊎◌, ◌<◌, ℕ, List, [], ◌++◌, Option, codes, decimal, length, ⊤, IfSome}
 use Rattle.std.specs.Io.KnownBytes.{Appends}
 use Rattle.ts_io.specs.Whole.{AppendsPart}
 use Rattle.ts_io.specs.declared.limits.TheConstants.{INPUT_LIMIT}
@@ -41,10 +41,9 @@ status_audited other = Refused
 
 -- ---- what was done
 
--- a whole text was audited over a history, and this is so of the answer
-pub record Audited (h : History) (text : List ℕ) (rest : Option (List ℕ)) (Is : Audit → Type 0) : Type 0 where
+-- a text was audited over a history, and this is so of the answer
+pub record Audited (h : History) (text : List ℕ) (Is : Audit → Type 0) : Type 0 where
   pub audit : Audit
-  pub read : ReadWhole text rest
   pub answers : Answers h text audit
   pub is : Is audit
 
@@ -54,31 +53,36 @@ pub record PrintedAudit (status : Status) (before written : Option (List ℕ)) (
   pub ended : status ≡ status_audited audit
   pub printed : Appends before written (audit_text (position h) audit)
 
--- what the reading of a text and its audit over a history came to that ended so
-abbrev pub Audits :
-    History → Status → Type 0 → Option (List ℕ) → Option (List ℕ) → Option (List ℕ) → Option (List ℕ) → Type 0
-Audits h Done unprinted input rest before written =
-    IfSome input (λ text. Audited h text rest (PrintedAudit Done before written h))
-Audits h Refused unprinted input rest before written =
-    IfSome input (λ text. Audited h text rest (PrintedAudit Refused before written h))
-Audits h WriteFault unprinted input rest before written =
-    IfSome input (λ text. Audited h text rest (λ audit. AppendsPart before written (audit_text (position h) audit)))
-Audits h ReadFault unprinted input rest before written = unprinted
-Audits h NoMemory unprinted input rest before written = unprinted
-Audits h InputLong unprinted input rest before written =
-    unprinted × IfSome input (λ text. INPUT_LIMIT < length text)
-Audits h other unprinted input rest before written = ⊥
+-- what the audit of a text over a history came to that ended so
+abbrev pub Audits : History → Status → Type 0 → List ℕ → Option (List ℕ) → Option (List ℕ) → Type 0
+Audits h Done unprinted text before written = Audited h text (PrintedAudit Done before written h)
+Audits h Refused unprinted text before written = Audited h text (PrintedAudit Refused before written h)
+Audits h WriteFault unprinted text before written =
+    Audited h text (λ audit. AppendsPart before written (audit_text (position h) audit))
+Audits h NoMemory unprinted text before written = unprinted
+Audits h other unprinted text before written = ⊥
 
--- and over the history that the journal stood for
-abbrev pub AuditsOver : Status → Type 0 → Outside → Type 0
-AuditsOver status unprinted o = Over o (λ h. Audits h status unprinted o.input o.rest o.written_before o.written)
+-- and of one over the history that the journal stands for
+abbrev pub AuditsBeside : Status → Type 0 → List ℕ → Outside → Type 0
+AuditsBeside DiskFault unprinted text o = unprinted
+AuditsBeside (Damaged at) unprinted text o = unprinted × IsDamaged at o
+AuditsBeside NoMemory unprinted text o = unprinted
+AuditsBeside status unprinted text o =
+    Over o (λ h. Audits h status unprinted text o.written_before o.written)
 
--- what an audit that ended so has done. It reads the text once the journal stands for a history
+-- the source was read to its end, and this is so of the text that it gave
+pub record OfWholeText (o : Outside) (Is : List ℕ → Type 0) : Type 0 where
+  pub text : List ℕ
+  pub read : IfSome o.input (λ input. ReadWhole input o.rest × (input ≡ text))
+  pub is : Is text
+
+-- what an audit that ended so has done. It reads its text to the end before it asks anything of the disk: where the
+-- text can't be read, no call was made of the disk, and where the journal can't be, the text was read
 abbrev pub AuditTo : Status → Type 0 → Type 0 → Outside → Type 0
-AuditTo DiskFault unread unprinted o = unread × unprinted
-AuditTo (Damaged at) unread unprinted o = unread × unprinted × IsDamaged at o
-AuditTo NoMemory unread unprinted o = (unread × unprinted) ⊎ AuditsOver NoMemory unprinted o
-AuditTo status unread unprinted o = AuditsOver status unprinted o
+AuditTo ReadFault unprinted unasked o = unprinted × unasked
+AuditTo InputLong unprinted unasked o = unprinted × unasked × IfSome o.input (λ text. INPUT_LIMIT < length text)
+AuditTo NoMemory unprinted unasked o = unprinted × (unasked ⊎ OfWholeText o (λ text. ⊤))
+AuditTo status unprinted unasked o = OfWholeText o (λ text. AuditsBeside status unprinted text o)
 
 -- ---- printing
 

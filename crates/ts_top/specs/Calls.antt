@@ -32,31 +32,32 @@ DemoTo demo NoMemory unprinted o = unprinted
 DemoTo demo other unprinted o = ⊥
 
 -- what a call with this command has done. One that prints, and the demonstration, read no input and leave the disk as
--- it was; a checkpoint reads no input
+-- it was; a checkpoint reads no input. `unasked` says that the disk is the very one that was handed in
 abbrev pub Outcome :
-    Command → Status → Type 0 → (List ℕ → Type 0) → Type 0 → Type 0 → Type 0 → Type 0 → Outside → Type 0
-Outcome Run status told left sink_failed unread unprinted kept o =
+    Command → Status → Type 0 → (List ℕ → Type 0) → Type 0 → Type 0 → Type 0 → Type 0 → Type 0 → Outside → Type 0
+Outcome Run status told left sink_failed unread unprinted kept unasked o =
     RanTo status told left unread unprinted kept o
-Outcome Par status told left sink_failed unread unprinted kept o =
+Outcome Par status told left sink_failed unread unprinted kept unasked o =
     ParTo Plain status told left sink_failed unread unprinted kept o
-Outcome ParJson status told left sink_failed unread unprinted kept o =
+Outcome ParJson status told left sink_failed unread unprinted kept unasked o =
     ParTo Json status told left sink_failed unread unprinted kept o
-Outcome (Demo demo) status told left sink_failed unread unprinted kept o =
+Outcome (Demo demo) status told left sink_failed unread unprinted kept unasked o =
     unread × kept × DemoTo demo status unprinted o
-Outcome (Print text) status told left sink_failed unread unprinted kept o =
-    unread × kept × PrintedTo (text_of text) status unprinted o
-Outcome Checkpoint status told left sink_failed unread unprinted kept o =
+Outcome (Print text) status told left sink_failed unread unprinted kept unasked o =
+    unread × kept × (o.reads ≡ 0) × PrintedTo (text_of text) status unprinted o
+Outcome Checkpoint status told left sink_failed unread unprinted kept unasked o =
     unread × (o.reads ≡ 0) × CheckpointTo status told left unprinted kept o
-Outcome Audit status told left sink_failed unread unprinted kept o =
-    kept × (o.reads ≡ 0) × AuditTo status unread unprinted o
+Outcome Audit status told left sink_failed unread unprinted kept unasked o =
+    kept × (o.reads ≡ 0) × AuditTo status unprinted unasked o
 
 -- what a call with these words has done: where they ask for nothing, that is all
 abbrev pub OutcomeOf :
-    Option Command → Status → Type 0 → (List ℕ → Type 0) → Type 0 → Type 0 → Type 0 → Type 0 → Outside → Type 0
-OutcomeOf None status told left sink_failed unread unprinted kept o =
-    (status ≡ BadWords) × Untouched unread unprinted kept
-OutcomeOf (Some command) status told left sink_failed unread unprinted kept o =
-    Outcome command status told left sink_failed unread unprinted kept o
+    Option Command → Status → Type 0 → (List ℕ → Type 0) → Type 0 → Type 0 → Type 0 → Type 0 → Type 0 → Outside
+    → Type 0
+OutcomeOf None status told left sink_failed unread unprinted kept unasked o =
+    (status ≡ BadWords) × Untouched unread unprinted kept o
+OutcomeOf (Some command) status told left sink_failed unread unprinted kept unasked o =
+    Outcome command status told left sink_failed unread unprinted kept unasked o
 
 -- P of a call that writes to the journal
 abbrev pub IfWrites : Option Command → Type 0 → Type 0
@@ -68,17 +69,6 @@ IfWrites (Some (Demo demo)) P = ⊤
 IfWrites (Some (Print text)) P = ⊤
 IfWrites (Some Checkpoint) P = P
 IfWrites (Some Audit) P = ⊤
-
--- P of a checkpoint
-abbrev pub IfCheckpoint : Option Command → Type 0 → Type 0
-IfCheckpoint None P = ⊤
-IfCheckpoint (Some Run) P = ⊤
-IfCheckpoint (Some Par) P = ⊤
-IfCheckpoint (Some ParJson) P = ⊤
-IfCheckpoint (Some (Demo demo)) P = ⊤
-IfCheckpoint (Some (Print text)) P = ⊤
-IfCheckpoint (Some Checkpoint) P = P
-IfCheckpoint (Some Audit) P = ⊤
 
 -- P of a call that runs the demonstration
 abbrev pub IfDemo : Option Command → Type 0 → Type 0

@@ -108,9 +108,9 @@ pub record Over (o : Outside) (Ran : History → Type 0) : Type 0 where
 abbrev pub OverScript : Outside → (History → List ℕ → Type 0) → Type 0
 OverScript o Ran = Over o (λ h. IfSome o.input (Ran h))
 
--- nothing was read, nothing was printed, and the disk stayed as it was
-abbrev pub Untouched : Type 0 → Type 0 → Type 0 → Type 0
-Untouched unread unprinted kept = unread × unprinted × kept
+-- nothing was read, nothing was printed, the disk stayed as it was, and no stored row was looked at
+abbrev pub Untouched : Type 0 → Type 0 → Type 0 → Outside → Type 0
+Untouched unread unprinted kept o = unread × unprinted × kept × (o.reads ≡ 0)
 
 -- the disk failed while the journal's header was written: reads give a file that stands for the opening history as
 -- before, and a crash might have left one
@@ -120,10 +120,11 @@ pub record HeaderFailed (told : Type 0) (left : List ℕ → Type 0) (before aft
   pub holds : told → Holds after opening
   pub images : (c : List ℕ) → left c → Stands c opening
 
--- nothing was read and nothing printed, and the disk stayed as it was, or failed while the header was written
+-- nothing was read and nothing printed, no stored row was looked at, and the disk stayed as it was, or failed while the
+-- header was written
 abbrev pub NotBegun : Type 0 → (List ℕ → Type 0) → Type 0 → Type 0 → Type 0 → Outside → Type 0
 NotBegun told left unread unprinted kept o =
-    unread × unprinted × (kept ⊎ HeaderFailed told left o.file_before o.file)
+    unread × unprinted × (kept ⊎ HeaderFailed told left o.file_before o.file) × (o.reads ≡ 0)
 
 -- and this is where the file is damaged, so that it stands for no history
 abbrev pub IsDamaged : ℕ → Outside → Type 0
@@ -145,9 +146,9 @@ RanTo WriteFault told left unread unprinted kept o =
 RanTo DiskFault told left unread unprinted kept o =
     NotBegun told left unread unprinted kept o
     ⊎ OverScript o (λ h input. RanWithin told left h (executed_lines input) o)
-RanTo (Damaged at) told left unread unprinted kept o = Untouched unread unprinted kept × IsDamaged at o
+RanTo (Damaged at) told left unread unprinted kept o = Untouched unread unprinted kept o × IsDamaged at o
 RanTo NoMemory told left unread unprinted kept o =
-    Untouched unread unprinted kept ⊎ OverScript o (λ h input. RanWithin told left h (executed_lines input) o)
+    Untouched unread unprinted kept o ⊎ OverScript o (λ h input. RanWithin told left h (executed_lines input) o)
 RanTo InputLong told left unread unprinted kept o =
     OverScript o (λ h input. (INPUT_LIMIT < length input) × RanWhole told left h (executed_lines input) o)
 

@@ -6,12 +6,12 @@ use Rattle.ts_io.specs.Whole.{AppendsPart}
 use Rattle.ts_io.specs.declared.limits.TheConstants.{INPUT_LIMIT}
 use Rattle.ts_model.specs.History.{History, position}
 use Rattle.ts_model.specs.States.{State, stands_still}
-use Rattle.ts_top.specs.Scripts.{first_places, program_replies}
-use Rattle.ts_store.specs.Images.{IsBetween, StandsForEither, StandsForMore, latest}
+use Rattle.ts_top.specs.Scripts.{block_in, first_places, program_replies, program_semantics}
+use Rattle.ts_store.specs.Images.{IsBetween, StandsForEither, latest}
 use Rattle.ts_store.specs.Stands.{Stands}
 use Rattle.script_run.specs.Runs.{ReadWhole}
 use Rattle.par_lines.specs.Sorted.{sorted_lines}
-use Rattle.par_run.specs.Crews.{LinesRan}
+use Rattle.par_run.specs.Crews.{LinesRan, LinesRanAsFar}
 use Rattle.par_run.specs.Outputs.{Output}
 use Rattle.par_run.specs.declared.ends.ParStop.{ParStop}
 use Rattle.par_run.specs.declared.ends.ParStop.TheVariants as stops
@@ -56,13 +56,16 @@ pub record NothingRan (told : Type 0) (left : List ℕ → Type 0) (h : History)
   pub holds : told → Holds file h
   pub images : (c : List ℕ) → left c → Stands c h
 
--- memory ran out while workers ran: nothing was printed, and the journal stands for a history that begins with the
--- opening one
-pub record GaveUp (told : Type 0) (left : List ℕ → Type 0) (h : History) (unprinted : Type 0)
-    (file : Option (List ℕ)) : Type 0 where
+-- memory ran out while workers ran, or for what is printed: nothing was printed. Sessions had run as far as memory
+-- sufficed, looked at so many stored rows, and left a state. The journal stands for its history, or for that and the
+-- event at which the disk failed
+pub record GaveUp (told : Type 0) (left : List ℕ → Type 0) (h : History) (input : List ℕ) (reads : ℕ)
+    (unprinted : Type 0) (file : Option (List ℕ)) : Type 0 where
   pub printed_nothing : unprinted
-  pub holds : told → IsSomeAnd file (StandsForMore h)
-  pub images : (c : List ℕ) → left c → StandsForMore h c
+  pub state : State
+  pub ran : LinesRanAsFar block_in program_semantics.does first_places h (sorted_lines input) state reads
+  pub holds : told → IsSomeAnd file (StandsForEither state.history (latest state.history state.failed))
+  pub images : (c : List ℕ) → left c → IsBetween h state.history state.failed c
 
 -- over a history an input was run by a worker for each session. They looked at so many stored rows, and left a state
 -- and an output, of which this was written, told by the history that they left. The journal stands for that history,
@@ -109,7 +112,7 @@ InputTo replies WriteFault told left sink_failed h input reads before written fi
 InputTo replies DiskFault told left sink_failed h input reads before written file =
     ByWorkers told left h input reads true Any (λ all. IsPrintedAfterFault replies sink_failed before written) file
 InputTo replies NoMemory told left sink_failed h input reads before written file =
-    GaveUp told left h (written ≡ before) file
+    GaveUp told left h input reads (written ≡ before) file
 InputTo replies other told left sink_failed h input reads before written file = ⊥
 
 -- the whole input was read, and its run did this
@@ -119,9 +122,10 @@ InputRan replies status told left sink_failed o =
     (λ h input. ReadWhole input o.rest
     × InputTo replies status told left sink_failed h input o.reads o.written_before o.written o.file)
 
--- over the opening history no statement was run
+-- over the opening history no statement was run, and no stored row was looked at
 abbrev pub RanNothing : Type 0 → (List ℕ → Type 0) → Outside → Type 0
-RanNothing told left o = Over o (λ h. NothingRan told left h (o.written ≡ o.written_before) o.file)
+RanNothing told left o =
+    Over o (λ h. NothingRan told left h (o.written ≡ o.written_before) o.file) × (o.reads ≡ 0)
 
 -- what a parallel run that ended so has done
 abbrev pub ParTo :
@@ -134,9 +138,9 @@ ParTo replies WriteFault told left sink_failed unread unprinted kept o = InputRa
 ParTo replies DiskFault told left sink_failed unread unprinted kept o =
     NotBegun told left unread unprinted kept o ⊎ InputRan replies DiskFault told left sink_failed o
 ParTo replies (Damaged at) told left sink_failed unread unprinted kept o =
-    Untouched unread unprinted kept × IsDamaged at o
+    Untouched unread unprinted kept o × IsDamaged at o
 ParTo replies NoMemory told left sink_failed unread unprinted kept o =
-    Untouched unread unprinted kept ⊎ RanNothing told left o ⊎ InputRan replies NoMemory told left sink_failed o
+    Untouched unread unprinted kept o ⊎ RanNothing told left o ⊎ InputRan replies NoMemory told left sink_failed o
 ParTo replies InputLong told left sink_failed unread unprinted kept o =
     RanNothing told left o × IfSome o.input (λ input. INPUT_LIMIT < length input)
 

@@ -1,7 +1,7 @@
 -- What scripts write and make, over the history that a journal opens with.
 use Rattle.std.specs.Prelude.{ℕ, Bool, List, []}
 use Rattle.ts_model.specs.History.{History}
-use Rattle.ts_sessions.specs.Places.{Places, Turn, no_places}
+use Rattle.ts_sessions.specs.Places.{Block, Places, Turn, no_places}
 use Rattle.ts_sessions.specs.Procedures.{Procedure}
 use Rattle.ts_sessions.specs.Replies.{reply_to}
 use Rattle.ts_sessions.specs.Script.{Semantics, session_semantics}
@@ -15,6 +15,10 @@ program_semantics = policy_semantics (λ p. p.block) session_semantics
 -- what the replies to them say
 abbrev pub program_replies : PolicyPlaces Places → List ℕ → ℕ → Procedure (Turn (PolicyPlaces Places))
 program_replies = policy_does reply_to (λ p. p.block)
+
+-- the block that a session is in
+abbrev pub block_in : PolicyPlaces Places → Block
+block_in p = p.inner.block
 
 -- the places of a session at its first line
 abbrev pub first_places : PolicyPlaces Places

@@ -5,7 +5,7 @@ ghost use Rattle.ts_disk.specs.Disk.{Keeps};
 ghost use Rattle.ts_io.specs.Faults.{Counted};
 ghost use Rattle.ts_model.specs.History.{position};
 ghost use Rattle.engine_core.specs.Histories.{history_of};
-ghost use Rattle.ts_top.specs.Audits.{AuditTo, AuditTold, Audits, PrintsAudit, reply_line, yes_text};
+ghost use Rattle.ts_top.specs.Audits.{AuditTo, AuditTold, AuditsBeside, PrintsAudit, reply_line, yes_text};
 ghost use Rattle.ts_top.specs.Endings.{is_disk_fault, is_read_fault, is_write_fault};
 
 use crate::checkpoints::print_line;
@@ -140,54 +140,18 @@ fn audit_read<R: Threads + Sync, K: Sink>(
     print_audit(sink, found, end)
 }
 
-/// Reads a whole text, and prints whether the history of a ledger explains the transcript that it is.
-fn audit_source<R, S, K>(
-    rt: &R,
-    alloc: Global,
-    source: &mut S,
-    sink: &mut K,
-    ledger: &Ledger,
-) -> Status
+/// Prints whether the history that the journal on the disk stands for explains the transcript that a text is.
+/// The disk stays as it was. The history stays with the process, which is at its end: freeing its events one
+/// by one would take time.
+fn audit_beside<R, K, D>(rt: &R, alloc: Global, text: &[u8], sink: &mut K, disk: D) -> Ended<D>
 where
     R: Threads + Sync,
-    S: Source,
-    K: Sink,
-    requires sync { IsSync R.row }
-    requires untold { S.ended source.old ≡ false }
-    ensures audits { Audits (history_of ledger.now.past) result (sink.new ≡ sink.old)
-        (S.left source.old) (S.left source.new) (K.written sink.old) (K.written sink.new) }
-    ensures reads { Counted (S.faults source.old) (S.faults source.new) (is_read_fault result) }
-    ensures writes { Counted (K.faults sink.old) (K.faults sink.new) (is_write_fault result) }
-{
-    let mut text = Vec::new(alloc);
-    match read_all(source, &mut text) {
-        AllEnd::End => audit_read(rt, alloc, &text, sink, ledger),
-        AllEnd::InputLong => Status::InputLong,
-        AllEnd::ReadFault => Status::ReadFault,
-        AllEnd::NoMemory => Status::NoMemory,
-    }
-}
-
-/// Reads a transcript, and prints whether the history that the journal on the disk stands for explains it.
-/// The text is read once the journal stands for a history, and the disk stays as it was. The history stays
-/// with the process, which is at its end: letting go of its events one by one would take time.
-pub(crate) fn audit_transcript<R, S, K, D>(
-    rt: &R,
-    alloc: Global,
-    source: &mut S,
-    sink: &mut K,
-    disk: D,
-) -> Ended<D>
-where
-    R: Threads + Sync,
-    S: Source,
     K: Sink,
     D: Disk,
     requires sync { IsSync R.row }
-    requires untold { S.ended source.old ≡ false }
-    ensures outcome { AuditTo result.status (source.new ≡ source.old) (sink.new ≡ sink.old) (record {
-      input = S.left source.old;
-      rest = S.left source.new;
+    ensures outcome { (input rest : Option (List ℕ)) → AuditsBeside result.status (sink.new ≡ sink.old) text.now (record {
+      input = input;
+      rest = rest;
       written_before = K.written sink.old;
       written = K.written sink.new;
       file_before = D.bytes disk;
@@ -196,13 +160,12 @@ where
     }) }
     ensures kept { Keeps D.bytes D.may_leave D.moment D.left_since disk result.disk }
     ensures uncounted { result.reads ≡ 0 }
-    ensures reads { Counted (S.faults source.old) (S.faults source.new) (is_read_fault result.status) }
     ensures writes { Counted (K.faults sink.old) (K.faults sink.new) (is_write_fault result.status) }
     ensures disk { Counted (D.faults disk) (D.faults result.disk) (is_disk_fault result.status) }
 {
     match read_history(rt, alloc, disk) {
         HistoryRead::Ready { disk, ledger } => {
-            let status = audit_source(rt, alloc, source, sink, &ledger);
+            let status = audit_read(rt, alloc, text, sink, &ledger);
             forget(ledger);
             Ended {
                 status,
@@ -221,6 +184,59 @@ where
             reads: 0,
         },
         HistoryRead::NoMemory(disk) => Ended {
+            status: Status::NoMemory,
+            disk,
+            reads: 0,
+        },
+    }
+}
+
+/// Reads a transcript, and prints whether the history that the journal on the disk stands for explains it.
+/// The journal is read once the text has ended: the run that writes the transcript may write the journal
+/// until then.
+pub(crate) fn audit_transcript<R, S, K, D>(
+    rt: &R,
+    alloc: Global,
+    source: &mut S,
+    sink: &mut K,
+    disk: D,
+) -> Ended<D>
+where
+    R: Threads + Sync,
+    S: Source,
+    K: Sink,
+    D: Disk,
+    requires sync { IsSync R.row }
+    requires untold { S.ended source.old ≡ false }
+    ensures outcome { AuditTo result.status (sink.new ≡ sink.old) (result.disk ≡ disk) (record {
+      input = S.left source.old;
+      rest = S.left source.new;
+      written_before = K.written sink.old;
+      written = K.written sink.new;
+      file_before = D.bytes disk;
+      file = D.bytes result.disk;
+      reads = result.reads;
+    }) }
+    ensures kept { Keeps D.bytes D.may_leave D.moment D.left_since disk result.disk }
+    ensures uncounted { result.reads ≡ 0 }
+    ensures reads { Counted (S.faults source.old) (S.faults source.new) (is_read_fault result.status) }
+    ensures writes { Counted (K.faults sink.old) (K.faults sink.new) (is_write_fault result.status) }
+    ensures disk { Counted (D.faults disk) (D.faults result.disk) (is_disk_fault result.status) }
+{
+    let mut text = Vec::new(alloc);
+    match read_all(source, &mut text) {
+        AllEnd::End => audit_beside(rt, alloc, &text, sink, disk),
+        AllEnd::InputLong => Ended {
+            status: Status::InputLong,
+            disk,
+            reads: 0,
+        },
+        AllEnd::ReadFault => Ended {
+            status: Status::ReadFault,
+            disk,
+            reads: 0,
+        },
+        AllEnd::NoMemory => Ended {
             status: Status::NoMemory,
             disk,
             reads: 0,

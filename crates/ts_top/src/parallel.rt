@@ -7,19 +7,19 @@ ghost use Rattle.ts_io.specs.Faults.{Counted};
 ghost use Rattle.ts_io.specs.declared.limits.TheConstants.{INPUT_LIMIT};
 ghost use Rattle.ts_model.specs.History.{position};
 ghost use Rattle.ts_model.specs.States.{stands_still};
-ghost use Rattle.ts_top.specs.Scripts.{first_places, program_replies};
+ghost use Rattle.ts_top.specs.Scripts.{block_in, first_places, program_replies, program_semantics};
 ghost use Rattle.shared_store.specs.Wrapped.{GoesOn};
 ghost use Rattle.par_lines.specs.Sorted.{sorted_lines};
-ghost use Rattle.par_run.specs.Crews.{LinesRan};
+ghost use Rattle.par_run.specs.Crews.{LinesRan, LinesRanAsFar};
 ghost use Rattle.par_run.specs.Ends.{is_disk_fault};
 ghost use Rattle.par_run.specs.Outputs.{output_of};
-ghost use Rattle.ts_store.specs.Images.{HasHeader};
+ghost use Rattle.ts_store.specs.Images.{HasHeader, IsDurable};
 ghost use Rattle.ts_store.specs.Stands.{Stands};
 ghost use Rattle.ts_store.specs.Stores.{opening_history, history_seen};
 ghost use Rattle.par_transcript.specs.Made.{transcript_in, transcript_of};
 ghost use Rattle.transcript.specs.Ascii.{is_ascii_transcript};
 ghost use Rattle.ts_top.specs.Endings.{is_read_fault, is_write_fault};
-ghost use Rattle.ts_top.specs.Outcomes.{Holds, HeaderAfter, LeftAfter};
+ghost use Rattle.ts_top.specs.Outcomes.{Holds, HeaderAfter, IfWentOn, LeftAfter};
 ghost use Rattle.ts_top.specs.Parallel.{CountedAfterDisk, CountedAfterPrinting, CountedAfterWorkers, InputTo, ParTo, Prints, PrintsReplies, PrintsTranscript, output_in};
 
 use crate::endings::{Ended, Status, status_answered};
@@ -75,6 +75,8 @@ fn close_store<D: Disk>(store: Store<D>, status: Status) -> Ended<D>
     ensures images { (c : List ℕ)
         → LeftAfter D.bytes D.may_leave D.moment D.left_since store.begun result.disk c → Stands c (history_seen store) }
     ensures header { IsSome (D.bytes store.begun) → IsSomeAnd (D.bytes result.disk) HasHeader }
+    ensures lasting { IsDurable D.bytes D.may_leave store.begun → IsDurable D.bytes D.may_leave result.disk }
+    ensures uncounted { result.reads ≡ 0 }
     ensures counted { D.faults result.disk ≡ D.faults store.journal.disk }
 {
     Ended {
@@ -213,6 +215,8 @@ where
     requires within { length input.now ≤ INPUT_LIMIT }
     ensures ran { result.stop ≢ ParStop.NoMemory → LinesRan program_replies first_places
         (B.state backend).history (sorted_lines input.now) (B.state result.backend) (output_of result) result.reads }
+    ensures as_far { LinesRanAsFar block_in program_semantics.does first_places
+        (B.state backend).history (sorted_lines input.now) (B.state result.backend) result.reads }
     ensures start { result.start ≡ position (B.state backend).history }
     ensures stop { result.stop ≢ ParStop.NoMemory
         → stands_still (B.state result.backend) ≡ is_disk_fault result.stop }
@@ -246,6 +250,8 @@ where
         (Rose (K.faults sink.old) (K.faults sink.new)) (history_seen store) input.now result.reads
         (K.written sink.old) (K.written sink.new) (D.bytes result.disk) }
     ensures header { HeaderAfter result.status (IsSome (D.bytes store.begun)) (D.bytes result.disk) }
+    ensures lasting { IfWentOn result.status
+        (IsDurable D.bytes D.may_leave store.begun → IsDurable D.bytes D.may_leave result.disk) }
     ensures writes { CountedAfterPrinting replies result.status (K.faults sink.old) (K.faults sink.new) }
     ensures disk { CountedAfterWorkers result.status (D.faults store.journal.disk) (D.faults result.disk) }
 {
@@ -310,6 +316,8 @@ where
           reads = result.reads;
         }) }
     ensures header { HeaderAfter result.status (IsSome (D.bytes store.begun)) (D.bytes result.disk) }
+    ensures lasting { IfWentOn result.status
+        (IsDurable D.bytes D.may_leave store.begun → IsDurable D.bytes D.may_leave result.disk) }
     ensures reads { Counted (S.faults source.old) (S.faults source.new) (is_read_fault result.status) }
     ensures writes { CountedAfterPrinting replies result.status (K.faults sink.old) (K.faults sink.new) }
     ensures disk { CountedAfterWorkers result.status (D.faults store.journal.disk) (D.faults result.disk) }
@@ -355,6 +363,8 @@ where
           reads = result.reads;
         }) }
     ensures header { HeaderAfter result.status (IsSome (D.bytes disk)) (D.bytes result.disk) }
+    ensures lasting { IfWentOn result.status
+        (IsDurable D.bytes D.may_leave disk → IsDurable D.bytes D.may_leave result.disk) }
     ensures reads { Counted (S.faults source.old) (S.faults source.new) (is_read_fault result.status) }
     ensures writes { CountedAfterPrinting replies result.status (K.faults sink.old) (K.faults sink.new) }
     ensures disk { CountedAfterWorkers result.status (D.faults disk) (D.faults result.disk) }

@@ -236,6 +236,7 @@ pub(crate) fn print<R: Threads + Sync, K: Sink, D: Disk>(
           reads = result.reads;
         }) }
     ensures kept { Keeps D.bytes D.may_leave D.moment D.left_since disk result.disk }
+    ensures uncounted { result.reads ≡ 0 }
     ensures writes { Counted (K.faults sink.old) (K.faults sink.new) (is_write_fault result.status) }
     ensures disk { Counted (D.faults disk) (D.faults result.disk) (is_disk_fault result.status) }
 {

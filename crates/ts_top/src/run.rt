@@ -5,7 +5,7 @@ ghost use Rattle.ts_io.specs.Faults.{Counted};
 ghost use Rattle.ts_schema.specs.Faults.{Rose};
 ghost use Rattle.ts_store.specs.Images.{IsDurable};
 ghost use Rattle.ts_top.specs.Commands.{command_of};
-ghost use Rattle.ts_top.specs.Calls.{DiskCounted, IfCheckpoint, IfDemo, IfWrites, OutcomeOf, SinkCounted};
+ghost use Rattle.ts_top.specs.Calls.{DiskCounted, IfDemo, IfWrites, OutcomeOf, SinkCounted};
 ghost use Rattle.ts_top.specs.Endings.{is_read_fault};
 ghost use Rattle.ts_top.specs.Outcomes.{HeaderAfter, IfWentOn, LeftAfter};
 
@@ -55,7 +55,7 @@ where
     ensures outcome { OutcomeOf (command_of (map string_bytes words.now)) result.status
         (IsSome (D.bytes disk)) (LeftAfter D.bytes D.may_leave D.moment D.left_since disk result.disk)
         (Rose (K.faults sink.old) (K.faults sink.new)) (source.new ≡ source.old) (sink.new ≡ sink.old)
-        (Keeps D.bytes D.may_leave D.moment D.left_since disk result.disk)
+        (Keeps D.bytes D.may_leave D.moment D.left_since disk result.disk) (result.disk ≡ disk)
         (record {
           input = S.left source.old;
           rest = S.left source.new;
@@ -67,8 +67,8 @@ where
         }) }
     ensures header { IfWrites (command_of (map string_bytes words.now))
         (HeaderAfter result.status (IsSome (D.bytes disk)) (D.bytes result.disk)) }
-    // No later crash takes an image back.
-    ensures lasting { IfCheckpoint (command_of (map string_bytes words.now)) (IfWentOn result.status
+    // No later crash takes an event or an image back.
+    ensures lasting { IfWrites (command_of (map string_bytes words.now)) (IfWentOn result.status
         (IsDurable D.bytes D.may_leave disk → IsDurable D.bytes D.may_leave result.disk)) }
     ensures untouched { IfDemo (command_of (map string_bytes words.now)) (result.disk ≡ disk) }
     ensures reads { Counted (S.faults source.old) (S.faults source.new) (is_read_fault result.status) }

@@ -2,10 +2,11 @@
 ghost use Rattle.std.specs.Prelude.{◌≡◌, ℕ, List, None, Option, false, true, IfSome, IsSome};
 ghost use Rattle.ts_disk.specs.Disk.{Keeps};
 ghost use Rattle.ts_io.specs.Faults.{Counted};
+ghost use Rattle.ts_store.specs.Images.{IsDurable};
 ghost use Rattle.ts_store.specs.Stands.{Stands};
 ghost use Rattle.ts_store.specs.Stores.{opening_history, history_seen};
 ghost use Rattle.ts_top.specs.Endings.{is_disk_fault, is_read_fault, is_write_fault};
-ghost use Rattle.ts_top.specs.Outcomes.{RanTo, HeaderAfter, LeftAfter};
+ghost use Rattle.ts_top.specs.Outcomes.{IfWentOn, RanTo, HeaderAfter, LeftAfter};
 
 use crate::endings::{Ended, status_of};
 use crate::openings::open;
@@ -48,6 +49,8 @@ fn run_lines<R: Threads + Sync, S: Source, K: Sink, D: Disk>(
           reads = result.reads;
         }) }
     ensures header { HeaderAfter result.status (IsSome (D.bytes store.begun)) (D.bytes result.disk) }
+    ensures lasting { IfWentOn result.status
+        (IsDurable D.bytes D.may_leave store.begun → IsDurable D.bytes D.may_leave result.disk) }
     ensures reads { Counted (S.faults source.old) (S.faults source.new) (is_read_fault result.status) }
     ensures writes { Counted (K.faults sink.old) (K.faults sink.new) (is_write_fault result.status) }
     ensures disk { Counted (D.faults store.journal.disk) (D.faults result.disk) (is_disk_fault result.status) }
@@ -86,6 +89,8 @@ pub(crate) fn run<R: Threads + Sync, S: Source, K: Sink, D: Disk>(
           reads = result.reads;
         }) }
     ensures header { HeaderAfter result.status (IsSome (D.bytes disk)) (D.bytes result.disk) }
+    ensures lasting { IfWentOn result.status
+        (IsDurable D.bytes D.may_leave disk → IsDurable D.bytes D.may_leave result.disk) }
     ensures reads { Counted (S.faults source.old) (S.faults source.new) (is_read_fault result.status) }
     ensures writes { Counted (K.faults sink.old) (K.faults sink.new) (is_write_fault result.status) }
     ensures disk { Counted (D.faults disk) (D.faults result.disk) (is_disk_fault result.status) }

@@ -5,7 +5,7 @@
 use std::alloc::Global;
 use std::env;
 use std::fs::{File, Files};
-use std::io::{self, ErrorKind};
+use std::io::{self, BufRead, ErrorKind};
 use std::process::ExitCode;
 use std::rt::Env;
 use std::sync::Wait;
@@ -64,13 +64,19 @@ fn open<R: Files<File = File>>(rt: &R, writes: bool) -> io::Result<File> {
     Ok(file)
 }
 
-/// Does what the words ask for over this disk.
-fn run_over<R, D>(rt: &R, words: &[String], disk: D) -> Status
+/// Waits until the input gives a byte or ends. A run whose transcript is piped into an audit has made its
+/// journal by then, so the audit opens that one.
+fn wait_for_input<B: BufRead>(reader: &mut B) {
+    let _ = reader.fill_buf();
+}
+
+/// Does what the words ask for over this input and this disk.
+fn run_over<R, D>(rt: &R, words: &[String], reader: R::Reader, disk: D) -> Status
 where
     R: Input + Print + Threads + Wait + Sync + AllocGlobal,
     D: Disk + Send + Drop,
 {
-    let mut source = StdinSource::new(rt.reader());
+    let mut source = StdinSource::new(reader);
     let mut sink = StdoutSink::new(io::writer(rt));
     run_words(rt, rt.alloc(), words, &mut source, &mut sink, disk, &NoGate).status
 }
@@ -87,17 +93,24 @@ where
     let _input = File::open(rt, NOTHING);
     let _output = File::open(rt, NOTHING);
     let _error = File::open(rt, NOTHING);
-    let writes = command_of(words).is_some_and(Command::writes);
+    let command = command_of(words);
+    let mut reader = rt.reader();
+    if command == Some(Command::Audit) {
+        wait_for_input(&mut reader);
+    }
+    let writes = command.is_some_and(Command::writes);
     match open(rt, writes) {
-        Ok(file) => run_over(rt, words, FileDisk::new(file)),
+        Ok(file) => run_over(rt, words, reader, FileDisk::new(file)),
         Err(e) if !writes && e.kind() == ErrorKind::NotFound => run_over(
             rt,
             words,
+            reader,
             MemDisk::new(rt.alloc(), Vec::new(rt.alloc())),
         ),
         Err(_) => run_over(
             rt,
             words,
+            reader,
             FailDisk::stop_after(rt.alloc(), Vec::new(rt.alloc()), 0),
         ),
     }

@@ -6,7 +6,7 @@ use Rattle.std.proofs.lemmas.List.{map-append}
 use Rattle.txn_journal.specs.Contents.{Content, base_alone, content_from, is_base, payload_list, nothing}
 use Rattle.txn_journal.specs.Frames.{Follows, body, frames, front, payloads_at, payloads_of}
 use Rattle.txn_journal.specs.Reading.{based_on, with_next}
-use Rattle.txn_journal.specs.Recovering.{AreListed}
+use Rattle.txn_journal.specs.Recovering.{AreListed, BeginsIn}
 use Rattle.txn_journal.specs.declared.payloads.Payload.{Payload}
 use Rattle.txn_journal.specs.declared.versions.Version.{Version}
 use Rattle.txn_journal.proofs.ContentLaws.{all_without_base}
@@ -25,54 +25,69 @@ length-frames-push [] payload = omega (arith, length-append (body payload) [], l
 length-frames-push (p ∷ payloads) payload =
     omega (arith, length-frames-push payloads payload, length-append (body p) (frames payloads), length-append (body p) (frames (payloads ++ payload ∷ [])))
 
--- payloads with their places are what counts, up to this gate
-pub record ListedTo (payloads : List Payload) (content : Content) (at : ℕ) : Type 0 where
+-- payloads with their places are what counts in a file, up to this gate
+pub record ListedTo (file : List ℕ) (payloads : List Payload) (content : Content) (at : ℕ) : Type 0 where
   pub first : ℕ
   pub all : payloads_of payloads ≡ payload_list content
   pub places : payloads ≡ payloads_at first (payloads_of payloads)
   pub upto : at ≡ first + length (frames (payloads_of payloads))
-  pub begins : (payloads ≡ []) ⊎ ((first ≡ 8) ⊎ IsSome content.base)
+  pub begins : (payloads ≡ []) ⊎ BeginsIn file content.base first
 
-pub are_listed : (payloads : List Payload) (content : Content) (at : ℕ) → ListedTo payloads content at → AreListed payloads content
-are_listed payloads content at to = ⊎_elim
-    (λ none. record { first = 8; all = to.all; places = subst (λ (ps : List Payload). ps ≡ payloads_at 8 (payloads_of ps)) (sym none) refl; from_first_gate = inl refl })
-    (λ there. record { first = to.first; all = to.all; places = to.places; from_first_gate = there })
+-- where nothing counts there is no base
+no_base : (file : List ℕ) (content : Content) (first : ℕ) → payload_list content ≡ [] → (content.base ≡ None → first ≡ 8) → BeginsIn file content.base first
+no_base file content first none eight = by_base content.base refl
+  where
+    by_base : (base : Option (List ℕ)) → content.base ≡ base → BeginsIn file base first
+    by_base None is = eight is
+    by_base (Some b) is =
+        let some : b ∷ content.payloads ≡ [] = ap (λ (o : Option (List ℕ)). base_alone o ++ content.payloads) (sym is) ∙ none in
+        absurd (omega (arith, ap length some))
+
+pub are_listed : (file : List ℕ) (payloads : List Payload) (content : Content) (at : ℕ) → ListedTo file payloads content at → AreListed file payloads content
+are_listed file payloads content at to = ⊎_elim
+    (λ none. record {
+      first = 8;
+      all = to.all;
+      places = subst (λ (ps : List Payload). ps ≡ payloads_at 8 (payloads_of ps)) (sym none) refl;
+      begins = no_base file content 8 (sym to.all ∙ ap payloads_of none) (λ is. refl);
+    })
+    (λ there. record { first = to.first; all = to.all; places = to.places; begins = there })
     to.begins
 
-pub none_listed : (payloads : List Payload) (at : ℕ) → payloads ≡ [] → ListedTo payloads nothing at
-none_listed payloads at is = subst (λ (ps : List Payload). ListedTo ps nothing at) (sym is) (record { first = at; all = refl; places = refl; upto = omega arith; begins = inl refl })
+pub none_listed : (file : List ℕ) (payloads : List Payload) (at : ℕ) → payloads ≡ [] → ListedTo file payloads nothing at
+none_listed file payloads at is = subst (λ (ps : List Payload). ListedTo file ps nothing at) (sym is) (record { first = at; all = refl; places = refl; upto = omega arith; begins = inl refl })
 
 -- a base alone
-pub base_listed : (new : List Payload) (bytes : List ℕ) (at later : ℕ) → new ≡ record { bytes = bytes; at = at } ∷ [] → later ≡ at + 5 + length bytes → ListedTo new (based_on bytes) later
-base_listed new bytes at later is moves =
+pub base_listed : (file : List ℕ) (version : Version) (content : Content) (new : List Payload) (bytes : List ℕ) (at later : ℕ) → new ≡ record { bytes = bytes; at = at } ∷ [] → later ≡ at + 5 + length bytes
+    → Follows file version content bytes at → ListedTo file new (based_on bytes) later
+base_listed file version content new bytes at later is moves follows =
     let all : payloads_of new ≡ bytes ∷ [] = ap payloads_of is in
     record {
       first = at;
       all = all;
       places = is ∙ sym (ap (payloads_at at) all);
       upto = omega (arith, moves, ap (λ (ps : List (List ℕ)). length (frames ps)) all, length-frames-push [] bytes);
-      begins = inr (inr refl);
+      begins = inr (record { mark = follows.mark; before = follows.before; rest = follows.gate ∷ follows.rest; split = follows.split; place = follows.place });
     }
 
 -- where nothing counted so far and none is a base, a payload stands behind the first gate
 first_place : (file : List ℕ) (version : Version) (content : Content) (payload : List ℕ) (at : ℕ) → Follows file version content payload at → is_base version payload ≡ false
-    → payload_list content ≡ [] → (at ≡ 8) ⊎ IsSome content.base
-first_place file version content payload at follows plain none = by_base content.base refl
+    → payload_list content ≡ [] → BeginsIn file content.base at
+first_place file version content payload at follows plain none = no_base file content at none at_first
   where
     counts : content ≡ content_from version follows.before
     counts = follows.counts ∙ cond-false _ nothing (content_from version follows.before) plain
 
-    by_base : (base : Option (List ℕ)) → content.base ≡ base → (at ≡ 8) ⊎ IsSome content.base
-    by_base (Some b) is = inr (ap is_some is)
-    by_base None is =
+    at_first : content.base ≡ None → at ≡ 8
+    at_first is =
         let without : IsSome (content_from version follows.before).base → ⊥ = λ some. true≢false (sym some ∙ ap (λ (c : Content). is_some c.base) (sym counts) ∙ ap is_some is) in
         let before : follows.before ≡ [] =
         sym (all_without_base version nothing follows.before without) ∙ ap (λ (c : Content). c.payloads) (sym counts) ∙ ap (λ (b : Option (List ℕ)). base_alone b ++ content.payloads) (sym is) ∙ none in
-        inl (follows.place ∙ ap (λ (ps : List (List ℕ)). length (front follows.mark ps)) before)
+        follows.place ∙ ap (λ (ps : List (List ℕ)). length (front follows.mark ps)) before
 
 -- one payload more, at its place
 pub next_listed : (file : List ℕ) (version : Version) (payloads new : List Payload) (content : Content) (bytes : List ℕ) (at later : ℕ) → new ≡ payloads ++ record { bytes = bytes; at = at } ∷ []
-    → ListedTo payloads content at → later ≡ at + 5 + length bytes → Follows file version content bytes at → is_base version bytes ≡ false → ListedTo new (with_next content bytes) later
+    → ListedTo file payloads content at → later ≡ at + 5 + length bytes → Follows file version content bytes at → is_base version bytes ≡ false → ListedTo file new (with_next content bytes) later
 next_listed file version payloads new content bytes at later is before moves follows plain =
     let all : payloads_of new ≡ payloads_of payloads ++ bytes ∷ [] = ap payloads_of is ∙ map-append (λ (p : Payload). p.bytes) payloads (record { bytes = bytes; at = at } ∷ []) in
     let listed_now : payloads_of new ≡ payload_list (with_next content bytes) = all ∙ ap (λ (ps : List (List ℕ)). ps ++ bytes ∷ []) before.all ∙ append_assoc (base_alone content.base) content.payloads (bytes ∷ []) in
@@ -88,7 +103,7 @@ next_listed file version payloads new content bytes at later is before moves fol
       begins = ⊎_elim
           (λ none.
           let here : at ≡ before.first = before.upto ∙ ap (λ (ps : List Payload). before.first + length (frames (payloads_of ps))) none ∙ omega arith in
-          inr (⊎_elim (λ eight. inl (sym here ∙ eight)) inr (first_place file version content bytes at follows plain (sym before.all ∙ ap payloads_of none))))
+          inr (subst (λ (n : ℕ). BeginsIn file content.base n) here (first_place file version content bytes at follows plain (sym before.all ∙ ap payloads_of none))))
           inr
           before.begins;
     }

@@ -1,7 +1,7 @@
 -- One step of reading.
 use Rattle.std.proofs.Common.{◌≡◌, ◌≢◌, inl, inr, ⊎_elim, ℕ, ◌+◌, ◌^◌, ◌<◌, ◌≤◌, true, false, List, [], ◌∷◌, ◌++◌, length, take, drop, get_or, Option, Some, refl, sym, ◌∙◌, ap, subst, arith, append_assoc, take-append-drop}
 use Rattle.std.proofs.lemmas.Bool.{cond-true, cond-false}
-use Rattle.std.proofs.lemmas.List.{take_at, take_more, drop_more, drop-drop, append_cancel_left}
+use Rattle.std.proofs.lemmas.List.{take_at, take_more, drop_more, drop-drop, append_cancel_left, get_or-take}
 use Rattle.std.specs.Int.{w32, to_le_bytes}
 use Rattle.txn_journal.specs.Calls.{LiesAs}
 use Rattle.txn_journal.specs.Contents.{Content, content_from, has_base, is_base, nothing, version_of, with_payload}
@@ -221,6 +221,13 @@ module _ {D : Type 0} (bytes : D → Option (List ℕ)) (old : Progress D) (disk
   in_file : old.at < length file
   in_file = omega (arith, within, has.size)
 
+  -- the byte of the version says what the reader has
+  pub version_there : version_of (get_or file 7 0) ≡ old.version
+  version_there =
+      let read = ready_read in
+      ap version_of (sym (get_or-take old.at file 7 0 (omega (arith, read.frames.place))) ∙ ap (λ (l : List ℕ). get_or l 7 0) read.frames.before)
+      ∙ read.of_version
+
   pub step_closed : IsHead Closed file old.at → StandsFor file content × HasRead bytes (record old { disk = disk; size = size; is_done = true }) file content
   step_closed shut =
       let lies = closed_lies file old.version old.at content ready_read in_file shut in (
@@ -250,11 +257,22 @@ module _ {D : Type 0} (bytes : D → Option (List ℕ)) (old : Progress D) (disk
       done = λ no_end. absurd (cc no_end);
     }
 
-    pub step_base : is_base old.version payload ≡ true → Follows file old.version content payload old.at × Read (based_on payload)
+    step_base : is_base old.version payload ≡ true → Follows file old.version content payload old.at × Read (based_on payload)
     step_base base = (counted_more.0, read_more (based_on payload) (base_counts old.version content payload base))
 
-    pub step_payload : is_base old.version payload ≡ false → Follows file old.version content payload old.at × Read (with_next content payload)
+    step_payload : is_base old.version payload ≡ false → Follows file old.version content payload old.at × Read (with_next content payload)
     step_payload plain = (counted_more.0, read_more (with_next content payload) (next_counts old.version content payload plain))
+
+    -- and the version was read again
+    module _ (now : Version) (is_now : now ≡ old.version) where
+      abbrev ReadNow : Version → Content → Type 0
+      ReadNow v counts = HasRead bytes (record { disk = disk; standing = old.standing; version = v; size = size; at = behind; payload = payload; is_done = false }) file counts
+
+      pub step_base_now : is_base now payload ≡ true → Follows file now content payload old.at × ReadNow now (based_on payload)
+      step_base_now = subst (λ (v : Version). is_base v payload ≡ true → Follows file v content payload old.at × ReadNow v (based_on payload)) (sym is_now) step_base
+
+      pub step_payload_now : is_base now payload ≡ false → Follows file now content payload old.at × ReadNow now (with_next content payload)
+      step_payload_now = subst (λ (v : Version). is_base v payload ≡ false → Follows file v content payload old.at × ReadNow v (with_next content payload)) (sym is_now) step_payload
 
 -- a reader at the gate where reading begins
 pub opens_at : {D : Type 0} (bytes : D → Option (List ℕ)) (reader : Progress D) (disk : D) (standing : JournalState) (version : Version) (size at : ℕ) (file : List ℕ)

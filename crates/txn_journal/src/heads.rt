@@ -1,6 +1,7 @@
 //! How a file and its frames begin.
-ghost use Rattle.std.specs.Prelude.{◌≡◌, ◌≢◌, ℕ, ◌+◌, ◌<◌, ◌≤◌, List, Some, length, IfOk};
-ghost use Rattle.ts_disk.specs.Disk.{Counted, HasLength, Keeps};
+ghost use Rattle.std.specs.Prelude.{◌≡◌, ◌≢◌, ℕ, ◌+◌, ◌<◌, ◌≤◌, List, Some, length, slice_index, IfOk};
+ghost use Rattle.ts_disk.specs.Disk.{Counted, HasLength, HasRange, Keeps};
+ghost use Rattle.txn_journal.specs.Contents.{version_of};
 ghost use Rattle.txn_journal.specs.Frames.{magic, header};
 ghost use Rattle.txn_journal.specs.Reading.{StartsAs, IsHead, IsStart, IsSized, JudgesHead, EndsWithin};
 
@@ -71,6 +72,19 @@ fn judge_start(head: &[u8; 9], size: u64) -> Start
     } else {
         Start::Bare
     }
+}
+
+/// The version that the byte behind the magic bytes says.
+pub fn read_version<D: Disk>(disk: &mut D) -> Result<Version, Failed>
+    requires range { HasRange (D.bytes disk.old) 8 }
+    ensures version { (file : List ℕ) → D.bytes disk.old ≡ Some file
+        → IfOk result (λ version. version ≡ version_of (slice_index file 7)) }
+    ensures kept { Keeps D.bytes D.may_leave D.moment D.left_since disk.old disk.new }
+    ensures counted { Counted (D.faults disk.old) (D.faults disk.new) result }
+{
+    let mut mark = [0; 1];
+    disk.read_at(VERSION_BYTE, &mut mark)?;
+    Ok(Version::of(mark[0]))
 }
 
 /// What stands at a gate.

@@ -1,13 +1,13 @@
 //! A journal that is read payload by payload.
-ghost use Rattle.std.specs.Prelude.{◌≡◌, ◌≢◌, ℕ, ◌+◌, ◌≤◌, List, true, false, length};
+ghost use Rattle.std.specs.Prelude.{◌≡◌, ◌≢◌, ℕ, ◌+◌, ◌≤◌, List, Some, true, false, length, slice_index, IfOk};
 ghost use Rattle.ts_disk.specs.CrashImage.{Only};
-ghost use Rattle.ts_disk.specs.Disk.{HasRange, Keeps};
+ghost use Rattle.ts_disk.specs.Disk.{Counted, HasRange, Keeps};
 ghost use Rattle.txn_journal.specs.Calls.{IsAtRest, IsTold};
 ghost use Rattle.txn_journal.specs.Places.{IsReading};
-ghost use Rattle.txn_journal.specs.Contents.{Content};
+ghost use Rattle.txn_journal.specs.Contents.{Content, version_of};
 ghost use Rattle.txn_journal.specs.Reading.{CountsNext, CountsTaken, HasRead, IfTaken, Moves, Steps, Takes, at_gate, is_end};
 
-use crate::heads::{Head, sight_head};
+use crate::heads::{Head, read_version, sight_head};
 use crate::journals::{Journal, JournalState};
 use crate::read_start::ReadStart;
 use crate::versions::Version;
@@ -94,13 +94,16 @@ impl<D: Disk> Reader<D> {
     }
 
     /// Reads the next payload. After `Base` and `Payload` there may be others. After each other answer the reader
-    /// stays at the same gate, and another step begins there.
+    /// stays at the same gate, and another step begins there. Another process may be writing the first base of
+    /// the file meanwhile, which makes the journal one of version 2: told bytes don't show that.
     pub fn next(&mut self) -> Next
         ensures steps { (file : List ℕ) (content : Content) → HasRead D.bytes self.old file content
             → Steps D.bytes result file content self.old self.new }
         ensures moves { Moves result self.old self.new }
         ensures done { self.new.is_done ≡ is_end result }
-        ensures version { self.new.version ≡ self.old.version }
+        ensures version { (file : List ℕ) (content : Content) → HasRead D.bytes self.old file content
+            → self.new.version ≡ self.old.version }
+        ensures stays { self.old.version ≡ Version.Two → self.new.version ≡ Version.Two }
         ensures kept { Keeps D.bytes D.may_leave D.moment D.left_since self.old.disk self.new.disk }
         ensures counted { CountsNext result (D.faults self.old.disk) (D.faults self.new.disk) }
     {
@@ -121,9 +124,14 @@ impl<D: Disk> Reader<D> {
             Head::Frame { length, .. } => {
                 match read_payload(&mut self.disk, self.at + 5, length, &mut self.payload) {
                     PayloadRead::Done => {
+                        let Ok(version) = version_now(&mut self.disk, self.version, &self.payload)
+                        else {
+                            return Next::DiskFault;
+                        };
+                        self.version = version;
                         let at = self.at;
                         self.at += 5 + length;
-                        if self.version.is_base(&self.payload) {
+                        if version.is_base(&self.payload) {
                             return Next::Base(at);
                         }
                         Next::Payload(at)
@@ -200,5 +208,25 @@ fn read_payload<D: Disk>(disk: &mut D, at: u64, count: u64, payload: &mut Vec<u8
     match disk.read_at(at, payload.as_mut_slice()) {
         Ok(()) => PayloadRead::Done,
         Err(Failed) => PayloadRead::DiskFault,
+    }
+}
+
+/// The version of a journal of which this payload was read. No event begins as a base does, so where the
+/// payload of a journal of version 1 does, another process may have raised the version since that was
+/// read, and it is read again.
+fn version_now<D: Disk>(disk: &mut D, version: Version, payload: &[u8]) -> Result<Version, Failed>
+    requires range { HasRange (D.bytes disk.old) 8 }
+    ensures told { (file : List ℕ) → D.bytes disk.old ≡ Some file → version_of (slice_index file 7) ≡ version
+        → IfOk result (λ now. now ≡ version) }
+    ensures stays { version ≡ Version.Two → IfOk result (λ now. now ≡ Version.Two) }
+    ensures kept { Keeps D.bytes D.may_leave D.moment D.left_since disk.old disk.new }
+    ensures counted { Counted (D.faults disk.old) (D.faults disk.new) result }
+{
+    if !Version::Two.is_base(payload) {
+        return Ok(version);
+    }
+    match version {
+        Version::One => read_version(disk),
+        Version::Two => Ok(Version::Two),
     }
 }

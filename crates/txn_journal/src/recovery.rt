@@ -38,9 +38,9 @@ pub enum Recovered<D: Disk> {
 /// want a list of them; the program reads by `Reader`, which holds one at a time.
 pub fn recover<D: Disk>(alloc: Global, disk: D) -> Recovered<D>
     ensures recovers { (file : List ℕ) → D.bytes disk ≡ Some file → Recovers result file }
-    ensures tells { (file : List ℕ) → D.bytes disk ≡ Some file → TellsAfter D.bytes result }
+    ensures tells { (file : List ℕ) → D.bytes disk ≡ Some file → TellsAfter D.bytes file result }
     ensures at_rest { (file : List ℕ) → D.bytes disk ≡ Some file → Only file (D.may_leave disk)
-        → RestsAfter D.bytes D.may_leave result }
+        → RestsAfter D.bytes D.may_leave file result }
     ensures goes_on { GoesOn result }
     ensures kept { Keeps D.bytes D.may_leave D.moment D.left_since disk (disk_of result) }
     ensures counted { CountsRecovered result (D.faults disk) (D.faults (disk_of result)) }
@@ -59,9 +59,9 @@ pub fn recover<D: Disk>(alloc: Global, disk: D) -> Recovered<D>
 /// Reads all payloads, where none was read yet.
 fn read_all<D: Disk>(alloc: Global, reader: Reader<D>) -> Recovered<D>
     ensures recovers { (file : List ℕ) → HasRead D.bytes reader file nothing → Recovers result file }
-    ensures tells { (file : List ℕ) → HasRead D.bytes reader file nothing → TellsAfter D.bytes result }
+    ensures tells { (file : List ℕ) → HasRead D.bytes reader file nothing → TellsAfter D.bytes file result }
     ensures at_rest { (file : List ℕ) → HasRead D.bytes reader file nothing → Only file (D.may_leave reader.disk)
-        → RestsAfter D.bytes D.may_leave result }
+        → RestsAfter D.bytes D.may_leave file result }
     ensures goes_on { GoesOn result }
     ensures kept { Keeps D.bytes D.may_leave D.moment D.left_since reader.disk (disk_of result) }
     ensures counted { CountsRecovered result (D.faults reader.disk) (D.faults (disk_of result)) }

@@ -24,3 +24,6 @@ returns-clause-header g c d = c.close.ensures.header c.requires.armed c.requires
 
 pub returns-clause-counted : goal.returns-clause-counted
 returns-clause-counted g c = ap g.D.Disk.faults c.close.ensures.disk
+
+pub returns-clause-lasting : goal.returns-clause-lasting
+returns-clause-lasting g c = c.close.ensures.rests c.requires.goes_on

@@ -4,7 +4,7 @@ use Rattle.std.specs.Prelude.{IsSomeAnd, IsSome}
 use Rattle.ts_disk.specs.Disk.{Keeps}
 use Rattle.ts_io.specs.Faults.{Counted}
 use Rattle.ts_schema.specs.Faults.{Rose}
-use Rattle.ts_store.specs.Images.{HasHeader}
+use Rattle.ts_store.specs.Images.{HasHeader, IsDurable}
 use Rattle.ts_store.specs.Stands.{Stands}
 use Rattle.ts_store.specs.Stores.{history_seen}
 use Rattle.ts_top.specs.Outcomes.{IfWentOn, Outside, LeftAfter}
@@ -42,7 +42,7 @@ returns-in-Err-clause-outcome g c =
     let S = g.S.Source in
     let end = c.in-Err.ended in
     let o : Outside = record { input = S.left c.args.source.now; rest = S.left c.args.source.now; written_before = K.written c.args.sink.now; written = K.written c.args.sink.now; file_before = D.bytes c.args.disk; file = D.bytes end.disk; reads = end.reads } in
-    not_opened_par c.args.replies (IsSome (D.bytes c.args.disk)) (LeftAfter D.bytes D.may_leave D.moment D.left_since c.args.disk end.disk) (Rose (K.faults c.args.sink.now) (K.faults c.args.sink.now)) o _ _ (Keeps D.bytes D.may_leave D.moment D.left_since c.args.disk end.disk) (refl, refl) end.status c.in-Err.ensures.ended
+    not_opened_par c.args.replies (IsSome (D.bytes c.args.disk)) (LeftAfter D.bytes D.may_leave D.moment D.left_since c.args.disk end.disk) (Rose (K.faults c.args.sink.now) (K.faults c.args.sink.now)) o _ _ (Keeps D.bytes D.may_leave D.moment D.left_since c.args.disk end.disk) (refl, refl, c.in-Err.ensures.unread) end.status c.in-Err.ensures.ended
 
 pub returns-in-Err-clause-header : goal.returns-in-Err-clause-header
 returns-in-Err-clause-header g c = not_opened_header _ _ _ _ c.in-Err.ended.status _ _ c.in-Err.ensures.ended
@@ -55,3 +55,11 @@ returns-in-Err-clause-writes g c = not_opened_sink c.args.replies _ _ _ _ c.in-E
 
 pub returns-in-Err-clause-disk : goal.returns-in-Err-clause-disk
 returns-in-Err-clause-disk g c = not_opened_disk c.in-Err.ended.status _ _ c.in-Err.ensures.disk
+
+pub returns-in-Ok-clause-lasting : goal.returns-in-Ok-clause-lasting
+returns-in-Ok-clause-lasting g c =
+    let D = g.D.Disk in
+    subst (λ b. IfWentOn c.run_all.result.status (IsDurable D.bytes D.may_leave b → IsDurable D.bytes D.may_leave c.run_all.result.disk)) c.in-Ok.ensures.begun c.run_all.ensures.lasting
+
+pub returns-in-Err-clause-lasting : goal.returns-in-Err-clause-lasting
+returns-in-Err-clause-lasting g c = not_opened_header _ _ _ _ c.in-Err.ended.status _ _ c.in-Err.ensures.ended

@@ -3,7 +3,8 @@ use Rattle.std.proofs.Common.{◌≡◌, inl, inr, ℕ, List, IfSome, refl, sym,
 use Rattle.script_run.specs.Runs.{ReadWhole}
 use Rattle.ts_schema.specs.Faults.{Rose}
 use Rattle.ts_store.specs.Stores.{history_seen}
-use Rattle.ts_top.specs.Outcomes.{Outside, LeftAfter}
+use Rattle.ts_store.specs.Images.{IsDurable}
+use Rattle.ts_top.specs.Outcomes.{IfWentOn, Outside, LeftAfter}
 use Rattle.ts_top.specs.Parallel.{ParTo}
 use Rattle.ts_top.proofs.ParallelLaws.{input_par, ran_nothing, read_whole, too_long}
 use Rattle.std.specs.Prelude.{IsSome}
@@ -30,7 +31,7 @@ returns-in-InputLong-clause-outcome g c before stood =
     let told : Type 0 = IsSome (D.bytes c.args.store.begun) in
     let left : List ℕ → Type 0 = LeftAfter D.bytes D.may_leave D.moment D.left_since c.args.store.begun end.disk in
     subst (λ status. ParTo c.args.replies status told left (Rose (K.faults c.args.sink.now) (K.faults c.args.sink.now)) ⊥ ⊥ ⊥ o) (sym c.close_store.ensures.status)
-    (ran_nothing c.args.replies told left (Rose (K.faults c.args.sink.now) (K.faults c.args.sink.now)) o (history_seen c.args.store) stood refl c.close_store.ensures.holds c.close_store.ensures.images, too_long o.input o.rest c.read_all.new.out.items c.in-InputLong.ensures.read)
+    (ran_nothing c.args.replies told left (Rose (K.faults c.args.sink.now) (K.faults c.args.sink.now)) o (history_seen c.args.store) stood refl c.close_store.ensures.holds c.close_store.ensures.images c.close_store.ensures.uncounted, too_long o.input o.rest c.read_all.new.out.items c.in-InputLong.ensures.read)
 
 pub returns-in-ReadFault-clause-outcome : goal.returns-in-ReadFault-clause-outcome
 returns-in-ReadFault-clause-outcome g c before stood =
@@ -42,7 +43,7 @@ returns-in-ReadFault-clause-outcome g c before stood =
     let told : Type 0 = IsSome (D.bytes c.args.store.begun) in
     let left : List ℕ → Type 0 = LeftAfter D.bytes D.may_leave D.moment D.left_since c.args.store.begun end.disk in
     subst (λ status. ParTo c.args.replies status told left (Rose (K.faults c.args.sink.now) (K.faults c.args.sink.now)) ⊥ ⊥ ⊥ o) (sym c.close_store-in-ReadFault.ensures.status)
-    (ran_nothing c.args.replies told left (Rose (K.faults c.args.sink.now) (K.faults c.args.sink.now)) o (history_seen c.args.store) stood refl c.close_store-in-ReadFault.ensures.holds c.close_store-in-ReadFault.ensures.images)
+    (ran_nothing c.args.replies told left (Rose (K.faults c.args.sink.now) (K.faults c.args.sink.now)) o (history_seen c.args.store) stood refl c.close_store-in-ReadFault.ensures.holds c.close_store-in-ReadFault.ensures.images c.close_store-in-ReadFault.ensures.uncounted)
 
 pub returns-clause-outcome : goal.returns-clause-outcome
 returns-clause-outcome g c before stood =
@@ -54,4 +55,22 @@ returns-clause-outcome g c before stood =
     let told : Type 0 = IsSome (D.bytes c.args.store.begun) in
     let left : List ℕ → Type 0 = LeftAfter D.bytes D.may_leave D.moment D.left_since c.args.store.begun end.disk in
     subst (λ status. ParTo c.args.replies status told left (Rose (K.faults c.args.sink.now) (K.faults c.args.sink.now)) ⊥ ⊥ ⊥ o) (sym c.close_store-in-NoMemory.ensures.status)
-    (inr (inl (ran_nothing c.args.replies told left (Rose (K.faults c.args.sink.now) (K.faults c.args.sink.now)) o (history_seen c.args.store) stood refl c.close_store-in-NoMemory.ensures.holds c.close_store-in-NoMemory.ensures.images)))
+    (inr (inl (ran_nothing c.args.replies told left (Rose (K.faults c.args.sink.now) (K.faults c.args.sink.now)) o (history_seen c.args.store) stood refl c.close_store-in-NoMemory.ensures.holds c.close_store-in-NoMemory.ensures.images c.close_store-in-NoMemory.ensures.uncounted)))
+
+pub returns-in-InputLong-clause-lasting : goal.returns-in-InputLong-clause-lasting
+returns-in-InputLong-clause-lasting g c =
+    let D = g.D.Disk in
+    let Lasts : Type 0 = IsDurable D.bytes D.may_leave c.args.store.begun → IsDurable D.bytes D.may_leave c.close_store.result.disk in
+    subst (λ status. IfWentOn status Lasts) (sym c.close_store.ensures.status) c.close_store.ensures.lasting
+
+pub returns-in-ReadFault-clause-lasting : goal.returns-in-ReadFault-clause-lasting
+returns-in-ReadFault-clause-lasting g c =
+    let D = g.D.Disk in
+    let Lasts : Type 0 = IsDurable D.bytes D.may_leave c.args.store.begun → IsDurable D.bytes D.may_leave c.close_store-in-ReadFault.result.disk in
+    subst (λ status. IfWentOn status Lasts) (sym c.close_store-in-ReadFault.ensures.status) c.close_store-in-ReadFault.ensures.lasting
+
+pub returns-clause-lasting : goal.returns-clause-lasting
+returns-clause-lasting g c =
+    let D = g.D.Disk in
+    let Lasts : Type 0 = IsDurable D.bytes D.may_leave c.args.store.begun → IsDurable D.bytes D.may_leave c.close_store-in-NoMemory.result.disk in
+    subst (λ status. IfWentOn status Lasts) (sym c.close_store-in-NoMemory.ensures.status) tt

@@ -58,3 +58,14 @@ returns-clause-disk g c =
     let D = g.D.Disk in
     subst (λ disk. Counted (D.faults c.args.store.journal.disk) (D.faults disk) (is_disk_fault c.status_of.result)) (sym c.close.ensures.disk)
     (subst (λ fault. Counted (D.faults c.args.store.journal.disk) (D.faults c.run-end.new.backend.journal.disk) fault) (same_disk_fault c.run-end.result ∙ ap is_disk_fault (sym c.status_of.ensures)) c.run-end.ensures.disk)
+
+pub returns-clause-lasting : goal.returns-clause-lasting
+returns-clause-lasting g c =
+    let D = g.D.Disk in
+    let old = c.args.store in
+    let new = c.run-end.new.backend in
+    let known : known_of new ≡ known_of old = c.run-end.ensures.kin in
+    let begun : new.begun ≡ old.begun = ap (λ k. k.disk) known in
+    let Lasts : Type 0 = IsDurable D.bytes D.may_leave old.begun → IsDurable D.bytes D.may_leave c.close.result in
+    subst (λ status. IfWentOn status Lasts) (sym c.status_of.ensures)
+    (headed c.run-end.result Lasts (λ going durable. c.close.ensures.rests (none_there new.failed (c.run-end.ensures.still ∙ going)) (subst (λ disk. IsDurable D.bytes D.may_leave disk) (sym begun) durable)))

@@ -10,4 +10,4 @@ returns-in-Reading-clause-at_rest g c = λ file told only.
     c.read_all.ensures.at_rest file (c.in-Reading.ensures.opens file told) (λ image left. only image (c.in-Reading.ensures.kept.leaves image left))
 
 pub returns-in-Damaged-clause-recovers : goal.returns-in-Damaged-clause-recovers
-returns-in-Damaged-clause-recovers g c = λ file told. (nothing, are_listed c.new.result nothing 8 (none_listed c.new.result 8 c.new.ensures.items), c.in-Damaged.ensures.opens file told)
+returns-in-Damaged-clause-recovers g c = λ file told. (nothing, are_listed file c.new.result nothing 8 (none_listed file c.new.result 8 c.new.ensures.items), c.in-Damaged.ensures.opens file told)

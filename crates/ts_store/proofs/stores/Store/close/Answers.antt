@@ -3,7 +3,7 @@ use Rattle.std.specs.Prelude.{IsSome, IsSomeAnd}
 use Rattle.ts_store.specs.Images.{HasHeader, IsBetween, IsDurable, StandsForEither, latest}
 use Rattle.ts_store.specs.Stores.{StoreValue, opening_history, history_seen}
 use Rattle.ts_store.specs.Recorders.{store_of}
-use Rattle.ts_store.proofs.KeptLaws.{shows_header}
+use Rattle.ts_store.proofs.KeptLaws.{durable_still, shows_header}
 use Rattle.ts_store.proofs.stores.Store.close.Goals as goal
 
 pub returns-clause-disk : goal.returns-clause-disk
@@ -24,3 +24,9 @@ returns-clause-header g c =
     subst (λ (disk : g.row.D.Denot). c.args.self.armed ≡ true → c.args.self.failed ≡ None → IsSome (g.D.Disk.bytes c.args.self.begun) → IsSomeAnd (g.D.Disk.bytes disk) HasHeader) (sym (returns-clause-disk g c))
     (subst (λ (s : StoreValue g.row.D.Denot). s.armed ≡ true → s.failed ≡ None → IsSome (g.D.Disk.bytes s.begun) → IsSomeAnd (g.D.Disk.bytes s.journal.disk) HasHeader) c.self.view_is
     (shows_header g.D.Disk.bytes g.D.Disk.may_leave g.D.Disk.moment g.D.Disk.left_since g.D.Disk.faults (store_of c.self.inside.recorder c.self.inside.begun c.self.inside.opened c.self.inside.armed) c.self.invariant))
+
+pub returns-clause-rests : goal.returns-clause-rests
+returns-clause-rests g c =
+    subst (λ (disk : g.row.D.Denot). c.args.self.failed ≡ None → IsDurable g.D.Disk.bytes g.D.Disk.may_leave c.args.self.begun → IsDurable g.D.Disk.bytes g.D.Disk.may_leave disk) (sym (returns-clause-disk g c))
+    (subst (λ (s : StoreValue g.row.D.Denot). s.failed ≡ None → IsDurable g.D.Disk.bytes g.D.Disk.may_leave s.begun → IsDurable g.D.Disk.bytes g.D.Disk.may_leave s.journal.disk) c.self.view_is
+    (durable_still g.D.Disk.bytes g.D.Disk.may_leave g.D.Disk.moment g.D.Disk.left_since g.D.Disk.faults (store_of c.self.inside.recorder c.self.inside.begun c.self.inside.opened c.self.inside.armed) c.self.invariant))
