@@ -1,0 +1,4 @@
+mod OneBucket
+mod AggregateReplies
+mod RollUpReplies
+mod CalendarReplies
