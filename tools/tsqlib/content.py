@@ -1,17 +1,19 @@
 """What a journal comes to: its tables and aggregates, the rows that are left, and what was refreshed."""
-from .history import follow
+from __future__ import annotations
+
+from .history import History, follow
 from .image import Image
-from .journal import Built, Commit, Insert
+from .journal import Built, Bytes, Commit, Insert, Row
 
 
 class Content:
     """What a journal comes to: its history, the rows by their tables, and the windows of finished refreshes by their
     aggregates."""
 
-    def __init__(self, file):
-        self.history = None
-        self.rows = {}
-        self.windows = {}
+    def __init__(self, file: Bytes) -> None:
+        self.history: History | None = None
+        self.rows: dict[int, list[Row]] = {}
+        self.windows: dict[int, list[tuple[int, int]]] = {}
         self.has_removed = False
         self.has_groups = False
         for history, event, _ in follow(file):
@@ -24,14 +26,16 @@ class Content:
                 cut = history.cuts[event.cut]
                 self.windows.setdefault(cut.view, []).append((cut.start, cut.end))
 
-    def resume(self, image):
+    def resume(self, image: Image) -> None:
         """Begins with an image. The rows of its groups may have been removed."""
         for commit in image.commits:
             self.commit(commit)
-        self.windows = {view: [(last.start, last.end) for last in saved.lasts] for view, saved in enumerate(image.views)}
+        self.windows = {
+            view: [(last.start, last.end) for last in saved.lasts] for view, saved in enumerate(image.views)
+        }
         self.has_groups = any(saved.groups for saved in image.views)
 
-    def commit(self, event):
+    def commit(self, event: Commit) -> None:
         """Lets the operations of a commit take effect, one after the other."""
         for operation in event.operations:
             rows = self.rows.setdefault(operation.table, [])
@@ -42,12 +46,12 @@ class Content:
             self.has_removed |= len(kept) < len(rows)
             self.rows[operation.table] = kept
 
-    def refreshed(self, view):
+    def refreshed(self, view: int) -> list[tuple[int, int]]:
         """The windows of an aggregate in order, those that touch or overlap as one."""
-        merged = []
+        merged: list[tuple[int, int]] = []
         for start, end in sorted(self.windows.get(view, [])):
             if merged and start <= merged[-1][1]:
-                merged[-1][1] = max(merged[-1][1], end)
+                merged[-1] = (merged[-1][0], max(merged[-1][1], end))
             else:
-                merged.append([start, end])
+                merged.append((start, end))
         return merged

@@ -1,9 +1,19 @@
 """Reads a saved image, with which a history may begin, by `docs/JOURNAL.md`, and tells whether it is a valid one."""
-from typing import NamedTuple
+from __future__ import annotations
 
-from .journal import LEAST_TIME, MOST_TIME, Commit, Fields, Hyper, Insert, Table, View, Wrong, event
+from bisect import bisect_right
+from collections.abc import Iterable, Sequence
+from typing import TYPE_CHECKING, Any, NamedTuple
+
+from .journal import (
+    LEAST_TIME, MOST_TIME, Bytes, Commit, Event, Fields, Hyper, Insert, Row, Table, View, Wrong, event,
+)  # fmt: skip
+
+if TYPE_CHECKING:
+    from .history import History
 
 LAST_POSITION = 2**62
+Span = tuple[int, int]
 
 
 class Last(NamedTuple):
@@ -17,7 +27,7 @@ class Last(NamedTuple):
 class Part(NamedTuple):
     """What a group keeps of the values of one function."""
 
-    count: int
+    rows: int
     values: int
     total: int
     least: int | None
@@ -26,17 +36,17 @@ class Part(NamedTuple):
 
 class Group(NamedTuple):
     start: int
-    keys: list
-    parts: list
+    keys: list[int | None]
+    parts: list[Part]
 
 
 class SavedView(NamedTuple):
     """What is kept of an aggregate: when its buckets were last refreshed, which of them are dirty, as pairs of a start
     and an end, the groups of those, and its watermark."""
 
-    lasts: list
-    dirty: list
-    groups: list
+    lasts: list[Last]
+    dirty: list[Span]
+    groups: list[Group]
     mark: int | None
 
 
@@ -58,25 +68,25 @@ class Image(NamedTuple):
     """What a history was at a position: its tables and aggregates as events, its rows as commits, and its refreshes."""
 
     position: int
-    roster: list
-    commits: list
-    views: list
-    waiting: list
-    finished: list
+    roster: list[Event]
+    commits: list[Commit]
+    views: list[SavedView]
+    waiting: list[Waiting]
+    finished: list[Finished]
 
 
-def require(holds):
-    """Ends as Wrong where something that must hold doesn't."""
+def require(holds: object) -> None:
+    """Ends as Wrong if something that must be true isn't."""
     if not holds:
         raise Wrong
 
 
-def rises(items):
+def rises(items: Sequence[Any]) -> bool:
     """Whether each item is less than the next."""
     return all(one < other for one, other in zip(items, items[1:]))
 
 
-def in_order(values):
+def in_order(values: Iterable[int | None]) -> list[tuple[bool, int]]:
     """Values as they are ordered: NULL is greater than every number."""
     return [(value is None, value or 0) for value in values]
 
@@ -87,51 +97,57 @@ def in_order(values):
 class ImageFields(Fields):
     """The fields of an image."""
 
-    def framed_event(self):
+    def framed_event(self) -> Event:
         size = self.u32()
         framed = self.payload[self.at : self.at + size]
         require(len(framed) == size)
         self.at += size
         return event(framed)
 
-    def wide(self):
+    def framed_commit(self) -> Commit:
+        new = self.framed_event()
+        if not isinstance(new, Commit):
+            raise Wrong
+        return new
+
+    def wide(self) -> int:
         """A number of 128 bits."""
         wide = self.payload[self.at : self.at + 16]
         require(len(wide) == 16)
         self.at += 16
         return int.from_bytes(wide, "little", signed=True)
 
-    def last(self):
+    def last(self) -> Last:
         return Last(self.i64(), self.i64(), self.u64())
 
-    def span(self):
+    def span(self) -> Span:
         return self.i64(), self.i64()
 
-    def part(self):
+    def part(self) -> Part:
         return Part(self.u64(), self.u64(), self.wide(), self.value(), self.value())
 
-    def group(self, view):
+    def group(self, view: View) -> Group:
         start = self.i64()
         keys = [self.value() for _ in view.keys]
         return Group(start, keys, [self.part() for _ in view.functions])
 
-    def saved_view(self, view):
+    def saved_view(self, view: View) -> SavedView:
         return SavedView(
             self.many(self.last), self.many(self.span), self.many(lambda: self.group(view)), self.value()
         )
 
-    def saved_views(self, views):
+    def saved_views(self, views: list[View]) -> list[SavedView]:
         require(self.u32() == len(views))
         return [self.saved_view(view) for view in views]
 
-    def waiting(self):
+    def waiting(self) -> Waiting:
         return Waiting(self.u64(), self.u32(), self.i64(), self.i64())
 
-    def finished(self):
+    def finished(self) -> Finished:
         return Finished(self.u64(), self.u64())
 
 
-def roster_of(payload):
+def roster_of(payload: Bytes) -> list[Event]:
     """The events of the tables and aggregates of an image."""
     fields = ImageFields(payload)
     fields.u8()
@@ -139,13 +155,13 @@ def roster_of(payload):
     return fields.many(fields.framed_event)
 
 
-def read_image(payload):
+def read_image(payload: Bytes) -> Image:
     """The image that a payload is, by its bytes alone."""
     fields = ImageFields(payload)
     fields.u8()
     position = fields.u64()
     roster = fields.many(fields.framed_event)
-    commits = fields.many(fields.framed_event)
+    commits = fields.many(fields.framed_commit)
     views = fields.saved_views([it for it in roster if isinstance(it, View)])
     image = Image(position, roster, commits, views, fields.many(fields.waiting), fields.many(fields.finished))
     require(fields.at == len(payload))
@@ -155,7 +171,7 @@ def read_image(payload):
 # ---- which images are valid
 
 
-def require_relations(history, roster):
+def require_relations(history: History, roster: list[Event]) -> None:
     """Takes tables, each with what makes it a hypertable directly behind it, and then aggregates."""
     for before, new in zip([None, *roster], roster):
         if isinstance(new, Hyper):
@@ -165,20 +181,28 @@ def require_relations(history, roster):
         history.add(new)
 
 
-def require_commits(history, commits):
+def only_insert(commit: Commit) -> Insert:
+    """The operation of a commit of an image."""
+    require(len(commit.operations) == 1)
+    (insert,) = commit.operations
+    if not isinstance(insert, Insert):
+        raise Wrong
+    return insert
+
+
+def require_commits(history: History, commits: list[Commit]) -> None:
     """Takes one insert for each table with rows, all of them in order."""
     low = 0
     for new in commits:
-        require(isinstance(new, Commit) and len(new.operations) == 1)
-        (insert,) = new.operations
-        require(isinstance(insert, Insert) and low <= insert.table)
+        insert = only_insert(new)
+        require(low <= insert.table)
         history.add(new)
         rows = [(row[0], in_order(row[1:])) for row in insert.rows]
         require(all(one <= other for one, other in zip(rows, rows[1:])))
         low = insert.table + 1
 
 
-def require_spans(view, spans):
+def require_spans(view: View, spans: Sequence[Span]) -> None:
     """Ranges of whole buckets, none of which is empty, rise and don't overlap."""
     for start, end in spans:
         require(view.first() <= start < end)
@@ -186,19 +210,13 @@ def require_spans(view, spans):
     require(all(one[1] <= other[0] for one, other in zip(spans, spans[1:])))
 
 
-def lies_in(spans, bucket):
+def lies_in(spans: Sequence[Span], bucket: int) -> bool:
     """Whether a bucket lies in one of these ranges, which rise."""
-    low, high = 0, len(spans)
-    while low < high:
-        middle = (low + high) // 2
-        if spans[middle][1] <= bucket:
-            low = middle + 1
-        else:
-            high = middle
-    return low < len(spans) and spans[low][0] <= bucket
+    place = bisect_right(spans, bucket, key=lambda span: span[1])
+    return place < len(spans) and spans[place][0] <= bucket
 
 
-def has_lasts(lasts, span):
+def has_lasts(lasts: Sequence[Last], span: Span) -> bool:
     """Whether each bucket of a range was refreshed."""
     at, end = span
     for last in lasts:
@@ -207,20 +225,20 @@ def has_lasts(lasts, span):
     return at >= end
 
 
-def require_part(part):
+def require_part(part: Part) -> None:
     """Sums that rows may have."""
-    require(part.values <= part.count < 2**62)
+    require(part.values <= part.rows < 2**62)
     require(-(2**63) * part.values <= part.total <= (2**63 - 1) * part.values)
     require((part.values == 0) == (part.least is None) == (part.most is None))
 
 
-def require_mark(view, mark):
+def require_mark(view: View, mark: int | None) -> None:
     """A watermark is the end of a bucket that holds a time."""
     require(mark is None or (mark - view.offset) % view.width == 0)
     require(mark is None or LEAST_TIME < mark and mark - view.width <= MOST_TIME)
 
 
-def require_view(position, view, rows, saved):
+def require_view(position: int, view: View, rows: list[Row], saved: SavedView) -> None:
     """What is kept of an aggregate over a table with these rows."""
     lasts = [(last.start, last.end) for last in saved.lasts]
     require_spans(view, lasts)
@@ -241,23 +259,23 @@ def require_view(position, view, rows, saved):
     require(all(saved.mark is not None and bucket < saved.mark for bucket in buckets))
 
 
-def require_refreshes(history, image):
+def require_refreshes(history: History, image: Image) -> None:
     """The refreshes that wait, and those that were finished."""
     cuts = [it.cut for it in image.waiting]
     require(rises(cuts) and rises([it.cut for it in image.finished]))
     for it in image.waiting:
         require(1 <= it.cut <= image.position and it.view < len(history.views))
         require_spans(history.views[it.view], [(it.start, it.end)])
-    for it in image.finished:
-        require(1 <= it.cut < it.built <= image.position and it.cut not in cuts)
+    for done in image.finished:
+        require(1 <= done.cut < done.built <= image.position and done.cut not in cuts)
 
 
-def require_valid(history, image):
+def require_valid(history: History, image: Image) -> None:
     """Ends as Wrong where an image isn't valid. The history, which is new, gets its relations."""
     require(image.position <= LAST_POSITION)
     require_relations(history, image.roster)
     require_commits(history, image.commits)
-    rows = {it.operations[0].table: it.operations[0].rows for it in image.commits}
+    rows = {insert.table: insert.rows for insert in map(only_insert, image.commits)}
     for view, saved in zip(history.views, image.views):
         require_view(image.position, view, rows.get(view.table, []), saved)
     require_refreshes(history, image)

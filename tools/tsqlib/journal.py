@@ -1,8 +1,12 @@
 """Reads the bytes of a journal, by `docs/JOURNAL.md` alone: frames, and the event of each payload."""
+from __future__ import annotations
+
 import operator
 import re
 import struct
-from typing import NamedTuple
+from collections.abc import Callable, Iterator
+from functools import cache
+from typing import Any, NamedTuple, TypeVar
 
 MAGIC, VERSION_2, BASE = b"TSCTLJ0", b"2", b"\x08"
 LEAST_TIME, MOST_TIME = -(2**62), 2**62 - 1
@@ -13,12 +17,17 @@ COMPARE = {
 COMPARISONS = [*COMPARE, "IS NULL", "IS NOT NULL"]
 FUNCTIONS = ["count(*)", "count", "sum", "min", "max", "avg"]
 TABLE, HYPER, VIEW, MODE, COMMIT, CUT, BUILT = range(1, 8)
+# The bytes of a file, or of a part of it, which may be mapped.
+Bytes = bytes | memoryview
+# The values of a row of a table: its time, and the others in declared order, each a number or None.
+Row = list[Any]
+Item = TypeVar("Item")
 
 
 class Damaged(Exception):
     """The file isn't a journal that tsctl writes. `place` is where that begins."""
 
-    def __init__(self, place):
+    def __init__(self, place: int) -> None:
         super().__init__(f"journal damaged at {place}")
         self.place = place
 
@@ -32,12 +41,12 @@ class Test(NamedTuple):
     comparison: str
     number: int
 
-    def passed_by(self, row):
+    def passed_by(self, row: Row) -> bool:
         """Whether a row passes. A comparison with NULL isn't true."""
         value = row[self.column]
         if "NULL" in self.comparison:
             return (value is None) == (self.comparison == "IS NULL")
-        return value is not None and COMPARE[self.comparison](value, self.number)
+        return value is not None and bool(COMPARE[self.comparison](value, self.number))
 
 
 class Function(NamedTuple):
@@ -49,19 +58,19 @@ class Insert(NamedTuple):
     """Rows, each a list of its time and the other values in declared order."""
 
     table: int
-    rows: list
+    rows: list[Row]
 
 
 class Delete(NamedTuple):
     table: int
-    tests: list
+    tests: list[Test]
 
 
 class Table(NamedTuple):
     """A table, and its columns as pairs of a name and whether it is NOT NULL."""
 
     name: str
-    columns: list
+    columns: list[tuple[str, bool]]
 
 
 class Hyper(NamedTuple):
@@ -75,13 +84,13 @@ class View(NamedTuple):
     table: int
     width: int
     offset: int
-    keys: list
-    functions: list
-    tests: list
-    names: list
+    keys: list[int]
+    functions: list[Function]
+    tests: list[Test]
+    names: list[str]
     only: bool
 
-    def first(self):
+    def first(self) -> int:
         """The start of the first bucket, which is printed as `min`."""
         return LEAST_TIME - (LEAST_TIME - self.offset) % self.width
 
@@ -92,7 +101,7 @@ class Mode(NamedTuple):
 
 
 class Commit(NamedTuple):
-    operations: list
+    operations: list[Insert | Delete]
 
 
 class Cut(NamedTuple):
@@ -106,17 +115,22 @@ class Built(NamedTuple):
     snapshot: int
 
 
-def payloads(file):
-    """Each payload that counts, of a file's bytes, with the place of its open gate. A damaged file ends as Damaged."""
+Event = Table | Hyper | View | Mode | Commit | Cut | Built
+
+
+def payloads(file: Bytes) -> Iterator[tuple[int, memoryview]]:
+    """Each payload that counts, of a file's bytes, with the place of its commit byte. A damaged file ends as
+    Damaged."""
     if len(file) <= 9:
         return
     if file[:7] != MAGIC:
         raise Damaged(0)
+    file = memoryview(file)
     yield from frames(file, last_base(file) if file[7:8] == VERSION_2 else 8)
 
 
-def frames(file, gate):
-    """Each payload from this gate on, with the place of its own."""
+def frames(file: memoryview, gate: int) -> Iterator[tuple[int, memoryview]]:
+    """Each payload from this commit byte on, with the place of its own."""
     while file[gate] == 1:
         if len(file) < gate + 5:
             raise Damaged(gate)
@@ -127,8 +141,8 @@ def frames(file, gate):
         gate = end
 
 
-def last_base(file):
-    """The gate of the last base, or the first gate where there is none."""
+def last_base(file: memoryview) -> int:
+    """The commit byte of the last base, or the first one if there is none."""
     found = 8
     try:
         for gate, payload in frames(file, 8):
@@ -139,120 +153,160 @@ def last_base(file):
     return found
 
 
-def is_base(file, payload):
+def is_base(file: Bytes, payload: Bytes) -> bool:
     """Whether a payload of a file's bytes is a saved image."""
     return file[7:8] == VERSION_2 and payload[:1] == BASE
+
+
+@cache
+def row_without_null(count: int) -> struct.Struct:
+    """The bytes of a row with so many values beside its time, none of which is NULL."""
+    return struct.Struct("<qB" + "Bq" * count)
+
+
+U8, U32, U64, I64 = map(struct.Struct, ("<B", "<I", "<Q", "<q"))
 
 
 class Fields:
     """The fields of a payload, taken from left to right. One that isn't there ends as Wrong."""
 
-    def __init__(self, payload):
+    def __init__(self, payload: Bytes) -> None:
         self.payload = payload
         self.at = 0
 
-    def number(self, form):
+    def number(self, form: struct.Struct) -> int:
         try:
-            (number,) = struct.unpack_from(form, self.payload, self.at)
+            (number,) = form.unpack_from(self.payload, self.at)
         except struct.error:
             raise Wrong from None
-        self.at += struct.calcsize(form)
-        return number
+        self.at += form.size
+        return int(number)
 
-    def u8(self):
-        return self.number("<B")
+    def u8(self) -> int:
+        return self.number(U8)
 
-    def u32(self):
-        return self.number("<I")
+    def u32(self) -> int:
+        return self.number(U32)
 
-    def u64(self):
-        return self.number("<Q")
+    def u64(self) -> int:
+        return self.number(U64)
 
-    def i64(self):
-        return self.number("<q")
+    def i64(self) -> int:
+        return self.number(I64)
 
-    def one_of(self, items):
-        """The item that a byte stands for, where the first one is 1."""
+    def one_of(self, items: list[Item]) -> Item:
+        """The item that a byte represents. The first one is 1."""
         number = self.u8()
         if not 1 <= number <= len(items):
             raise Wrong
         return items[number - 1]
 
-    def flag(self):
+    def flag(self) -> bool:
         number = self.u8()
         if number > 1:
             raise Wrong
         return number == 1
 
-    def name(self):
+    def name(self) -> str:
         size = self.u8()
-        name = self.payload[self.at : self.at + size]
+        name = bytes(self.payload[self.at : self.at + size])
         if len(name) < size or not NAME.fullmatch(name):
             raise Wrong
         self.at += size
         return name.decode()
 
-    def few(self, item):
+    def few(self, item: Callable[[], Item]) -> list[Item]:
         return [item() for _ in range(self.u8())]
 
-    def many(self, item):
+    def many(self, item: Callable[[], Item]) -> list[Item]:
         return [item() for _ in range(self.u32())]
 
-    def value(self):
+    def value(self) -> int | None:
         return self.i64() if self.flag() else None
 
-    def row(self):
+    def row(self) -> Row:
         time = self.i64()
         if not LEAST_TIME <= time <= MOST_TIME:
             raise Wrong
         return [time, *self.few(self.value)]
 
-    def test(self):
+    def rows(self) -> list[Row]:
+        """Rows of a table, which mostly are rows without NULL, one after the other."""
+        left = self.u32()
+        rows: list[Row] = []
+        while left:
+            found = self.rows_without_null(left)
+            rows += found
+            left -= len(found)
+            if left:
+                rows.append(self.row())
+                left -= 1
+        return rows
+
+    def rows_without_null(self, most: int) -> list[Row]:
+        """The rows up to the first one that has another count of values, or NULL, or isn't whole."""
+        if len(self.payload) < self.at + 9:
+            return []
+        count = self.payload[self.at + 8]
+        form = row_without_null(count)
+        most = min(most, (len(self.payload) - self.at) // form.size)
+        flags = (1,) * count
+        rows: list[Row] = []
+        for fields in form.iter_unpack(self.payload[self.at : self.at + most * form.size]):
+            time = fields[0]
+            if fields[1] != count or fields[2::2] != flags or not LEAST_TIME <= time <= MOST_TIME:
+                break
+            rows.append([time, *fields[3::2]])
+        self.at += len(rows) * form.size
+        return rows
+
+    def test(self) -> Test:
         test = Test(self.u32(), self.one_of(COMPARISONS), self.i64())
         if "NULL" in test.comparison and test.number != 0:
             raise Wrong
         return test
 
-    def function(self):
+    def function(self) -> Function:
         function = Function(self.one_of(FUNCTIONS), self.u32())
         if function.name == "count(*)" and function.column != 0:
             raise Wrong
         return function
 
-    def operation(self):
-        kind = self.one_of([Insert, Delete])
-        return kind(self.u32(), self.many(self.row if kind is Insert else self.test))
+    def operation(self) -> Insert | Delete:
+        if self.one_of([True, False]):
+            return Insert(self.u32(), self.rows())
+        return Delete(self.u32(), self.many(self.test))
 
-    def table(self):
+    def table(self) -> Table:
         return Table(self.name(), self.few(lambda: (self.name(), self.flag())))
 
-    def hyper(self):
+    def hyper(self) -> Hyper:
         return Hyper(self.u32(), self.u32(), self.i64())
 
-    def view(self):
+    def view(self) -> View:
         return View(
             self.name(), self.u32(), self.i64(), self.i64(),
             self.few(self.u32), self.few(self.function), self.many(self.test), self.few(self.name), self.flag(),
         )  # fmt: skip
 
-    def mode(self):
+    def mode(self) -> Mode:
         return Mode(self.u32(), self.flag())
 
-    def commit(self):
+    def commit(self) -> Commit:
         return Commit(self.many(self.operation))
 
-    def cut(self):
+    def cut(self) -> Cut:
         return Cut(self.u32(), self.i64(), self.i64())
 
-    def built(self):
+    def built(self) -> Built:
         return Built(self.u64(), self.u64())
 
 
-def event(payload):
+def event(payload: Bytes) -> Event:
     """The event that a payload is."""
     fields = Fields(payload)
-    kinds = [fields.table, fields.hyper, fields.view, fields.mode, fields.commit, fields.cut, fields.built]
-    read = fields.one_of(kinds)()
+    kinds: list[Callable[[], Any]] = [fields.table, fields.hyper, fields.view, fields.mode, fields.commit, fields.cut, fields.built]
+    read: Event = fields.one_of(kinds)()
     if fields.at != len(payload):
         raise Wrong
     return read

@@ -1,224 +1,268 @@
-"""`tsq load`: the rows of a CSV file as INSERT statements."""
-import csv
-import io
-import math
-import re
-from datetime import datetime, timedelta, timezone
-from typing import NamedTuple
+"""`tsq load`: the rows of a file as INSERT statements, or committed into a folder."""
+from __future__ import annotations
 
-from .cells import UNITS
-from .journal import LEAST_TIME, MOST_TIME
+import argparse
+import hashlib
+import json
+from contextlib import ExitStack
+from pathlib import Path
+from typing import TextIO
+from zoneinfo import ZoneInfo
+
+from .blocks import Parts
+from .cells import time_text
 from .messages import Trouble, say
-from .programs import read, read_input
-from .statements import SESSION
+from .names import Names, Unit
+from .options import Commands, scale_option, times_option
+from .plans import Plan, dict_of_scales, plan_of
+from .printed import print_statements
+from .programs import Ended
+from .reading import Aside, Read, read_rows
+from .resume import Note, NoteFile
+from .schema import Hypertable, hypertable_of
+from .sending import Sender, send
+from .sources import Hashed, LineProtocol, Objects, looks_like, opened
+from .values import Texts
 
-MOST_ROWS = 1000
-MOST_BYTES = 65536
-MOST_INPUT = 67108864
-LEAST, MOST = -(2**63), 2**63 - 1
-EPOCH = datetime(1970, 1, 1, tzinfo=timezone.utc)
-WORD = re.compile(r"[A-Za-z_][A-Za-z0-9_]{0,62}")
-NUMBER = re.compile(r"([+-]?)([0-9]{0,99})(?:\.([0-9]{0,99}))?(?:[eE]([+-]?[0-9]{1,2}))?")
-# `fromisoformat` takes numbers for dates too, by the version of Python, and drops digits behind the sixth.
-CLOCK = r"[0-9]{2}:[0-9]{2}(?::[0-9]{2}(?:\.[0-9]{1,6})?)?"
-DATE = re.compile(rf"[0-9]{{4}}-[0-9]{{2}}-[0-9]{{2}}(?:[Tt ]{CLOCK}(?:[Zz]|[+-][0-9]{{2}}(?::?[0-9]{{2}})?)?)?")
-
-
-class Bad(Exception):
-    """A cell that can't be put in, and why."""
+SECONDS_OF_DAY = 86400
+TICKS = {"s": 1, "ms": 10**3, "us": 10**6}
+FORMATS = ["csv", "json", "influx"]
 
 
-class Column(NamedTuple):
-    """A column of the file: its name in the table, the power of ten it is scaled by, and whether it is the time.
-
-    `unit` is that of times that are written as dates.
-    """
-
-    name: str
-    scale: int
-    is_time: bool
-    unit: str | None
+# ---- the options
 
 
-def number_of(text, column):
-    """The whole number that a cell is, scaled by the power of ten of its column."""
-    found = NUMBER.fullmatch(text)
-    if not found or not (found[2] or found[3]):
-        raise Bad("is no number" + " (--times reads dates)" * bool(DATE.fullmatch(text)))
-    part = (found[3] or "").rstrip("0")
-    digits, power = int(found[2] + part or "0"), column.scale + int(found[4] or 0) - len(part)
-    number, rest = divmod(digits, 10 ** max(0, -power))
-    if rest:
-        raise Bad(f"has more digits than are kept: --scale {column.name}={column.scale - power} keeps them")
-    return (-number if found[1] == "-" else number) * 10 ** max(0, power)
+def distance(text: str) -> int:
+    """How far two times lie apart."""
+    if not text.isdecimal() or len(text) > 19:
+        raise argparse.ArgumentTypeError(f"{text}: wanted is a whole number from 0")
+    return int(text)
 
 
-def time_of(text, unit):
-    """The time that a date is. One without a zone is in UTC."""
+def width(text: str) -> int:
+    """How wide a part of time is."""
+    if distance(text) == 0:
+        raise argparse.ArgumentTypeError(f"{text}: wanted is a whole number from 1")
+    return int(text)
+
+
+def character(text: str) -> str:
+    """A single character; a tab may be written as in Python."""
+    if text == "\\t":
+        return "\t"
+    if len(text) != 1:
+        raise argparse.ArgumentTypeError("wanted is one character")
+    return text
+
+
+def zone(text: str) -> ZoneInfo:
+    """A time zone by its name."""
     try:
-        if not DATE.fullmatch(text):
-            raise ValueError
-        moment = datetime.fromisoformat(re.sub("[Zz]$", "+00:00", text))
-    except ValueError:
-        raise Bad("is no date (--time names the time column)") from None
-    moment = moment if moment.tzinfo else moment.replace(tzinfo=timezone.utc)
-    ticks, rest = divmod((moment - EPOCH) // timedelta(microseconds=1), UNITS["us"] // UNITS[unit])
-    if rest:
-        raise Bad(f"isn't a whole number of {unit}")
-    return ticks
+        return ZoneInfo(text)
+    except (ValueError, OSError, KeyError):
+        raise argparse.ArgumentTypeError(f"{text} is no time zone, such as Europe/Berlin") from None
 
 
-def value_of(text, column):
-    """The value of a cell, None for NULL."""
-    text = text.strip()
-    if text == "" or text.lower() == "null":
-        if column.is_time:
-            raise Bad("is no time")
-        return None
-    value = time_of(text, column.unit) if column.unit else number_of(text, column)
-    least, most = (LEAST_TIME, MOST_TIME) if column.is_time else (LEAST, MOST)
-    if not least <= value <= most:
-        raise Bad("is out of the range of times" if column.is_time else "isn't a number of 64 bits")
-    return value
+def add_command(commands: Commands) -> None:
+    """`tsq load`."""
+    parser = commands.add_parser("load", help="commit the rows of a file, or print INSERTs of them")
+    parser.add_argument("file", metavar="FILE", help="the file, or - for standard input")
+    parser.add_argument("--table", required=True, help="the hypertable")
+    parser.add_argument("--into", metavar="FOLDER", type=Path, help="commit the rows; without it INSERTs are printed")
+    add_format(parser)
+    add_meaning(parser)
+    add_sending(parser)
+    parser.set_defaults(call=load)
 
 
-def row_of(cells, columns, line):
-    """The values of a row of the file, in the order of the columns that are loaded."""
-    if len(cells) != len(columns):
-        raise Trouble(f"line {line}: {len(cells)} cells, and --columns has {len(columns)}")
-    row = []
-    for place, (text, column) in enumerate(zip(cells, columns), 1):
-        try:
-            if column.name:
-                row.append(value_of(text, column))
-        except Bad as bad:
-            raise Trouble(f"line {line}, column {place} ({column.name}): `{text}` {bad}") from None
-    return row
+def add_format(parser: argparse.ArgumentParser) -> None:
+    """How the file is written."""
+    parser.add_argument("--format", choices=FORMATS, help="without it the name's end tells: .ndjson, .jsonl, .lp; else CSV")
+    columns = "the table's columns in the order of the file's, one without a name is left out; or NAME=KEY,.. by its names"
+    parser.add_argument("--columns", metavar="NAME,..", help=columns)
+    parser.add_argument("--header", action="store_true", help="the first line of CSV holds names, and isn't a row")
+    delimiter = "what stands between the cells of CSV, instead of a comma"
+    parser.add_argument("--delimiter", type=character, default=",", metavar="CHARACTER", help=delimiter)
+    parser.add_argument("--encoding", default="utf-8-sig", metavar="NAME", help="instead of UTF-8, such as latin-1")
+    parser.add_argument("--measurement", metavar="NAME", help="of line protocol; without it the name of the table")
 
 
-# ---- what is asked for
+def add_meaning(parser: argparse.ArgumentParser) -> None:
+    """What the cells mean."""
+    parser.add_argument("--time", metavar="NAME", help="the time column; without it the first one")
+    scale_option(parser, "multiply a column by 10 so many times, such as temp=2; may be given several times")
+    times_option(parser, "times are dates, such as 2024-01-31T12:00:00Z, and become s, ms or us since 1970")
+    parser.add_argument("--zone", type=zone, metavar="NAME", help="the zone of dates without one, instead of UTC")
+    doubled = "which one a date means in the hour that clocks show twice; without it the first"
+    parser.add_argument("--doubled", choices=["first", "second"], default="first", help=doubled)
+    parser.add_argument("--epoch", choices=["s", "ms", "us", "ns"], help="times are numbers of this unit since 1970")
+    null = "a cell that is NULL, beside an empty one and null; may be given several times"
+    parser.add_argument("--null", action="append", default=[], metavar="TEXT", help=null)
+    texts = "columns of texts, which get numbers in tsctl.names"
+    parser.add_argument("--texts", metavar="NAME,..", default="", help=texts)
 
 
-def columns_of(options):
-    """The columns of the file, those that aren't loaded with an empty name."""
-    names = options.columns.split(",")
-    loaded = [name for name in names if name]
-    time = options.time or (loaded or [""])[0]
-    for word in [options.table, *loaded]:
-        if not WORD.fullmatch(word):
-            raise Trouble(f"`{word}` is no name")
-    if not SESSION.fullmatch(f"{options.session}:"):
-        raise Trouble(f"`{options.session}` is no name of a session")
-    if time not in loaded or len(set(loaded)) < len(loaded):
-        raise Trouble("--columns has to hold the time column, and each name once")
-    scales = dict(options.scale)
-    for name in scales:
-        if name not in loaded:
-            raise Trouble(f"--scale {name}={scales[name]}: --columns has no such name")
-    if options.times and time in scales:
-        raise Trouble(f"--scale {time}={scales[time]}: --times says what its unit is")
-    return [Column(name, scales.get(name, 0), name == time, options.times if name == time else None) for name in names]
+def add_sending(parser: argparse.ArgumentParser) -> None:
+    """How the rows are parted, and what is left out."""
+    gap = "no two neighbors in time in a commit, or a statement, lie further apart"
+    parser.add_argument("--gap", type=distance, metavar="N", help=gap)
+    block = "with --into: a commit holds so much time; without it a day, or a chunk if times have no unit"
+    parser.add_argument("--block", type=width, metavar="N", help=block)
+    once = parser.add_mutually_exclusive_group()
+    once.add_argument("--once", action="store_true", help="with --into: leave out rows that are there already")
+    once.add_argument("--again", action="store_true", help="with --into: load an input that was loaded last once more")
+    aside = "put rows that can't be read into this file, and load the others"
+    parser.add_argument("--skip-broken", metavar="FILE", help=aside)
+    parser.add_argument("--session", default="load", help="the session that puts them in")
 
 
-def check_names(names, columns):
-    """That none of the columns has the name of another column of the file, as where two were exchanged."""
-    for place, column in enumerate(columns):
-        if column.name and column.name in names and column.name != "".join(names[place : place + 1]):
-            other = names.index(column.name) + 1
-            raise Trouble(f"--columns has {column.name} for column {place + 1} of the file, but it is column {other}")
+# ---- the command
 
 
-def rows_of(options, columns):
-    """The rows of the file. The first cell that can't be put in ends it as Trouble."""
-    raw = read_input() if options.file == "-" else read(options.file)
-    text = io.StringIO(raw.decode("utf-8-sig", "replace"), newline="")
-    reader = csv.reader(text, delimiter=options.delimiter, strict=True)
-    try:
-        if options.header:
-            check_names([name.strip() for name in next(reader, [])], columns)
-        return [row_of(cells, columns, reader.line_num) for cells in reader if cells]
-    except csv.Error as error:
-        raise Trouble(f"line {reader.line_num}: {error}") from None
+def load(options: argparse.Namespace) -> int:
+    """Prints the statements, or commits the rows, once all of the file was read."""
+    options.table = options.table.lower()
+    options.format = options.format or looks_like(options.file)
+    for name, given in [("--once", options.once), ("--again", options.again), ("--block", options.block)]:
+        if given and not options.into:
+            raise Trouble(f"{name} needs --into")
+    files = ExitStack()
+    with files:
+        hashed, text = opened(options.file, options.encoding)
+        status = load_into(options, hashed, text, files) if options.into else load_printed(options, text, files)
+    return status
 
 
-# ---- statements
-
-
-class Statements:
-    """Puts rows into statements of as many as fit."""
-
-    def __init__(self, front):
-        self.front = front
-        self.done = []
-        self.begin()
-
-    def begin(self):
-        """Begins a statement without rows."""
-        self.rows = []
-        self.size = len(self.front)
-
-    def add(self, row):
-        """Puts a row in, and says whether it begins a statement."""
-        text = "(" + ", ".join("NULL" if value is None else str(value) for value in row) + ")"
-        if len(self.rows) == MOST_ROWS or self.size + 2 + len(text) > MOST_BYTES:
-            self.end()
-        self.rows.append(text)
-        self.size += len(text) + 2
-        return len(self.rows) == 1
-
-    def end(self):
-        """Ends the statement, if it has rows."""
-        if self.rows:
-            self.done.append(self.front + ", ".join(self.rows))
-        self.begin()
-
-
-def put_in_order(rows, at, gap, statements):
-    """Puts the rows into statements as they come, with a new one behind a gap, where one is asked for. Gives those
-    that are left because they lie before the statement that they would stand in, and the greatest step between two
-    that do not."""
-    late, step, low, high, last = [], 0, None, None, None
-    for row in rows:
-        time = row[at]
-        if low is not None and time < low:
-            late.append(row)
-            continue
-        if gap is not None and high is not None and time - high > gap:
-            statements.end()
-        low, high = (time, time) if statements.add(row) else (low, max(high, time))
-        step = max(step, time - last) if last is not None else 0
-        last = time
-    statements.end()
-    return late, step
-
-
-def put_late(rows, at, gap, statements):
-    """Puts late rows into statements by their times, those further apart than the gap into different ones."""
-    last = None
-    for row in sorted(rows, key=lambda row: row[at]):
-        if last is not None and row[at] - last > gap:
-            statements.end()
-        statements.add(row)
-        last = row[at]
-    statements.end()
-
-
-def load(options):
-    """Prints the statements, once all of the file was found to be numbers."""
-    columns = columns_of(options)
-    loaded = [column for column in columns if column.name]
-    at = next(place for place, column in enumerate(loaded) if column.is_time)
-    rows = rows_of(options, columns)
-    names = ", ".join(column.name for column in loaded)
-    statements = Statements(f"{options.session}: INSERT INTO {options.table} ({names}) VALUES ")
-    late, step = put_in_order(rows, at, options.gap, statements)
-    in_order = len(statements.done)
-    # Of a file that begins with its latest row there is no step to go by.
-    put_late(late, at, (step or math.inf) if options.gap is None else options.gap, statements)
-    print("".join(f"{statement}\n" for statement in statements.done), end="")
-    if late:
-        say(f"late rows: {len(late)} of {len(rows)}; statements of their own: {len(statements.done) - in_order}")
-    size = sum(len(statement) + 1 for statement in statements.done)
-    if size > MOST_INPUT:
-        say(f"{size} bytes, and a run takes {MOST_INPUT}: part it by `split -C 60m`, and run the parts one by one")
+def load_printed(options: argparse.Namespace, text: TextIO, files: ExitStack) -> int:
+    """Prints the statements."""
+    plan = plan_of(options, text, Names(Path()), None)
+    rows: list[tuple[int, str]] = []
+    aside = Aside(options.skip_broken, options.file, plan.source.head, files)
+    read = read_rows(plan, options.null, "NULL", lambda time, row: rows.append((time, ", ".join(row))), aside.add)
+    read.say()
+    if read.broken and not options.skip_broken:
+        return 2
+    names = ", ".join(column.name for column in plan.columns if column)
+    print_statements(f"{options.session}: INSERT INTO {options.table} ({names}) VALUES ", rows, options.gap)
+    tell_apart(plan, aside)
     return 0
+
+
+def tell_apart(plan: Plan, aside: Aside) -> None:
+    """Says what of the input isn't loaded, and which times had two meanings."""
+    if aside.count:
+        say(f"rows put aside into {aside.name}: {aside.count}")
+    if plan.times.doubled:
+        which = "second" if plan.times.fold else "first"
+        say(f"rows in an hour that clocks in {plan.times.zone} show twice: {plan.times.doubled}, taken as the {which} one")
+    if isinstance(plan.source, Objects) and plan.source.others:
+        say(f"keys that aren't loaded: {', '.join(sorted(plan.source.others))}")
+    if isinstance(plan.source, LineProtocol) and plan.source.elsewhere:
+        say(f"lines of other measurements than {plan.source.measurement}: {plan.source.elsewhere}")
+
+
+def width_of_blocks(options: argparse.Namespace, unit: Unit | None, table: Hypertable) -> int:
+    """How much time a commit holds."""
+    if options.block:
+        return int(options.block)
+    return SECONDS_OF_DAY * TICKS[unit] if unit else table.interval
+
+
+def load_into(options: argparse.Namespace, hashed: Hashed, text: TextIO, files: ExitStack) -> int:
+    """Commits the rows of a file into a folder."""
+    names = Names.read(options.into)
+    table = hypertable_of(options.into, options.table)
+    scales = dict_of_scales(options)
+    if contradiction := names.would_contradict(scales, options.times):
+        raise Trouble(contradiction)
+    plan = plan_of(options, text, names, table)
+    parts = files.enter_context(Parts(width_of_blocks(options, plan.times.unit, table)))
+    aside = Aside(options.skip_broken, options.file, plan.source.head, files)
+    read = read_rows(plan, options.null, "null", lambda time, row: parts.add(time, ",".join(row)), aside.add)
+    read.say()
+    if read.broken and not options.skip_broken:
+        say("nothing is loaded")
+        return 2
+    note = new_note(options, hashed, parts.width)
+    found = NoteFile(options.into).read()
+    check_same(found, note)
+    remember(names, plan.texts, scales, options.times)
+    status = commit(options, table, parts, plan.at, found, note) if read.rows else 0
+    tell_apart(plan, aside)
+    print_summary(read, note, aside, plan.times.unit, options.once)
+    return status
+
+
+def new_note(options: argparse.Namespace, hashed: Hashed, width: int) -> Note:
+    """The note of a load of this input with these options."""
+    left_out = ("call", "file", "into", "skip_broken", "again")
+    used = {name: str(value) for name, value in vars(options).items() if name not in left_out}
+    text = json.dumps([hashed.size, hashed.sum.hexdigest(), width, used], sort_keys=True)
+    return Note(options.file, hashlib.sha256(text.encode()).hexdigest())
+
+
+def check_same(found: Note | None, note: Note) -> None:
+    """That a load which was broken off is this one."""
+    if found and not found.is_finished and found.input != note.input:
+        raise Trouble(
+            f"a load of {found.name} into this folder was broken off after {found.rows} rows. The same command with the "
+            "same input goes on with it; remove tsctl.load to give it up"
+        )
+
+
+def is_done(options: argparse.Namespace, found: Note | None, note: Note, sender: Sender) -> bool:
+    """Whether the last load is this one, and has come to its end."""
+    if found is None or not found.is_finished or found.input != note.input or options.once or options.again:
+        return False
+    return found.position <= sender.position()
+
+
+def remember(names: Names, texts: list[Texts], scales: dict[str, int], times: Unit | None) -> None:
+    """Puts into the folder's dictionary what the rows need."""
+    new = [(column.column, text) for column in texts for text in column.new()]
+    names.remember(new, scales, times)
+    for column in texts:
+        for text, number in column.new().items():
+            if names.number_of(column.column, text) != number:
+                raise Trouble("tsctl.names was changed meanwhile by another load: nothing is loaded, try again")
+
+
+def commit(
+    options: argparse.Namespace, table: Hypertable, parts: Parts, at: int, found: Note | None, note: Note
+) -> int:
+    """Commits the blocks, and gives the exit status. A load that was broken off goes on: the note takes how far it
+    came."""
+    try:
+        with Sender(options.into, table.name, table.time, options.session, options.once) as sender:
+            done = is_done(options, found, note, sender)
+            is_begun = found is not None and not found.is_finished
+            if found and (done or is_begun):
+                vars(note).update(vars(found))
+            if done:
+                say("this input was loaded already; --again loads it once more")
+            else:
+                send(sender, parts.blocks(options.gap, at), at, note, NoteFile(options.into), is_begun)
+            return 0
+    except Ended as ended:
+        say(f"tsctl has ended with status {ended.status}: `tsctl --in {options.into} why` says more")
+        status = ended.status or 2
+    except KeyboardInterrupt:
+        status = 130
+    say("broken off: the same command goes on where it was")
+    return status
+
+
+def print_summary(read: Read, note: Note, aside: Aside, unit: Unit | None, is_once: bool) -> None:
+    """Prints what was loaded."""
+    print(f"rows {note.rows} of {read.rows}")
+    if read.first is not None and read.last is not None:
+        print(f"times {time_text(read.first, unit)}..{time_text(read.last, unit)}")
+    print(f"NULL {read.nulls}")
+    print(f"duplicates {note.duplicates} {'left out' if is_once else 'loaded'}")
+    print(f"put aside {aside.count}")
+    print("commits " + (", ".join(commit_text(*pair) for pair in note.commits) or "none"))
+
+
+def commit_text(first: int, last: int) -> str:
+    """The positions of commits that follow each other."""
+    return f"@{first}" if first == last else f"@{first}..@{last}"

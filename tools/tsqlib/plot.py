@@ -1,354 +1,207 @@
-"""`tsq plot`: the columns of an aggregate over time, with the stale ranges shaded."""
-import math
+"""`tsq plot`: the columns of an aggregate, of a roll of it or of a query over time, as PNG and SVG."""
+from __future__ import annotations
+
+import argparse
+import os
+import pickle
 import shutil
 import subprocess
-from datetime import datetime, timedelta
-from fractions import Fraction
+import sys
+from collections.abc import Iterator
+from dataclasses import replace
 from importlib.util import find_spec
-from typing import NamedTuple
+from pathlib import Path
 
-from . import programs
-from .answers import output_for
-from .cells import UNITS
+from . import drawing
+from .aggregates import checked_name, checked_text
+from .asking import Shown, ask, ask_query
+from .replies import Range
+from .gaps import edges_of
 from .messages import Trouble, say
-from .refusals import explanation
-from .replies import replies_in
-from .schema import Schema
+from .moments import Clock, zone_of
+from .names import Names
+from .options import Commands, folder_option, scale_option, snapshot_option, times_option
+from .periods import KINDS, Periods
+from .picture import MOST_NAMED, Panel, Picture, Word, bounds_of, marks_of, panels_of
+from .series import Series, chosen, columns_of, of_aggregate, of_query, of_roll, powers_of, rows_of, with_keys
 
-SHADE = "#f4c7a1"
-SIZE = "size 1000,600"
-# Not every gnuplot has the better one of its two ways to a PNG.
-PNG = f"set terminal pngcairo {SIZE} }} else {{ set terminal png {SIZE}"
-TERMINALS = [
-    (f"if (strstrt(GPVAL_TERMINALS, 'pngcairo')) {{ {PNG} }}", "png"),
-    (f"set terminal svg {SIZE}", "svg"),
-]
-NOTHING_DRAWS = 3
-# Colours that can be told from each other and from the shade.
-COLOURS = [
-    "#0072b2", "#d62728", "#009e73", "#9467bd", "#000000", "#56b4e9", "#8c564b", "#e377c2",
-    "#7f7f7f", "#808000", "#17becf", "#000080", "#66c266", "#a00060", "#4b6a00", "#b0a0ff",
-]  # fmt: skip
-# Columns whose greatest values differ by more than this factor don't share an axis.
-MOST_FACTOR = 5
-MOST_LABELS = 7
-# Columns of the legend below.
-MOST_COLUMNS = 4
-DATE = "%Y-%m-%d\n%H:%M:%S"
-DAY = 86400
-# Steps of seconds, by which the labels of dates stand apart.
-STEPS = [1, 2, 5, 10, 15, 30, 60, 120, 300, 600, 900, 1800, 3600, 7200, 10800, 21600, 43200]
+TOOLS = Path(__file__).resolve().parents[1]
 
 
-class Line(NamedTuple):
-    """A line: its title, pieces of points, and whether the axis on the right has its values."""
+def key(text: str) -> tuple[str, str]:
+    """A key and a value, such as `sensor=8`."""
+    name, has_value, value = text.partition("=")
+    if not name or not has_value:
+        raise argparse.ArgumentTypeError(f"{text}: wanted is NAME=VALUE")
+    return name, value
 
-    title: str
-    pieces: list
-    is_right: bool
 
-
-class Picture(NamedTuple):
-    """What is drawn: lines, stale ranges, where the picture begins and ends, and the names of the axes: of times, of
-    values on the left and on the right. Times are numbers, in seconds where `has_dates`."""
-
-    title: str
-    lines: list
-    stale: list
-    start: float
-    end: float
-    has_dates: bool
-    axes: tuple
+def add_command(commands: Commands) -> None:
+    """`tsq plot`."""
+    parser = commands.add_parser("plot", help="draw an aggregate, with its stale ranges shaded")
+    snapshot_option(parser)
+    asked = parser.add_mutually_exclusive_group(required=True)
+    asked.add_argument("view", nargs="?", metavar="AGGREGATE")
+    asked.add_argument("--query", metavar="SELECT", help="a query by buckets, such as a roll-up, instead")
+    parser.add_argument("--by", choices=KINDS, help="add its groups up by the calendar, as `tsq roll` does")
+    parser.add_argument("--zone", default="UTC", help="the time zone of dates, such as Europe/Berlin; UTC without it")
+    parser.add_argument("--columns", metavar="NAME,..", help="what is drawn; without it every function's column")
+    parser.add_argument("--from", dest="low", metavar="TIME", help="buckets that start at a time or later")
+    parser.add_argument("--to", dest="high", metavar="TIME", help="buckets that start before a time")
+    parser.add_argument("--where", default="", metavar="TESTS", help="tests on the bucket, such as `hour >= 0`")
+    keys = "only rows whose key has this value, such as sensor=8; may be given several times"
+    parser.add_argument("--key", type=key, action="append", default=[], metavar="NAME=VALUE", help=keys)
+    parser.add_argument("--out", metavar="NAME", help="writes NAME.png and NAME.svg; without it the aggregate's name")
+    scale_option(parser, "divide a column by 10 so many times, such as mean=2; may be given several times")
+    times_option(parser, "times are seconds, milliseconds or microseconds since 1970, and are drawn as dates")
+    folder_option(parser)
+    parser.set_defaults(call=plot)
 
 
 # ---- what is drawn
 
 
-def answer_of(options):
-    """The answer to the question that the options ask, and its columns."""
-    where = f" WHERE {options.where}" if options.where else ""
-    script = f"plot: SELECT * FROM {options.view}{where}\n".encode()
-    folder = options.folder or "."
-    journal = programs.journal_in(folder)
-    if not journal:
-        raise Trouble(f"there is no tsctl.journal in {folder} to draw from")
-    schema = Schema()
-    schema.learn_journal(journal)
-    _, output = programs.call(["run"], script, folder)
-    for reply in replies_in(output, script):
-        if reply.fault():
-            raise Trouble("\n".join([*reply.heads, *explanation(reply, is_numbered=False)]))
-        return reply, output_for(reply, schema)
-    raise Trouble("tsctl gave no answer")
+def bounds_in(arguments: argparse.Namespace, clock: Clock) -> tuple[int | None, int | None]:
+    """The times of `--from` and `--to`."""
+    low, high = (clock.read(text) if text else None for text in (arguments.low, arguments.high))
+    return low, high
 
 
-def scales_of(options, output):
-    """The powers of ten by which columns are divided, by the places of those that are drawn."""
-    functions = output.names[1 + output.keys :]
-    wanted = options.columns.split(",") if options.columns else functions
-    for name in wanted:
-        if name not in functions:
-            raise Trouble(f"no column `{name}` to draw; there are {', '.join(functions)}")
-    scales = dict(options.scale)
-    for name in scales:
-        if name not in wanted:
-            raise Trouble(f"--scale {name}={scales[name]}: no such column is drawn")
-    return {output.names.index(name): scales.get(name, 0) for name in wanted}
+def asked(arguments: argparse.Namespace, clock: Clock) -> Shown:
+    """What the aggregate shows, or what the query answers."""
+    folder = arguments.folder or "."
+    if arguments.query:
+        for name in ("by", "low", "high", "where"):
+            if getattr(arguments, name):
+                raise Trouble("--query stands for itself: --by, --from, --to and --where are for an aggregate")
+        return ask_query(folder, arguments.query)
+    return ask(folder, arguments.view, *bounds_in(arguments, clock), arguments.where)
 
 
-def with_keys(reply, output, pairs):
-    """The answer with those rows whose key columns have one of the values that are asked for, as pairs of a name and
-    a value."""
-    names = output.names[1 : 1 + output.keys]
-    wanted = {}
-    for name, value in pairs:
-        if name not in names:
-            raise Trouble(f"no key `{name}`; " + (f"there are {', '.join(names)}" if names else "there is none"))
-        wanted.setdefault(output.names.index(name), set()).add(value)
-    rows = [row for row in reply.rows if all(row[place] in values for place, values in wanted.items())]
-    if reply.rows and not rows:
-        raise Trouble("no row has " + ", ".join(f"{name} {value}" for name, value in pairs))
-    return reply._replace(rows=rows)
+def series_of(arguments: argparse.Namespace, shown: Shown, clock: Clock) -> Series:
+    """The rows that may be drawn."""
+    if shown.aggregate is None:
+        return of_query(shown)
+    if not arguments.by:
+        return of_aggregate(shown, shown.aggregate)
+    if clock.unit is None:
+        raise Trouble("--by adds up by the calendar, and --times tells what times are")
+    edges = edges_of(shown, shown.aggregate, *bounds_in(arguments, clock))
+    return of_roll(shown, shown.aggregate, Periods(arguments.by, clock), edges)
 
 
-def number_of(text, power):
-    """The value of a cell, divided by ten so many times."""
-    return float(Fraction(text) / 10**power)
+def words_of(shown: Shown, panels: list[Panel], watermark: int | None, notes: list[str], clock: Clock) -> list[Word]:
+    """What is said below the picture."""
+    words = []
+    if shown.late:
+        words.append(Word(f"stale: {clock.spans(shown.late, MOST_NAMED)}", "stale"))
+    if shown.dropped:
+        ranges = clock.spans(shown.dropped, MOST_NAMED)
+        words.append(Word(f"rows dropped, shown as of the last refresh: {ranges}", "dropped"))
+    if watermark is not None:
+        words.append(Word(f"watermark: {clock.text(watermark)}"))
+    undrawn = sum(panel.undrawn for panel in panels)
+    notes = notes + [f"{undrawn} lines more aren't drawn: --key chooses"] * bool(undrawn)
+    return words + [Word(note, is_note=True) for note in notes]
 
 
-def right_ones(rows, scales):
-    """The places of the columns that are drawn by the axis on the right: their greatest value, signs apart, is far
-    from that of the first column."""
-    greatest = {}
-    for place, power in scales.items():
-        values = (abs(number_of(row[place], power)) for row in rows if row[place] != "null")
-        greatest[place] = max(values, default=0)
-    first = greatest[next(iter(scales))]
-    return {place for place, it in greatest.items() if 0 < MOST_FACTOR * min(first, it) < max(first, it)}
+def within(shown: Shown, start: int, end: int) -> Shown:
+    """The same with those ranges that a picture from one time to another shows."""
+
+    def kept(ranges: list[Range]) -> list[Range]:
+        return [(low, high) for low, high in ranges if high > start and (low is None or low < end)]
+
+    return replace(shown, late=kept(shown.late), dropped=kept(shown.dropped))
 
 
-def pieces_of(points, width):
-    """The points of a line, parted where a bucket has no value. A value holds from its bucket's start to its end."""
-    pieces, end = [], None
-    for start, value in points:
-        if start != end:
-            pieces.append([])
-        end = start + width
-        pieces[-1] += [(start, value), (end, value)]
-    return pieces
-
-
-def lines_for(reply, output, scales, right, seconds):
-    """The lines: one for each list of keys and each column, whose place has the power of ten that divides it."""
-    points = {}
-    for row in reply.rows:
-        keys = tuple(row[1 : 1 + output.keys])
-        for place, power in scales.items():
-            line = points.setdefault((keys, place), [])
-            if row[place] != "null":
-                line.append((int(row[0]), number_of(row[place], power)))
-    lines = []
-    for (keys, place), found in points.items():
-        named = [output.names[place], *(f"{name} {key}" for name, key in zip(output.names[1:], keys))]
-        pieces = [[(seconds(at), value) for at, value in piece] for piece in pieces_of(found, output.width)]
-        lines.append(Line(", ".join(named) + " (right)" * (place in right), pieces, place in right))
-    return lines
-
-
-def axes_of(output, scales, right, has_dates):
-    """The names of the axes: the bucket, and the columns of each side."""
-    sides = [[output.names[place] for place in scales if (place in right) == is_right] for is_right in (False, True)]
-    return output.names[0] + ", UTC" * has_dates, *map(", ".join, sides)
-
-
-def picture_of(options, reply, output):
-    """What is drawn of an answer. The picture spans its buckets and the stale ranges."""
-    if not output.width:
-        raise Trouble(f"{options.view} isn't an aggregate")
-    if not reply.rows:
-        raise Trouble(f"{options.view} shows no rows: a rollup shows nothing before its first refresh")
-    reply = with_keys(reply, output, options.key)
-    starts = [int(row[0]) for row in reply.rows]
-    bounds = [bound for span in reply.stale for bound in span if bound is not None]
-    low, high = min(starts + bounds), max([start + output.width for start in starts] + bounds)
-    if any(span[0] is None for span in reply.stale):
-        low -= max(output.width, (high - low) // 20)
-    unit = UNITS[options.times] if options.times else 1
-
-    def seconds(time):
-        return time / unit
-
-    stale = [(seconds(low if start is None else start), seconds(end)) for start, end in reply.stale]
-    scales, has_dates = scales_of(options, output), bool(options.times)
-    right = right_ones(reply.rows, scales)
-    lines = lines_for(reply, output, scales, right, seconds)
-    axes = axes_of(output, scales, right, has_dates)
-    return Picture(options.view, lines, stale, seconds(low), seconds(high), has_dates, axes)
-
-
-# ---- how it looks
-
-
-def steps(has_dates):
-    """The steps by which labels may stand apart, the least one first."""
-    if has_dates:
-        yield from STEPS
-    power = DAY if has_dates else 1
-    while True:
-        yield from (power, 2 * power, 5 * power)
-        power *= 10
-
-
-def step_of(picture):
-    """The step between the labels of times: the least one by which there aren't too many."""
-    span = picture.end - picture.start
-    return next(step for step in steps(picture.has_dates) if span < MOST_LABELS * step)
-
-
-def colour(number):
-    """The colour of a line, by its number."""
-    return COLOURS[number % len(COLOURS)]
-
-
-def right_range(picture):
-    """What the axis on the right spans: the values of its lines, with some room."""
-    values = [value for line in picture.lines if line.is_right for piece in line.pieces for _, value in piece]
-    room = (max(values) - min(values)) / 20 or max(map(abs, values)) / 20
-    return min(values) - room, max(values) + room
-
-
-# ---- gnuplot
-
-
-def quoted(text):
-    """A text as gnuplot reads it as it is."""
-    return "'" + text.replace("'", "''") + "'"
-
-
-def data_block(number, pieces):
-    """The points of a line as a block of data. An empty line parts pieces."""
-    lines = [f"$line{number} << END"]
-    for piece in pieces:
-        lines += [f"{at!r} {value!r}" for at, value in piece] + [""]
-    return [*lines, "END"]
-
-
-def axis_lines(picture):
-    """The names of the axes, and the one on the right where it is needed."""
-    times, left, right = picture.axes
-    lines = [f"set xlabel {quoted(times)} noenhanced", f"set ylabel {quoted(left)} noenhanced"]
-    if right:
-        low, high = right_range(picture)
-        lines += [f"set y2label {quoted(right)} noenhanced", f"set y2range [{low!r}:{high!r}]"]
-        lines += ["set ytics nomirror", "set y2tics"]
+def picture_of(arguments: argparse.Namespace, shown: Shown, names: Names, clock: Clock) -> Picture:
+    """What is drawn."""
+    series = series_of(arguments, shown, clock)
+    if not series.buckets:
+        why = ": it has none before its first refresh" if shown.watermark is None else ""
+        raise Trouble(f"{shown.title} shows no rows{why}")
+    buckets = with_keys(series, arguments.key, names)
+    places = chosen(series, arguments.columns)
+    columns = [series.columns[place] for place in places]
+    rows = rows_of(series, buckets, places, powers_of(columns, dict(arguments.scale), names), names)
+    panels = panels_of(columns_of(series, places), series.keys, rows)
+    if shown.aggregate:
+        start, end = bounds_of(rows, shown.late + shown.dropped)
     else:
-        lines.append("set rmargin 9")
-    return lines
+        start, end = bounds_of(rows, [])
+        shown = within(shown, start, end)
+    marks = marks_of("stale", shown.late, start, end) + marks_of("dropped", shown.dropped, start, end)
+    watermark = shown.watermark if shown.watermark is not None and start <= shown.watermark <= end else None
+    axis = f"{series.axis}, {clock.zone.key}" if clock.unit else series.axis
+    return Picture(f"{series.title} @{shown.position}", axis, panels, start, end, marks, watermark, clock.unit,
+                   clock.zone.key, words_of(shown, panels, watermark, series.notes, clock))  # fmt: skip
 
 
-def gnuplot_script(picture, out):
-    """The script that draws the picture into two files."""
-    script = [f"set title {quoted(picture.title)} noenhanced", "set key below noenhanced"]
-    script.append("set offsets 0, 0, graph 0.05, graph 0.05")
-    script.append(f"set xrange [{picture.start!r}:{picture.end!r}]")
-    script.append(f'set format x "{DATE}" time'.replace("\n", "\\n") if picture.has_dates else 'set format x "%.0f"')
-    script += [f"set xtics {step_of(picture)}", *axis_lines(picture)]
-    plots = []
-    for number, (low, high) in enumerate(picture.stale, 1):
-        script.append(
-            f"set object {number} rectangle from {low!r}, graph 0 to {high!r}, graph 1 behind"
-            f" fillcolor rgb '{SHADE}' fillstyle solid noborder"
-        )
-    for number, line in enumerate(picture.lines, 1):
-        script += data_block(number, line.pieces)
-        look = f"linewidth {1 if line.is_right else 2} linecolor rgb '{colour(number - 1)}'"
-        axes = "axes x1y2 " * line.is_right
-        plots.append(f"$line{number} using 1:2 {axes}with lines {look} title {quoted(line.title)}")
-    if picture.stale:
-        plots.append(f"NaN with boxes fillcolor rgb '{SHADE}' fillstyle solid noborder title 'stale'")
-    for terminal, end in TERMINALS:
-        script += [terminal, f"set output {quoted(f'{out}.{end}')}", "plot " + ", ".join(plots)]
-    return "".join(line + "\n" for line in script)
+# ---- files
 
 
-def draw_by_gnuplot(picture, out):
-    """Draws by the program gnuplot, which reads its script."""
-    done = subprocess.run(["gnuplot"], input=gnuplot_script(picture, out).encode(), stderr=subprocess.PIPE)
-    if done.returncode != 0:
-        raise Trouble("gnuplot: " + done.stderr.decode("utf-8", "replace").strip())
-
-
-# ---- matplotlib
-
-
-def place(at, has_dates):
-    """A time as matplotlib takes it."""
+def write_all(files: dict[Path, bytes]) -> None:
+    """Writes files, each whole: on a failure none is there that wasn't before."""
+    begun: list[Path] = []
     try:
-        return datetime(1970, 1, 1) + timedelta(seconds=at) if has_dates else at
-    except OverflowError:
-        raise Trouble("times lie outside of the years 1 to 9999: is --times another unit than theirs?") from None
+        for path, content in files.items():
+            begun.append(path.with_name(f".{path.name}.{os.getpid()}"))
+            begun[-1].write_bytes(content)
+        for new, path in zip(begun, files):
+            os.replace(new, path)
+    except OSError as error:
+        raise Trouble(f"{next(iter(files)).parent}: {error.strerror}") from None
+    finally:
+        for new in begun:
+            new.unlink(missing_ok=True)
 
 
-def draw_lines(picture, left, right):
-    """Draws the lines by the axes on the left and on the right, and gives what stands for them in the legend."""
-    shown = []
-    for number, line in enumerate(picture.lines):
-        # Not a number parts the pieces.
-        points = [point for piece in line.pieces for point in [*piece, (piece[-1][0], float("nan"))]]
-        times = [place(at, picture.has_dates) for at, _ in points]
-        axes, width = (right, 1) if line.is_right else (left, 2)
-        look = {"label": line.title, "color": colour(number), "linewidth": width}
-        shown += axes.plot(times, [value for _, value in points], **look)
-    return shown
+# ---- which Python draws
 
 
-def put_labels(picture, axes):
-    """Puts labels on the axis of times."""
-    step = step_of(picture)
-    ticks = range(math.ceil(picture.start / step) * step, math.floor(picture.end) + 1, step)
-    places = [place(at, picture.has_dates) for at in ticks]
-    axes.set_xticks(places, [it.strftime(DATE) if picture.has_dates else it for it in places])
+def other_pythons() -> Iterator[str]:
+    """The other Pythons on the PATH, and that of the system, which has the system's packages."""
+    seen = {os.path.realpath(sys.executable)}
+    for folder in [*os.environ.get("PATH", "").split(os.pathsep), "/usr/bin"]:
+        found = shutil.which("python3", path=folder)
+        if found and os.path.realpath(found) not in seen:
+            seen.add(os.path.realpath(found))
+            yield found
 
 
-def draw_by_matplotlib(picture, out):
-    """Draws by the package matplotlib, which is asked for only where it is needed."""
-    import matplotlib
-
-    matplotlib.use("Agg")
-    from matplotlib import pyplot
-
-    figure, left = pyplot.subplots(figsize=(10, 6))
-    times, left_name, right_name = picture.axes
-    right = left.twinx() if right_name else left
-    bounds = [place(at, picture.has_dates) for at in (picture.start, picture.end)]
-    shown = draw_lines(picture, left, right)
-    for number, span in enumerate(picture.stale):
-        shade = left.axvspan(*(place(at, picture.has_dates) for at in span), color=SHADE, label="stale", zorder=0)
-        shown += [shade] * (number == 0)
-    left.set(title=picture.title, xlim=bounds, xlabel=times, ylabel=left_name)
-    if right_name:
-        right.set(ylabel=right_name, ylim=right_range(picture))
-    put_labels(picture, left)
-    left.legend(handles=shown, loc="upper center", bbox_to_anchor=(0.5, -0.2), ncol=MOST_COLUMNS)
-    for end in ("png", "svg"):
-        figure.savefig(f"{out}.{end}", bbox_inches="tight")
+def rendered_by(python: str, picture: Picture) -> dict[str, bytes] | None:
+    """The picture's files, by another Python; nothing if it has no matplotlib."""
+    words = [python, "-m", drawing.__name__]
+    done = subprocess.run(words, input=pickle.dumps(picture), capture_output=True, cwd=TOOLS)
+    if done.returncode == 0:
+        files: dict[str, bytes] = pickle.loads(done.stdout)
+        return files
+    if done.returncode == drawing.NOTHING_DRAWS or b"SyntaxError" in done.stderr:
+        return None
+    raise Trouble(done.stderr.decode("utf-8", "replace").strip() or f"{python} ended with {done.returncode}")
 
 
-def plot(options):
-    """Draws the picture into a PNG and an SVG, or prints the script that would."""
-    picture = picture_of(options, *answer_of(options))
-    out = options.out or options.view
-    if options.script:
-        print(gnuplot_script(picture, out), end="")
-        return 0
-    if shutil.which("gnuplot"):
-        draw_by_gnuplot(picture, out)
-    elif find_spec("matplotlib"):
-        draw_by_matplotlib(picture, out)
-    else:
-        say("neither gnuplot nor matplotlib is here, and one of them draws the picture: install one, as by"
-            " `apt-get update && apt-get install gnuplot-nox`, or give the script of --script to a gnuplot"
-            " elsewhere")  # fmt: skip
-        return NOTHING_DRAWS
-    print(f"{out}.png", f"{out}.svg", sep="\n")
+def rendered(picture: Picture) -> dict[str, bytes] | None:
+    """The picture's files; nothing if no Python here has matplotlib 3.6 or later."""
+    if find_spec("matplotlib") and find_spec("matplotlib.layout_engine"):
+        return drawing.render(picture)
+    found = (rendered_by(python, picture) for python in other_pythons())
+    return next((files for files in found if files), None)
+
+
+def plot(arguments: argparse.Namespace) -> int:
+    """Draws the picture into a PNG and an SVG."""
+    names = Names.read(Path(arguments.folder or "."))
+    clock = Clock(arguments.times or names.times, zone_of(arguments.zone))
+    name = checked_name(arguments.view) if arguments.view else "query"
+    out = checked_text(arguments.out or name, "--out")
+    picture = picture_of(arguments, asked(arguments, clock), names, clock)
+    contents = rendered(picture)
+    if contents is None:
+        say("pictures are drawn by matplotlib 3.6 or later, and no python3 here has it: `apt-get update &&"
+            " apt-get install python3-matplotlib`")  # fmt: skip
+        return drawing.NOTHING_DRAWS
+    files = {Path(f"{out}.{end}"): content for end, content in contents.items()}
+    write_all(files)
+    print(*files, sep="\n")
     return 0

@@ -1,98 +1,204 @@
 """`tsq run`: a script and its replies, as tables, CSV or JSON."""
+from __future__ import annotations
+
+import os
+import re
+import stat
 import sys
+from argparse import Namespace
+from collections.abc import Iterable, Iterator
+from contextlib import AbstractContextManager, nullcontext
+from pathlib import Path
 
 from . import programs
-from .answers import Style, csv_lines, csv_ranges, json_lines, json_ranges, output_for, range_text, table
+from .follower import folder_to_ask
+from .dropped import JournalDrops
 from .messages import Trouble, say
-from .refusals import explanation
-from .replies import replies_of
-from .schema import Schema
-from .statements import in_order_of_par, lines_of
+from .names import Names
+from .options import Commands, snapshot_option, style_options
+from .printing import Printer, style_of
+from .programs import Ended, Interrupted, Program
+from .replies import Reply, replies_of
+from .schema import Schema, learn_folder
+from .scripts import Given, given_from, given_of
+from .sent import Sender
+from .signals import Signals, Stop
+from .statements import Line, in_order_of_par, line_of, lines_of
+from .translation import NotSent
 
-FORMS = {"csv": csv_lines, "json": json_lines}
-RANGES = {"csv": csv_ranges, "json": json_ranges}
+
+# The status if an option named what isn't there.
+UNUSED = 2
 
 
-class Printer:
-    """Prints replies, and learns from them what columns are called."""
+def add_command(commands: Commands) -> None:
+    """`tsq run`."""
+    parser = commands.add_parser("run", help="run a script, and print its answers as tables (the default)")
+    parser.add_argument("script", nargs="?", metavar="SCRIPT", help="a file; standard input if it is left out")
+    parser.add_argument("--replies", metavar="FILE", help="run nothing: this is what tsctl printed for the script")
+    parser.add_argument("--par", action="store_true", help="by `tsctl par`")
+    ranges = "with --csv or --json, the stale ranges of each answer instead of its rows"
+    parser.add_argument("--ranges", action="store_true", help=ranges)
+    snapshot_option(parser, "ask a copy of the journal, whoever holds it")
+    style_options(parser)
+    parser.set_defaults(call=run)
 
-    def __init__(self, schema, style, form=None, is_script=True, has_ranges=False):
-        self.schema = schema
-        self.style = style
-        self.form = form
-        self.is_script = is_script
-        self.has_ranges = has_ranges
-        self.has_printed = False
 
-    def print(self, reply):
-        """Prints a reply, and takes the names that it makes known."""
-        for text in reply.texts():
-            self.schema.learn(reply.line.tokens(), text)
-        if self.form:
-            self.print_for_programs(reply)
-        else:
-            self.print_for_people(reply)
+# ---- a script for tsctl run
 
-    def print_for_people(self, reply):
-        """The reply as it is, a refusal with what it means, an answer as a table."""
-        print(*reply.heads, sep="\n")
-        if reply.fault():
-            print(*explanation(reply, self.is_script), sep="\n")
-        if reply.is_answer() and (reply.rows or reply.stale):
-            print(*table(reply, output_for(reply, self.schema), self.style), "", sep="\n")
 
-    def print_for_programs(self, reply):
-        """An answer on standard output, and on standard error its stale ranges, and refusals."""
-        if reply.fault():
-            sys.stdout.flush()
-            print(*reply.heads, *explanation(reply, self.is_script), sep="\n", file=sys.stderr)
-        if not reply.is_answer():
+def is_stream() -> bool:
+    """Whether standard input comes bit by bit, and is no file."""
+    return not stat.S_ISREG(os.fstat(sys.stdin.fileno()).st_mode)
+
+
+def given_to(options: Namespace) -> Iterable[Given]:
+    """The lines for tsctl. A file is read as a whole, so that nothing runs of a script that is refused."""
+    if options.script:
+        return given_of(programs.read(options.script))
+    if is_stream():
+        return given_from(sys.stdin.buffer)
+    return given_of(programs.read_input())
+
+
+class Conversation:
+    """Gives a script to a program line by line, and prints each reply as it comes."""
+
+    def __init__(self, program: Program, printer: Printer, signals: Signals, sender: Sender) -> None:
+        self.program = program
+        self.printer = printer
+        self.signals = signals
+        self.sender = sender
+        self.has_left_out = False
+
+    def converse(self, given: Iterable[Given]) -> int:
+        """Runs all of the script, and gives the exit status."""
+        number = 0
+        try:
+            for number, raw in given:
+                self.print_reply(number, raw)
+        except Ended as ended:
+            programs.tell_signal(ended.status)
+            return ended.status
+        except Interrupted:
+            say(f"line {number} has no reply: whether it has taken effect `tsctl log` tells")
+            self.program.kill()
+            return Stop(self.signals.noted or 0).status()
+        except Stop as stop:
+            return stop.status()
+        return self.program.end() or int(self.has_left_out)
+
+    def print_reply(self, number: int, raw: bytes) -> None:
+        """Prints the reply to a line. One that can't be translated isn't sent, which is told."""
+        try:
+            raw = self.sender.sent(number, raw)
+        except NotSent as error:
+            say(f"line {number} wasn't sent: {error}")
+            self.has_left_out = True
             return
-        if self.has_printed and self.form == "csv":
-            print()
-        self.has_printed = True
-        written = RANGES if self.has_ranges else FORMS
-        lines = written[self.form](reply, output_for(reply, self.schema), self.style)
-        if lines:
-            print(*lines, sep="\n")
-        for bounds in [] if self.has_ranges else reply.stale:
-            say(f"stale {range_text(bounds, self.style.unit, is_iso=True)}")
+        if line_of(raw, number):
+            self.printer.print(self.ask(number, raw))
+            sys.stdout.flush()
+
+    def ask(self, number: int, raw: bytes) -> Reply:
+        """The reply to a line. A signal that comes meanwhile counts behind it."""
+        self.signals.is_asking = True
+        try:
+            return self.program.ask(raw, number)
+        finally:
+            self.signals.is_asking = False
 
 
-def style_of(options):
-    """The style that the options ask for. Other programs get as many digits as there are, up to twelve."""
-    if options.form:
-        places = 12 if options.places is None else options.places
-        return Style(options.times, places, padded=False, fractions=options.fractions, scales=dict(options.scale))
-    return Style(options.times, 3 if options.places is None else options.places, scales=dict(options.scale))
+def run_script(options: Namespace, printer: Printer) -> int:
+    """Runs a script; gives the exit status."""
+    given = given_to(options)
+    if isinstance(given, list):
+        check_scales(options, printer.schema, given)
+    sender = Sender(options, printer.schema, printer.names())
+    with folder_of(options, given) as folder, Signals() as signals, Program(folder, signals.is_given_up) as program:
+        status = Conversation(program, printer, signals, sender).converse(given)
+    if unused := printer.unused_scale():
+        say(f"--scale {unused}: no answer has had such a column to scale")
+        return status or UNUSED
+    return status
 
 
-def status_told(refused, lines, name):
-    """The status that tsctl ended with, by its replies in a file, which have to be those to all lines."""
+def folder_of(options: Namespace, given: Iterable[Given]) -> AbstractContextManager[Path]:
+    """The folder in which a script runs: a copy if one is asked for, or if the script only asks and another process
+    holds the folder. What comes bit by bit runs where it is meant to."""
+    if isinstance(given, list):
+        return folder_to_ask(options.folder, b"\n".join(line.raw for line in given), options.snapshot)
+    if options.snapshot:
+        raise Trouble("--snapshot takes a script from a file")
+    return nullcontext(Path(options.folder or "."))
+
+
+def check_scales(options: Namespace, schema: Schema, given: list[Given]) -> None:
+    """Refuses the scale of a column that neither the journal nor the script names, or that is only a time."""
+    outputs = schema.outputs.values()
+    known = {name for output in outputs for name in output.names}
+    values = {name for output in outputs for place, name in enumerate(output.names) if place not in output.times}
+    for name, power in options.scale:
+        if options.times and name in known - values:
+            raise Trouble(f"--scale {name}={power}: {name} is a time, and --times says its unit; nothing was run")
+        word = re.compile(rb"\b" + re.escape(name.encode()) + rb"\b", re.IGNORECASE)
+        if name not in known and not any(word.search(line.raw) for line in given):
+            raise Trouble(f"--scale {name}={power}: no column is called {name}; nothing was run")
+
+
+# ---- replies that come as a whole
+
+
+def of_par(script: bytes) -> bytes:
+    """A script in which each statement has one line: that of its first one, so that all have their numbers."""
+    lines = [b""] * (script.count(b"\n") + 1)
+    for number, raw in given_of(script):
+        lines[number - 1] = raw
+    return b"\n".join(lines)
+
+
+def print_all(printer: Printer, lines: list[Line], output: bytes) -> Iterator[bool]:
+    """Prints the replies to these lines, and gives of each whether it is a refusal."""
+    for reply in replies_of(lines, output.decode("ascii", "replace").split("\n")[:-1]):
+        printer.print(reply)
+        yield bool(reply.fault())
+
+
+def print_kept(options: Namespace, printer: Printer, script: bytes) -> int:
+    """Prints the replies that a file has, which are those to all lines; gives the status that tsctl ended with."""
+    lines = in_order_of_par(lines_of(script)) if options.par else lines_of(script)
+    refused = list(print_all(printer, lines, programs.read(options.replies)))
     if len(refused) < len(lines):
-        raise Trouble(f"{name} has no reply to line {lines[len(refused)].number} of the script")
+        raise Trouble(f"{options.replies} has no reply to line {lines[len(refused)].number} of the script")
     return int(any(refused))
 
 
-def run(options):
+def run_par(options: Namespace, printer: Printer, script: bytes) -> int:
+    """Runs a script by `tsctl par`; gives the exit status."""
+    sender = Sender(options, printer.schema, printer.names())
+    try:
+        script = b"\n".join(sender.sent(number, raw) for number, raw in enumerate(of_par(script).split(b"\n"), 1))
+    except NotSent as error:
+        raise Trouble(f"nothing was run: {error}") from None
+    status, output = programs.call(["par"], script, options.folder or ".")
+    for _ in print_all(printer, in_order_of_par(lines_of(script)), output):
+        pass
+    return status
+
+
+def run(options: Namespace) -> int:
     """Runs a script, or takes the replies that are given, and prints them; gives the exit status."""
     if options.ranges and not options.form:
         raise Trouble("--ranges goes with --csv or --json")
-    script = programs.read(options.script) if options.script else programs.read_input()
-    schema = Schema()
+    if options.ranges and options.form == "answers":
+        raise Trouble("--json=answers has the ranges of each answer, and needs no --ranges")
+    schema, folder = Schema(), Path(options.folder or ".")
     if not options.replies or options.folder:
-        schema.learn_journal(programs.journal_in(options.folder or "."))
-    if options.replies:
-        output = programs.read(options.replies)
-    else:
-        word = "par" if options.par else "run"
-        status, output = programs.call([word], script, options.folder or ".")
-    lines = lines_of(script)
-    if options.par:
-        lines = in_order_of_par(lines)
-    printer = Printer(schema, style_of(options), options.form, has_ranges=options.ranges)
-    refused = []
-    for reply in replies_of(lines, output.decode("ascii", "replace").split("\n")[:-1]):
-        printer.print(reply)
-        refused.append(bool(reply.fault()))
-    return status_told(refused, lines, options.replies) if options.replies else status
+        learn_folder(schema, folder)
+    printer = Printer(schema, style_of(options, Names.read(folder)), options.form, has_ranges=options.ranges)
+    if not options.replies or options.folder:
+        printer.drops = JournalDrops(folder)
+    if not (options.replies or options.par):
+        return run_script(options, printer)
+    script = programs.read(options.script) if options.script else programs.read_input()
+    return print_kept(options, printer, script) if options.replies else run_par(options, printer, script)

@@ -1,0 +1,82 @@
+"""Answers as tables, CSV and JSON."""
+from __future__ import annotations
+
+import json
+import tempfile
+import unittest
+from pathlib import Path
+from typing import Any
+
+from tsqlib.answers import Style, answer_object, csv_lines, expanded, json_lines, json_ranges, range_text, table
+from tsqlib.names import Names
+from tsqlib.replies import Reply
+from tsqlib.schema import Output
+from tsqlib.statements import Line
+
+OUTPUT = Output(["hour", "dev", "n", "mean"], frozenset([0]), 1, 3600, True, ("time", "dev", None, "celsius"))
+BIG = 2**63 - 1
+REPLY = Reply(
+    Line(7, "a", "a: SELECT * FROM hours"), ["a: ANSWER @9 rows 3 stale 2"],
+    [["0", "1", str(BIG), "43/2"], ["3600", "2", "1", "null"], ["7200", "null", "0", "1/3"]], [(None, 0), (3600, 7200)],
+)  # fmt: skip
+
+
+class AnswersTest(unittest.TestCase):
+    def names(self) -> Names:
+        folder = tempfile.TemporaryDirectory()
+        self.addCleanup(folder.cleanup)
+        names = Names.read(Path(folder.name))
+        names.remember(texts=[("dev", "pump, a"), ("dev", "true")], scales={"celsius": 1})
+        return names
+
+    def rows(self, style: Style) -> list[dict[str, Any]]:
+        return [json.loads(line) for line in json_lines(REPLY, OUTPUT, style)]
+
+    def test_table(self) -> None:
+        self.assertEqual(table(REPLY, OUTPUT, Style("s")), [
+            "               hour   dev                    n    mean",
+            "-------------------  ----  -------------------  ------",
+            f"1970-01-01 00:00:00     1  {BIG}  21.500  43/2",
+            "1970-01-01 01:00:00     2                    1    null        stale",
+            "1970-01-01 02:00:00  null                    0   0.333  1/3",
+            "stale min..1970-01-01 00:00:00",
+            "stale 1970-01-01 01:00:00..1970-01-01 02:00:00",
+        ])  # fmt: skip
+
+    def test_texts_and_scales_that_are_remembered(self) -> None:
+        for row, wanted in zip(csv_lines(REPLY, OUTPUT, Style(padded=False, fractions=False, names=self.names())), (
+            "hour,dev,n,mean,stale", f'0,"pump, a",{BIG},2.15,false', "3600,true,1,,true", "7200,,0,0.033,false",
+        )):  # fmt: skip
+            self.assertEqual(row, wanted)
+        # What is asked for goes before what is remembered.
+        scaled = csv_lines(REPLY, OUTPUT, Style(padded=False, fractions=False, scales={"mean": 0}, names=self.names()))
+        self.assertTrue(scaled[1].endswith("21.5,false"))
+
+    def test_json(self) -> None:
+        plain = self.rows(Style("s", 12, False, False))
+        self.assertEqual(plain[0], {"hour": "1970-01-01T00:00:00Z", "dev": 1, "n": BIG, "mean": 21.5, "stale": False})
+        texts = self.rows(Style(None, 12, False, False, strings=True, names=self.names()))
+        self.assertEqual(texts[0], {"hour": "0", "dev": "pump, a", "n": str(BIG), "mean": "2.15", "stale": False})
+        self.assertEqual(texts[1], {"hour": "3600", "dev": "true", "n": "1", "mean": None, "stale": True})
+        self.assertEqual(json_ranges(REPLY, OUTPUT, Style(strings=True)), ['{"from": null, "to": "0"}', '{"from": "3600", "to": "7200"}'])
+
+    def test_an_object_for_each_reply(self) -> None:
+        found = json.loads(answer_object(REPLY, OUTPUT, Style("s", 3, False, False)))
+        self.assertEqual((found["line"], found["session"], found["position"], found["columns"]), (7, "a", 9, ["hour", "dev", "n", "mean", "stale"]))
+        self.assertEqual((len(found["rows"]), found["rows"][1]["stale"]), (3, True))
+        self.assertEqual(found["stale"][1], {"from": "1970-01-01T01:00:00Z", "to": "1970-01-01T02:00:00Z"})
+        refused = Reply(Line(2, "a", "a: SELECT"), ["a: FAULT E05 syntax at 10"])
+        self.assertEqual(json.loads(answer_object(refused, None, Style()))["fault"], {"code": "E05", "word": "syntax", "place": 10})
+        stray = json.loads(answer_object(Reply(Line(2, None, "x"), ["line 2: FAULT E03 no_session"]), None, Style()))
+        self.assertEqual((stray["session"], stray["position"]), (None, None))
+
+    def test_expanded(self) -> None:
+        self.assertEqual(expanded(REPLY, OUTPUT, Style())[4:6], ["mean           21.500", "mean_fraction  43/2"])
+
+    def test_ranges(self) -> None:
+        for bounds, unit, wanted in (((None, 5), None, "min..5"), ((0, 60), "s", "1970-01-01 00:00:00..1970-01-01 00:01:00")):
+            self.assertEqual(range_text(bounds, unit), wanted)
+
+
+if __name__ == "__main__":
+    unittest.main()
