@@ -1,8 +1,9 @@
 //! What replies show: laws that join the definitions of answers with what a statement prints. No code runs.
 //!
-//! `specs/Laws.antt` says of an aggregate which buckets its answer shows from scratch, of a roll-up which wider ones it
-//! does, and of a query by buckets of the calendar by which date each of its rows is named. What a bucket from scratch
-//! is stands in `ts_model` (`specs/Scratch.antt`), and what a statement does in `ts_sessions` (`specs/Step.antt`).
+//! `specs/Laws.antt` says which buckets the answer of an aggregate shows from scratch, which wider buckets a
+//! roll-up shows, and, for a query by buckets of the calendar, which date names each of its rows. `ts_model`
+//! defines a bucket from scratch (`specs/Scratch.antt`), and `ts_sessions` defines what a statement does
+//! (`specs/Step.antt`).
 #![tactic(auto)]
 
 pub mod laws;

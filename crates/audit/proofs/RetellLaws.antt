@@ -1,4 +1,4 @@
--- What telling one reply says of the session that is judged.
+-- What the replay of one reply says about its session.
 use Rattle.std.proofs.Common.{◌≡◌, ◌≤◌, ◌<◌, ℕ, ◌+◌, Bool, true, false, List, [], ◌∷◌, ◌++◌, get_or, length, take, None, Some, Option, refl, sym, ap, ◌∙◌, subst, arith}
 use Rattle.std.specs.Prelude.{IsTrue}
 use Rattle.std.proofs.lemmas.Bool.{true≢false}
@@ -46,7 +46,7 @@ events_lie all at last (x ∷ es) e =
     let on = rest.0 in
     (omega (arith, up, on), All-cons (λ n. (at < n) × (n ≤ last)) x.0 (numbers es) (up, on) (lie_wider x.0 last at last (numbers es) (omega (arith, up)) (omega arith) rest.1))
 
--- the numbers that a told line names lie behind where it was told from
+-- the numbers that a replayed line names lie after the position where its replay began
 told_lie : (all : History) (at : ℕ) (p : Places) (line : SessionLine) (looks : List ℕ) (name : List ℕ) (q : Places) (told : ReplayedLine) → base_position all ≤ at → IsToldLine all at (reply_to p line.text line.skip) looks name q told → LieBetween at told.last told.reply.events
 told_lie all at p line looks name q told low l =
     let end : Turn Places = record { places = q; said = l.said; reads = l.read } in
@@ -64,11 +64,11 @@ module _ {T J : Type 0} (all : History) (allowed : all_allowed all ≡ true) (e 
   looks_read : looks ≡ looks_in old.session.name e.reply
   looks_read = looks_are ∙ ap (looks_in old.session.name) reply_is
 
-  -- where the line came to nothing
+  -- the history doesn't explain the line
   pub retells_none : (new : ReplayedSession T J) → Tells all old.at [] (reply_to (places_in old.session) line.text line.skip) looks None → RetellsTo all e old false new
   retells_none new t = untold the_laws all allowed old.session.name (name_of_one_line old.session.name named) e old.at (places_in old.session) looks low looks_read (told_of_line None t)
 
-  -- and where it came to something
+  -- the history explains the line
   module _ (session : Session T J) (told : ReplayedLine) (l : IsToldLine all old.at (reply_to (places_in old.session) line.text line.skip) looks old.session.name (places_in session) told) where
     mid : ReplayedSession T J
     mid = record { session = session; at = old.at; named = old.named }
@@ -84,7 +84,7 @@ module _ {T J : Type 0} (all : History) (allowed : all_allowed all ≡ true) (e 
         otherwise the_laws all allowed old.session.name (name_of_one_line old.session.name named) e old.at (places_in old.session) looks told.last l.given l.said l.read (places_in session) low looks_read (told_of_line _ l.tells)
         (λ text. b (l.reply.text ∙ text ∙ sym reply_is))
 
-    -- the session goes on behind it
+    -- the session continues after it
     pub goes_on : (shown : Shown T J) (start : ℕ) (t : Bool) (new : ReplayedSession T J) → IsAt shown all start old.session.name old → new.session ≡ session → session.name ≡ old.session.name → HoldsOf shown session (state_of all) → GoesBehind told reply (record { session = session; at = old.at; named = old.named }) t new → IsTrue t → IsAt shown all start old.session.name new
     goes_on shown start false new at same name holds b yes_told = absurd (true≢false (sym yes_told))
     goes_on shown start true new at same name holds b yes_told =
@@ -104,7 +104,7 @@ module _ {T J : Type 0} (all : History) (allowed : all_allowed all ≡ true) (e 
 -- ---- all replies of a session
 
 module _ {T J : Type 0} (shown : Shown T J) (all : History) (start : ℕ) (name : List ℕ) where
-  -- one more led it on
+  -- one more reply led the session on
   pub leads_next : (exchanges : List Exchange) (i : ℕ) (e : Exchange) (old new : ReplayedSession T J) → IsAt shown all start name old → Leads all name start no_places (take i exchanges) old.at (places_in old.session) old.named.items → i < length exchanges → e ≡ get_or exchanges i e → RetellsTo all e old true new → Leads all name start no_places (take (i + 1) exchanges) new.at (places_in new.session) new.named.items
   leads_next exchanges i e old new at l within there r =
       let own : Leads all old.session.name start no_places (take i exchanges) old.at (places_in old.session) old.named.items = subst (λ n. Leads all n start no_places (take i exchanges) old.at (places_in old.session) old.named.items) (sym at.named) l in
@@ -112,7 +112,7 @@ module _ {T J : Type 0} (shown : Shown T J) (all : History) (start : ℕ) (name 
       subst (λ es. Leads all name start no_places es new.at (places_in new.session) new.named.items) more
       (subst (λ n. Leads all n start no_places (take i exchanges ++ e ∷ []) new.at (places_in new.session) new.named.items) at.named (r start no_places (take i exchanges) own))
 
-  -- and brought it on
+  -- and moved its position on
   pub at_next : (old new : ReplayedSession T J) → IsAt shown all start name old → (IsAt shown all start old.session.name old → IsAt shown all start old.session.name new) → IsAt shown all start name new
   at_next old new at goes =
       let own = goes (record { named = refl; holds = at.holds; low = at.low; high = at.high; lie = at.lie }) in
@@ -124,7 +124,7 @@ module _ {T J : Type 0} (shown : Shown T J) (all : History) (start : ℕ) (name 
       stops_here all name start exchanges i e old.at (places_in old.session) old.named.items l within there
       (λ found n. r found (subst (λ m. Names all old.at (places_in old.session) m (e ∷ []) found) (sym at.named) n))
 
-  -- all were
+  -- all replies are explained
   pub all_led : (exchanges : List Exchange) (i : ℕ) (t : ReplayedSession T J) (numbers : List ℕ) → IsAt shown all start name t → Leads all name start no_places (take i exchanges) t.at (places_in t.session) t.named.items → length exchanges ≤ i → numbers ≡ t.named.items → IsNamedBy all start (record { name = name; replies = exchanges }) numbers
   all_led exchanges i t numbers at l whole is = record {
     names =

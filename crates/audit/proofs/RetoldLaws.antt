@@ -1,4 +1,4 @@
--- Replies that are explained one after the other.
+-- Replies that are explained in order.
 use Rattle.std.proofs.Common.{◌≡◌, ◌≤◌, ◌<◌, ℕ, suc, ◌+◌, List, [], ◌∷◌, ◌++◌, get_or, length, map, take, None, refl, sym, ap, ◌∙◌, subst, append_assoc, arith}
 use Rattle.std.proofs.lemmas.List.{append-nil, take_more}
 use Rattle.std.specs.Prelude.{Option}
@@ -15,13 +15,13 @@ use Rattle.audit.specs.Explained.{Came, IsExplained, named_by, texts_of}
 use Rattle.audit.specs.Lines.{line_of}
 use Rattle.audit.specs.ReplayedReplies.{Leads, Names, StopsAt}
 
--- ---- the first reply, and those behind it
+-- ---- the first reply, and those after it
 
--- what a line comes to
+-- the outcome of a line
 abbrev pub GivesHere : History → ℕ → Places → Exchange → Came → Type 0
 GivesHere all at p e a = Gives all None at [] (reply_to p (line_of e).text (line_of e).skip) a.looks a.last a.given a.end
 
--- the answer to the first line, and those to the lines behind it
+-- the answer to the first line, and those to the lines after it
 pub record Uncons (all : History) (at : ℕ) (p : Places) (name : List ℕ) (e : Exchange) (es : List Exchange)
     (answers : List Came) : Type 0 where
   pub first : Came
@@ -52,7 +52,7 @@ cons all at p name e es a answers gives text x = record {
   replies = λ i. text i ∷ x.replies i;
 }
 
--- ---- whatever follows
+-- ---- whatever replies follow
 
 pub leads_none : (all : History) (name : List ℕ) (at : ℕ) (p : Places) → Leads all name at p [] at p []
 leads_none all name at p = record {
@@ -78,13 +78,13 @@ leads_more all name at p es mid r ns fs last q ms l k = record {
 
 -- ---- one reply
 
--- two readings of a reply come to the same
+-- two readings of a reply agree
 pub record SameReply (last last_too : ℕ) (y z : Turn Places) : Type 0 where
   pub last_is : last_too ≡ last
   pub said : z.said ≡ y.said
   pub places : z.places ≡ y.places
 
--- the text of a reply tells what its line came to
+-- the text of a reply determines the outcome of its line
 abbrev pub TextsTellReplies : History → List ℕ → Type 0
 TextsTellReplies all name =
     (at : ℕ) (p : Places) (text : List ℕ) (skip : ℕ) (looks looks_too : List (Option ℕ)) (last last_too : ℕ)
@@ -118,7 +118,7 @@ leads_one all name at p e a tells low gives text = record {
 
 -- ---- whole sessions
 
--- what was led to is explained
+-- the replies that lead a session to a position are explained
 pub names_led : (all : History) (name : List ℕ) (at : ℕ) (p : Places) (es : List Exchange) (last : ℕ) (q : Places) (ns : List ℕ) → Leads all name at p es last q ns → Names all at p name es ns
 names_led all name at p es last q ns l =
     subst (λ ks. Names all at p name es ks) (append-nil ns)
@@ -128,7 +128,7 @@ names_led all name at p es last q ns l =
 pub has_explanation : (all : History) (start : ℕ) (name : List ℕ) (es : List Exchange) (ns : List ℕ) → Names all start no_places name es ns → HasExplanation all start name es
 has_explanation all start name es ns n = record { answers = n.answers; explained = n.explained }
 
--- and where the next reply isn't explained there, one more aren't
+-- if the next reply isn't explained there, the replies up to and including it aren't
 pub not_explained : (all : History) (name : List ℕ) (start : ℕ) (es : List Exchange) (e : Exchange) (last : ℕ) (q : Places) (ns : List ℕ) → Leads all name start no_places es last q ns → ((found : List ℕ) → Names all last q name (e ∷ []) found → ⊥) → HasExplanation all start name (es ++ e ∷ []) → ⊥
 not_explained all name start es e last q ns l fails h =
     let left = l.back (e ∷ []) (named_by h.answers) (record { answers = h.answers; explained = h.explained; named = refl }) in

@@ -1,4 +1,4 @@
--- What is told of a reply over a history decides whether the history explains it.
+-- The replay of a reply over a history decides whether the history explains it.
 use Rattle.std.proofs.Common.{◌≡◌, ◌≤◌, ◌<◌, ◌^◌, ℕ, suc, true, false, List, [], ◌∷◌, ◌++◌, Some, None, refl, sym, ap, ◌∙◌, subst, arith}
 use Rattle.std.specs.List.{AllByRecursion, list_any}
 use Rattle.std.proofs.lemmas.Option.{none-some, same_Some}
@@ -24,14 +24,14 @@ use Rattle.audit.specs.Lines.{line_of}
 use Rattle.audit.specs.ReplayedReplies.{Leads, Names, Retells}
 use Rattle.audit.proofs.RetoldLaws.{TextsTellReplies, leads_more, leads_one, uncons}
 
--- the laws that it rests on
+-- the laws that these proofs rely on
 pub record Laws : Type 0 where
   pub given : ToldIsGiven (Turn Places)
   pub once : ToldOnce (Turn Places)
   pub tell : RepliesTellTheirLooks reply_to
   pub texts : TextsTellLooks
 
--- what was told
+-- the outcome of a replay
 abbrev telling : ℕ → List (ℕ × Event) → Turn Places → Told (Turn Places)
 telling last given end = record { last = last; given = given; end = end }
 
@@ -44,11 +44,11 @@ few_enough n [] few all = tt
 few_enough n (p ∷ ps) few all = let le = all.0 in (omega (arith, le, few), few_enough n ps few all.1)
 
 module _ (laws : Laws) (all : History) (allowed : all_allowed all ≡ true) (name : List ℕ) (one_line : list_any is_line_end name ≡ false) where
-  -- the looks that are read of the text of what a line came to are those that it tells
+  -- the positions that are read from the text of a reply are those that the reply prints
   looks_read : (at : ℕ) (procedure : Procedure (Turn Places)) (last : ℕ) (given : List (ℕ × Event)) (y : Turn Places) → IsToldByReply all at procedure last given y → looks_in name (text_of name y.said) ≡ looks_told y.said
   looks_read at procedure last given y t = laws.texts name y.said one_line (few_enough (position all) (looks_told y.said) (allowed_fits all allowed) t.within)
 
-  -- what a line came to by the looks that are read of its text
+  -- the outcome of a line by the positions that are read from its text
   read_told : (at : ℕ) (procedure : Procedure (Turn Places)) (last : ℕ) (given : List (ℕ × Event)) (y : Turn Places) (reply : List ℕ) (t : IsToldByReply all at procedure last given y) → text_of name y.said ≡ reply → Tells all at [] procedure (looks_in name reply) (Some (record { last = last; given = given; end = t.end }))
   read_told at procedure last given y reply t text =
       subst (λ ls. Tells all at [] procedure ls (Some (record { last = last; given = given; end = t.end })))
@@ -69,7 +69,7 @@ module _ (laws : Laws) (all : History) (allowed : all_allowed all ≡ true) (nam
 
   -- ---- one reply
 
-  -- a line came to this, whose text is the reply
+  -- a line had this outcome, whose text is the reply
   pub retold : (e : Exchange) (at : ℕ) (p : Places) (old : List ℕ) (last : ℕ) (given : List (ℕ × Event)) (said : List Said) (read : ℕ) (q : Places) (looks new : List ℕ) → base_position all ≤ at → Tells all at [] (procedure_of p e) looks (Some (record { last = last; given = given; end = record { places = q; said = said; reads = read } })) → text_of name said ≡ e.reply → new ≡ old ++ made_in said → Retells all name e at p old true last q new
   retold e at p old last given said read q looks new low tells text new_is from first before l =
       let told : Told (Turn Places) = record { last = last; given = given; end = record { places = q; said = said; reads = read } } in
@@ -78,7 +78,7 @@ module _ (laws : Laws) (all : History) (allowed : all_allowed all ≡ true) (nam
       subst (λ ns. Leads all name from first (before ++ e ∷ []) last q ns) (sym new_is)
       (leads_more all name from first before at p old (e ∷ []) last q (made_in said) l (leads_one all name at p e a texts_tell low g.gives text))
 
-  -- the replies from here on aren't explained where a line came to nothing
+  -- the replies from here on aren't explained if the history doesn't explain the line
   pub untold : (e : Exchange) (at : ℕ) (p : Places) (looks : List ℕ) → base_position all ≤ at → looks ≡ looks_in name e.reply → Tells all at [] (procedure_of p e) looks None → (found : List ℕ) → Names all at p name (e ∷ []) found → ⊥
   untold e at p looks low read tells found n =
       let u = uncons all at p name e [] n.answers n.explained in
@@ -86,7 +86,7 @@ module _ (laws : Laws) (all : History) (allowed : all_allowed all ≡ true) (nam
       let by_text = read_told at (procedure_of p e) u.first.last u.first.given u.first.end e.reply t u.text in
       none-some _ (laws.once all at [] (procedure_of p e) (looks_in name e.reply) _ _ (subst (λ ls. Tells all at [] (procedure_of p e) ls None) read tells) by_text)
 
-  -- nor where its text is another
+  -- nor if its text is another
   pub otherwise : (e : Exchange) (at : ℕ) (p : Places) (looks : List ℕ) (last : ℕ) (given : List (ℕ × Event)) (said : List Said) (read : ℕ) (q : Places) → base_position all ≤ at → looks ≡ looks_in name e.reply → Tells all at [] (procedure_of p e) looks (Some (record { last = last; given = given; end = record { places = q; said = said; reads = read } })) → (text_of name said ≡ e.reply → ⊥) → (found : List ℕ) → Names all at p name (e ∷ []) found → ⊥
   otherwise e at p looks last given said read q low is tells other found n =
       let u = uncons all at p name e [] n.answers n.explained in

@@ -1,4 +1,4 @@
--- What a call comes to at a position of a history.
+-- The outcome of a call at a position of a history.
 use Rattle.std.specs.Prelude.{◌==◌, cond, Option, Some, None}
 use Rattle.ts_model.specs.declared.outcomes.Refusal.{Refusal}
 use Rattle.audit_past.specs.declared.history_view.PastOutcome.{PastOutcome}
@@ -9,7 +9,7 @@ abbrev pub numbered_only : Option Refusal → Option Refusal
 numbered_only None = None
 numbered_only (Some r) = cond (r.code == 0) None (Some r)
 
--- the same, with something else as what is returned
+-- the same outcome with a function of the returned value
 abbrev pub came_as : {A B : Type 0} → (A → B) → PastOutcome A → PastOutcome B
 came_as f (Made a) = Made (f a)
 came_as f (Returned a) = Returned (f a)

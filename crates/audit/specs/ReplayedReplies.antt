@@ -1,4 +1,4 @@
--- How the replies of sessions are judged, one after the other.
+-- How the replies of sessions are judged, in order.
 use Rattle.std.specs.Prelude.{◌≡◌, ◌≤◌, ◌<◌, ℕ, suc, ◌+◌, List, [], ◌∷◌, ◌++◌, Bool, true, false, All, take}
 use Rattle.ts_model.specs.History.{History}
 use Rattle.ts_sessions.specs.Places.{Places}
@@ -27,8 +27,8 @@ pub record LeavesOthers (all : History) (at : ℕ) (p : Places) (name : List ℕ
   pub is : found ≡ numbers ++ others
   pub names : Names all at p name more others
 
--- replies lead a session from one position with its places to another, and name these numbers: whatever follows them
--- is explained behind them exactly where it is explained from there
+-- replies lead a session from one position with its places to another, and name these numbers: what follows them is
+-- explained after them exactly if it is explained from there
 pub record Leads (all : History) (name : List ℕ) (at : ℕ) (p : Places) (exchanges : List Exchange) (last : ℕ)
     (q : Places) (numbers : List ℕ) : Type 0 where
   pub there : (more : List Exchange) (others : List ℕ)
@@ -36,8 +36,8 @@ pub record Leads (all : History) (name : List ℕ) (at : ℕ) (p : Places) (exch
   pub back : (more : List Exchange) (found : List ℕ)
       → Names all at p name (exchanges ++ more) found → LeavesOthers all last q name more numbers found
 
--- one more reply leads a session on, which had been led to a position with its places and had named some numbers; or
--- it isn't explained there
+-- one more reply leads a session on from a position with its places and the numbers it had named, or it isn't
+-- explained there
 abbrev pub Retells : History → List ℕ → Exchange → ℕ → Places → List ℕ → Bool → ℕ → Places → List ℕ → Type 0
 Retells all name e at p old true last q new =
     (from : ℕ) (first : Places) (before : List Exchange)
@@ -57,7 +57,7 @@ pub record NamesAll (all : History) (start : ℕ) (talks : List SessionTranscrip
   pub explained : AreExplained all start talks answers
   pub named : named_by_all answers ≡ numbers
 
--- the first sessions are explained and name these numbers: what is so of those that are left is so of all
+-- the first sessions are explained and name these numbers: what is true of the rest is true of all
 pub record Passes (all : History) (start : ℕ) (talks : List SessionTranscript) (count : ℕ) (left : List SessionTranscript)
     (numbers : List ℕ) : Type 0 where
   pub stops : (i j : ℕ) → FirstUnexplained all start left i j → FirstUnexplained all start talks (count + i) j

@@ -1,4 +1,4 @@
--- A session whose replies are judged, as far as it has come.
+-- A session whose replies are being judged, as it is after the replies so far.
 use Rattle.std.specs.Prelude.{◌≡◌, ◌≤◌, ℕ, List, ◌++◌, Bool, true, false}
 use Rattle.ts_model.specs.declared.snapshots.Shown.{Ghosts as Shown}
 use Rattle.ts_model.specs.History.{History, position}
@@ -9,8 +9,8 @@ use Rattle.transcript.specs.declared.transcripts.Exchange.{Exchange}
 use Rattle.audit.specs.ReplayedReplies.{LieBetween, Retells}
 use Rattle.audit.specs.declared.replayed_session.ReplayedSession.{ReplayedSession}
 
--- it is the session with a name, has come to a position of the history, and what it holds goes with that. The numbers
--- that its replies name lie above the start
+-- it is the session with a name, at a position of the history, and its state fits that position. The numbers that its
+-- replies name lie above the start
 pub record IsAt {T J : Type 0} (shown : Shown T J) (all : History) (start : ℕ) (name : List ℕ)
     (t : ReplayedSession T J) : Type 0 where
   pub named : t.session.name ≡ name
@@ -25,13 +25,13 @@ RetellsTo all e old told new =
     Retells all old.session.name e old.at (places_in old.session) old.named.items told new.at (places_in new.session)
     new.named.items
 
--- it goes on behind a line that came to this
+-- it continues after a line with this outcome
 pub record IsBehind {T J : Type 0} (told : ReplayedLine) (reply : List ℕ) (old new : ReplayedSession T J) : Type 0 where
   pub text : told.reply.text ≡ reply
   pub at : new.at ≡ told.last
   pub named : new.named.items ≡ old.named.items ++ told.reply.events
 
--- so, where the text of the line is the reply
+-- so, if the text of the line is the reply
 abbrev pub GoesBehind : {T J : Type 0} → ReplayedLine → List ℕ → ReplayedSession T J → Bool → ReplayedSession T J → Type 0
 GoesBehind told reply old true new = IsBehind told reply old new
 GoesBehind told reply old false new = told.reply.text ≡ reply → ⊥

@@ -1,4 +1,4 @@
--- The replies of a session, as far as they are judged.
+-- The replies of a session, and how many of them are judged.
 use Rattle.std.specs.Prelude.{ℕ, List, Bool, true, false, map, take}
 use Rattle.ts_model.specs.declared.snapshots.Shown.{Ghosts as Shown}
 use Rattle.ts_model.specs.History.{History}

@@ -1,22 +1,22 @@
 //! What an audit answers.
 
-/// What an audit of a transcript answers: the first of `BadText`, `Early`, `Policy`, `No` and `Lost` that holds, and
-/// `Yes` where none does, unless memory runs out. Sessions and replies count from 0.
+/// The answer of an audit. It is the first of `BadText`, `Early`, `Policy`, `No` and `Lost` that applies, `Yes` if
+/// none does, or `NoMemory`. Sessions and replies count from 0.
 #[derive(Clone, Copy, Debug, PartialEq, Eq)]
 pub enum Audit {
-    /// Every reply is explained, and together they name each event after the start once, and no other. There are so
-    /// many replies.
+    /// Every reply is explained, and together they name each event after the start once, and no other. The number
+    /// is how many replies there are.
     Yes(u64),
     /// This reply is the first that isn't explained.
     No { session: u64, reply: u64 },
-    /// This is the least position after the start whose event isn't named once.
+    /// This is the lowest position after the start whose event isn't named exactly once.
     Lost(u64),
-    /// This line is the first that asks for policies.
+    /// This line is the first that is a statement on policies.
     Policy { session: u64, reply: u64 },
-    /// The start is no position of the history, which ends at this one.
+    /// The start is no position of the history. The history ends at this position.
     Early(u64),
-    /// The text is that of no transcript.
+    /// The text isn't that of a transcript.
     BadText,
-    /// There was no memory.
+    /// Memory ran out.
     NoMemory,
 }

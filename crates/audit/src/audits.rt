@@ -22,10 +22,10 @@ use transcript::{ReadTranscript, SessionTranscript, Transcript, read_transcript}
 use ts_model::{Event, Image};
 use ts_schema::{NoMemory, Steps};
 
-/// Whether a history explains the transcript that a text is, or where it doesn't. The history begins with an
-/// image, where there is one, and goes on with these events, each of which was allowed after those before it.
-/// The transcript and the states of the history stay with the process: an audit is the last thing that its
-/// program does, and letting go of them piece by piece would take a sixth of its time.
+/// Answers whether a history explains the transcript in `text`, and if not, where it fails. The history begins
+/// with an image, if one is given, and continues with these events. Each event is allowed after those before it.
+/// The call never frees the transcript and the states of the history: an audit is the last thing that a program
+/// does, and freeing them would take a sixth of its time.
 pub fn audit<R: Threads + Sync>(
     rt: &R,
     alloc: Global,
@@ -78,8 +78,8 @@ fn judge<R: Threads + Sync>(
     }
 }
 
-/// The answer for a transcript whose start is a position of the history, which ends at `end`, and of which
-/// no line is a statement on policies.
+/// The answer for a transcript whose start is a position of the history and which has no statement on policies.
+/// `end` is the last position of the history.
 fn judge_replies<R: Threads + Sync>(
     rt: &R,
     alloc: Global,

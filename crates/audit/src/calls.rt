@@ -1,4 +1,4 @@
-//! What a call that makes an event comes to at a position of a history.
+//! The outcome of a call that creates an event, at a position of a history.
 ghost use Rattle.std.specs.Prelude.{◌≡◌, ◌≤◌, suc, None};
 ghost use Rattle.event_check.specs.Checks.{PendingIs, call_refusal};
 ghost use Rattle.ts_model.specs.declared.outcomes.CutDone.TheVariants.{Cut as CutMade};
@@ -15,7 +15,7 @@ use ts_bucket::Span;
 use ts_model::codes::NO_NUMBER;
 use ts_model::{Committed, CutDone, Event, Pending, Refusal};
 
-/// What the call comes to that makes this event.
+/// The outcome of the call that creates this event.
 pub(crate) fn call(timeline: &Timeline<'_>, at: u64, event: &Event) -> PastOutcome<Committed>
     requires known { timeline.now.start ≤ at }
     requires within { at ≤ position (history_of timeline.now.past) }
@@ -28,7 +28,7 @@ pub(crate) fn call(timeline: &Timeline<'_>, at: u64, event: &Event) -> PastOutco
     }
 }
 
-/// Why the call is refused that makes this event, if it is.
+/// Why the call that creates this event is refused, if it is.
 fn refusal_at(timeline: &Timeline<'_>, at: u64, event: &Event) -> Option<Refusal>
     requires known { timeline.now.start ≤ at }
     requires within { at ≤ position (history_of timeline.now.past) }
@@ -39,7 +39,7 @@ fn refusal_at(timeline: &Timeline<'_>, at: u64, event: &Event) -> Option<Refusal
     numbered_only(refusal_of(roster, pending, at, timeline.base(), event))
 }
 
-/// What had become of the refresh that an event finishes, at a position.
+/// The status of the refresh that an event finishes, at a position.
 fn pending_of(timeline: &Timeline<'_>, at: u64, event: &Event) -> Pending
     requires known { timeline.now.start ≤ at }
     requires within { at ≤ position (history_of timeline.now.past) }
@@ -56,7 +56,7 @@ fn pending_of(timeline: &Timeline<'_>, at: u64, event: &Event) -> Pending
     }
 }
 
-/// A refusal that has a number.
+/// The refusal, if its code isn't 0.
 fn numbered_only(refusal: Option<Refusal>) -> Option<Refusal>
     ensures { result ≡ numbered_only refusal }
 {
@@ -72,7 +72,7 @@ fn numbered_only(refusal: Option<Refusal>) -> Option<Refusal>
     }
 }
 
-/// Whether an event that no call refuses is the one that comes next, and what that does.
+/// Whether an event that no call refuses is the next one of the history, and what it does.
 fn compare_event(timeline: &Timeline<'_>, at: u64, event: &Event) -> PastOutcome<Committed>
     requires known { timeline.now.start ≤ at }
     requires within { at ≤ position (history_of timeline.now.past) }
@@ -92,7 +92,7 @@ fn compare_event(timeline: &Timeline<'_>, at: u64, event: &Event) -> PastOutcome
     }
 }
 
-/// The same, with the event's number alone.
+/// The same outcome with the event's number only.
 pub(crate) fn event_number(came: PastOutcome<Committed>) -> PastOutcome<u64>
     ensures { result ≡ came_as (λ c. c.pos) came }
 {
@@ -104,7 +104,7 @@ pub(crate) fn event_number(came: PastOutcome<Committed>) -> PastOutcome<u64>
     }
 }
 
-/// The same, with a cut over this span.
+/// The same outcome with a cut over this span.
 pub(crate) fn cut_over(came: PastOutcome<Committed>, span: Span) -> PastOutcome<CutDone>
     ensures { result ≡ came_as (λ c. CutMade c.pos span) came }
 {
@@ -116,7 +116,7 @@ pub(crate) fn cut_over(came: PastOutcome<Committed>, span: Span) -> PastOutcome<
     }
 }
 
-/// A cut by an event that did this.
+/// The result of a cut whose event did this.
 fn cut_made(effect: Committed, span: Span) -> CutDone
     ensures { result ≡ CutMade effect.pos span }
 {

@@ -1,4 +1,4 @@
-//! The replies of all sessions, judged over a past.
+//! The replies of all sessions, judged over a history.
 ghost use Rattle.std.specs.Prelude.{◌≡◌, ◌≤◌, All, IfOk, IsTrue, OnOk};
 ghost use Rattle.std.specs.List.{list_all};
 ghost use Rattle.std.specs.Thread.{IsSync};
@@ -17,21 +17,22 @@ use transcript::SessionTranscript;
 use ts_model::Shown;
 use ts_schema::{NoMemory, Seq, Steps};
 
-/// All sessions have gone through so many more positions before one of them goes on: the states of neighbouring
-/// positions stand close together in memory, and share most of what they hold.
+/// How many positions one session is judged for before the next one follows. The states of nearby positions lie
+/// close together in memory, and share most of their parts.
 const STRIDE: u64 = 64;
 
-/// What is told of the replies of all sessions.
+/// The verdict on the replies of all sessions.
 #[derive(Drop)]
 pub(crate) enum JudgedSessions {
     /// They are explained, and name events with these numbers.
     Explained(Seq<u64>),
-    /// This is the first that isn't.
+    /// This reply is the first that isn't explained.
     Unexplained(Place),
 }
 
-/// Judges the replies of sessions over a past, of which each has its first look at `start` or later. They go through
-/// it side by side; which of them fails is told in their order.
+/// Judges the replies of sessions over a history. The first read of each session is at `start` or later. The
+/// replays alternate between the sessions, a stride of positions at a time. The first failure is reported in the
+/// order of the sessions.
 pub(crate) fn judge_sessions<R: Threads + Sync, T: Shown + Drop, P: Past<Shot = T>, L>(
     rt: &R,
     alloc: Global,
@@ -55,7 +56,7 @@ where
     judge_in_order(rt, alloc, past, start, &mut hearings, steps)
 }
 
-/// The sessions, of which no reply is judged.
+/// The replays of all sessions, before the first reply.
 fn begin<T: Shown + Drop>(
     alloc: Global,
     start: u64,
@@ -75,7 +76,7 @@ where
     Ok(hearings)
 }
 
-/// Judges most of the replies of all sessions, so many positions at a time.
+/// Judges most of the replies of all sessions: a stride of positions of each session, then the next stride.
 fn judge_in_parallel<R: Threads + Sync, T: Shown + Drop, P: Past<Shot = T>, L>(
     rt: &R,
     alloc: Global,
@@ -102,7 +103,7 @@ where
     Ok(())
 }
 
-/// Judges replies of each session until it has come to a position.
+/// Judges replies of each session until it has reached a position.
 fn judge_each<R: Threads + Sync, T: Shown + Drop, P: Past<Shot = T>, L>(
     rt: &R,
     alloc: Global,
@@ -128,7 +129,7 @@ where
     Ok(())
 }
 
-/// Judges what is left, one session after the other, up to the first reply that isn't explained.
+/// Judges the remaining replies, session by session, up to the first that isn't explained.
 fn judge_in_order<R: Threads + Sync, T: Shown + Drop, P: Past<Shot = T>, L>(
     rt: &R,
     alloc: Global,

@@ -1,4 +1,4 @@
-//! A history whose states are known, as the past of a store.
+//! A history with known states, as the history view of an audit.
 ghost use Rattle.std.specs.Prelude.{◌≡◌};
 
 use crate::calls::{call, cut_over, event_number};

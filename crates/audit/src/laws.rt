@@ -35,8 +35,7 @@ pub fn others_are_rejected()
     text_law();
 }
 
-/// So is one whose replies name more events than the history has above its start, or fewer: one reply, one event
-/// or one position less or more is told.
+/// So is one whose replies name more events than the history has above its start, or fewer, even if only by one.
 pub fn more_or_fewer_are_rejected()
     ensures { MoreOrFewerAreRejected }
 {

@@ -1,14 +1,13 @@
-//! The audit of a parallel run: whether the one history that it left explains what every session was
-//! replied, by the transcript of the run.
+//! The audit of a parallel run: whether the history that the run left explains every reply in its transcript.
 //!
-//! - `answers`: what an audit answers.
+//! - `answers`: the answers of an audit.
 //! - `audits`: the audit.
-//! - `lines`: the lines of a transcript, as sessions execute them, and the first that asks for policies.
-//! - `known_history`: a history as the past of a store, with its states at each position from one on.
-//! - `calls`: what a call comes to at a position of it.
-//! - `replayed_session`: a session whose replies are judged, one after the other.
-//! - `session_replay`: its replies, as far as they are judged.
-//! - `judgement`: those of all sessions, judged side by side.
+//! - `lines`: the lines of a transcript, as sessions execute them, and the first statement on policies.
+//! - `known_history`: a history view with the state at each position from one on.
+//! - `calls`: the outcome of a call at a position of a history.
+//! - `replayed_session`: a session whose replies are judged in order.
+//! - `session_replay`: the replies of a session, and how many of them are judged.
+//! - `judgement`: the replies of all sessions, judged alternately in strides of positions.
 //! - `numbers`: whether the numbers that replies name are the positions after the start, each once.
 //! - `laws`: laws of audits, in clauses of functions that do nothing.
 #![tactic(auto)]

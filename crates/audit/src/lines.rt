@@ -11,7 +11,7 @@ use stmt_tokens::{LineKind, split_line};
 use transcript::{Exchange, SessionTranscript};
 use ts_schema::NoMemory;
 
-/// What a session executes of a line.
+/// The part of a line that a session executes.
 #[derive(Clone, Copy)]
 pub(crate) struct Line<'a> {
     /// The bytes before the comment.
@@ -29,7 +29,7 @@ pub struct Place {
     pub reply: u64,
 }
 
-/// What a session executes of the line of an exchange.
+/// The part of an exchange's line that its session executes.
 #[tactic(auto, using(stmt_tokens::proofs::StatementLines::statement_line))]
 pub(crate) fn line_of(exchange: &Exchange) -> Line<'_>
     requires short { length exchange.now.line ≤ longest_line }

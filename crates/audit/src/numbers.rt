@@ -7,8 +7,8 @@ ghost use Rattle.audit.specs.ReplayedReplies.{LieBetween};
 
 use ts_schema::Seq;
 
-/// The least position after `start` and up to `end` that isn't among these numbers once. All of them lie
-/// there.
+/// The lowest position after `start` and up to `end` that isn't among these numbers exactly once. All of the
+/// numbers lie in that range.
 pub(crate) fn first_lost(numbers: Seq<u64>, start: u64, end: u64) -> Option<u64>
     requires order { start ≤ end }
     requires lie { LieBetween start end numbers }
@@ -19,7 +19,7 @@ pub(crate) fn first_lost(numbers: Seq<u64>, start: u64, end: u64) -> Option<u64>
     first_gap(numbers.as_slice(), start, end)
 }
 
-/// The same of numbers in rising order.
+/// The same for numbers in ascending order.
 fn first_gap(numbers: &[u64], start: u64, end: u64) -> Option<u64>
     requires order { start ≤ end }
     requires lie { LieBetween start end numbers.now }

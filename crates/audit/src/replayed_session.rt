@@ -1,4 +1,4 @@
-//! A session whose replies are judged one after the other over a past.
+//! A session whose replies are judged in order over a history.
 ghost use Rattle.std.specs.Prelude.{◌≡◌, ◌≤◌, ℕ, [], false, length, IfOk, IsTrue, None};
 ghost use Rattle.std.specs.Thread.{IsSync};
 ghost use Rattle.ts_model.specs.Allowed.{all_allowed};
@@ -20,10 +20,10 @@ use ts_model::Shown;
 use ts_schema::{Name, NoMemory, Steps};
 use ts_sessions::Session;
 
-/// The most bytes whose operations may wait for the end of a block.
+/// The most bytes of text whose operations a write block may queue.
 const MOST_QUEUED: u64 = 67_108_864;
 
-/// A session whose replies are judged, as far as it has come.
+/// A session whose replies are being judged, as it is after the replies so far.
 #[derive(Drop)]
 pub(crate) struct ReplayedSession<T: Shown>
 where
@@ -31,7 +31,7 @@ where
 {
     /// The session.
     pub session: Session<T>,
-    /// The position of its last look or event.
+    /// The position of its last printed read or event.
     pub at: u64,
     /// The numbers of the events that its replies name.
     pub named: Vec<u64>,
@@ -67,7 +67,7 @@ where
         }
     }
 
-    /// Whether it has come to a position or beyond, where one is named.
+    /// Whether it has reached a position, if one is given.
     #[inline]
     pub(crate) fn has_reached(&self, position: Option<u64>) -> bool
         ensures { position ≡ None → result ≡ false }
@@ -78,7 +78,7 @@ where
         }
     }
 
-    /// Judges one more reply. Where it isn't explained, the session may be any.
+    /// Judges one more reply. If it isn't explained, any session state may be left.
     pub(crate) fn replay_line<R: Threads + Sync, P: Past<Shot = T>, L>(
         &mut self,
         rt: &R,
@@ -122,7 +122,7 @@ where
         }
     }
 
-    /// Goes on behind a line that came to this, where its text is the reply.
+    /// Continues after a line with this outcome, if its text is the reply. Returns whether it is.
     fn follow(&mut self, told: ReplayedLine, reply: &[u8]) -> Result<bool, NoMemory>
         ensures behind { IfOk result (λ same. GoesBehind told reply.now self.old same self.new) }
         ensures session { self.new.session ≡ self.old.session }

@@ -1,4 +1,4 @@
-//! The replies of a session, judged piece by piece over a past.
+//! The replies of a session, judged in parts over a history.
 ghost use Rattle.std.specs.Prelude.{◌≡◌, ◌≤◌, false, IfOk, IsTrue, None, OnOk};
 ghost use Rattle.std.specs.Thread.{IsSync};
 ghost use Rattle.ts_model.specs.Allowed.{all_allowed};
@@ -14,7 +14,7 @@ use transcript::SessionTranscript;
 use ts_model::Shown;
 use ts_schema::{NoMemory, Steps};
 
-/// The replies of a session, as far as they are judged.
+/// The replies of a session, and how many of them are judged.
 #[derive(Drop)]
 pub(crate) struct SessionReplay<'a, T: Shown>
 where
@@ -22,9 +22,9 @@ where
 {
     /// What the session said.
     pub talk: &'a SessionTranscript,
-    /// The session, as far as it has come. Where a reply isn't explained it may be any.
+    /// The session after the explained replies. After a reply that isn't explained it may be in any state.
     pub teller: ReplayedSession<T>,
-    /// So many of its replies are explained.
+    /// How many of its replies are explained.
     pub heard: usize,
     /// Whether the next one isn't.
     pub stopped: bool,
@@ -34,7 +34,7 @@ impl<'a, T: Shown + Drop> SessionReplay<'a, T>
 where
     T::Job: Drop,
 {
-    /// No reply of a session is judged, whose first look is at `start` or later.
+    /// A replay before its first reply. The session's first read is at `start` or later.
     pub(crate) fn new(
         alloc: Global,
         start: u64,
@@ -52,8 +52,8 @@ where
         })
     }
 
-    /// Judges more replies, until the session has come to a position or beyond, if one is named; and says whether all
-    /// are explained.
+    /// Judges more replies, until the session has reached a position, if one is given. Returns whether all are
+    /// explained.
     pub(crate) fn judge_next<R: Threads + Sync, P: Past<Shot = T>, L>(
         &mut self,
         rt: &R,

@@ -1,4 +1,4 @@
--- What a line comes to from a position on, it comes to from an earlier one too.
+-- A line that has an outcome from a position on also has it from an earlier position on.
 use Rattle.std.proofs.Common.{ℕ, ◌≤◌, false, List, [], ◌∷◌, Option, Some, None, refl, sym, true≢false, arith}
 use Rattle.ts_model.specs.declared.events.Event.{Event}
 use Rattle.ts_model.specs.History.{History, same}

@@ -27,7 +27,7 @@ use Rattle.audit_looks.proofs.WordLaws.{word_lacks}
 
 -- ---- parts
 
--- the events behind looks have numbers of 64 bits
+-- the events after read positions have numbers of 64 bits
 abbrev pub LooksFit : List ℕ → Type 0
 LooksFit ps = AllByRecursion (λ p. suc p < 2 ^ 64) ps
 
@@ -35,7 +35,8 @@ LooksFit ps = AllByRecursion (λ p. suc p < 2 ^ 64) ps
 abbrev pub NumbersFit : List ℕ → Type 0
 NumbersFit ns = AllByRecursion (λ n. n < 2 ^ 64) ns
 
--- the line that begins a text of a reply, with its head, the looks that it tells and the events that it names
+-- the line that begins a text of a reply, with its head, the read positions that it prints and the events that it
+-- names
 pub record ReadsLine (text rest : List ℕ) (head : Head) (looks numbers : List ℕ) : Type 0 where
   pub line : List ℕ
   pub is : text ≡ line ++ 10 ∷ rest
@@ -56,7 +57,7 @@ at_mark = high_mark 64 (omega arith)
 blank_mark : IsMark 32
 blank_mark = low_mark 32 (omega arith)
 
--- a number ends no line, and what stands behind it doesn't either
+-- a number ends no line, if the text after it ends none
 clear_number : (n : ℕ) (text : List ℕ) → Lacks is_line_end text → Lacks is_line_end (decimal n ++ text)
 clear_number n text clear = lacks_append is_line_end (decimal n) text (decimal_lacks 10 n end_mark) clear
 
@@ -80,11 +81,11 @@ less_one : (n : ℕ) → n - 1 ≡ before n
 less_one zero = refl
 less_one (suc n) = omega arith
 
--- an event tells the look before it
+-- an event implies a read at the position before it
 event_told : (n pos : ℕ) → n ≡ pos → (n - 1) ∷ [] ≡ before pos ∷ []
 event_told n pos e = ap (λ k. (k - 1) ∷ []) e ∙ ap (λ k. k ∷ []) (less_one pos)
 
--- a look, or the number of an event, is told as it is
+-- a read position, or the number of an event, is printed as it is
 number_told : (n pos : ℕ) → n ≡ pos → n ∷ [] ≡ pos ∷ []
 number_told n pos e = ap (λ k. k ∷ []) e
 
@@ -362,7 +363,7 @@ tail_reads Bytes r =
       number = λ e small. ap number_in parts ∙ number_then r.pos 32 (codes "bytes " ++ decimal r.mark) small refl;
     }
 
--- what stands before that end
+-- the text before that end
 abbrev fault_start : ℕ → List ℕ
 fault_start code = (number_text code ++ codes " ") ++ (entry_of code).word
 

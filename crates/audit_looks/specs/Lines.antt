@@ -1,4 +1,4 @@
--- The looks that one line of a reply prints, and the events that it names, read from its text.
+-- The read positions that one line of a reply prints, and the events that it names, read from its text.
 use Rattle.std.specs.Prelude.{ℕ, ◌+◌, ◌-◌, ◌*◌, ◌^◌, min, Bool, not, ◌==◌, nat_eq, ◌||◌, if◌then◌else◌, List, [], ◌∷◌, codes}
 use Rattle.std.specs.Char.{is_ascii_digit}
 use Rattle.std.specs.List.{list_any, starts_with}
@@ -20,12 +20,12 @@ number_from n (b ∷ text) = if is_ascii_digit b then number_from (with_digit n 
 abbrev pub number_in : List ℕ → ℕ
 number_in text = number_from 0 text
 
--- what stands ahead of the first such byte, or all where there is none
+-- the text before the first such byte, or all of it if there is none
 abbrev pub ahead : ℕ → List ℕ → List ℕ
 ahead byte [] = []
 ahead byte (b ∷ text) = if b == byte then [] else b ∷ ahead byte text
 
--- what stands behind the first such byte, or nothing where there is none
+-- the text after the first such byte, or nothing if there is none
 abbrev pub behind : ℕ → List ℕ → List ℕ
 behind byte [] = []
 behind byte (b ∷ text) = if b == byte then text else behind byte text
@@ -45,7 +45,7 @@ is_event line =
 abbrev pub has_position : List ℕ → Bool
 has_position line = list_any (λ b. nat_eq b 64) line
 
--- what the head of a line says of its looks
+-- what the head of a line says about its read positions
 abbrev pub head_of : List ℕ → Head
 head_of line =
     if begins line (codes "CUT ") then heads.Cut
@@ -56,13 +56,13 @@ head_of line =
     else if is_event line then heads.Event
     else heads.Look
 
--- ---- looks
+-- ---- read positions
 
--- the position of a line: the number behind its first @
+-- the position of a line: the number after its first @
 abbrev pub position_in : List ℕ → ℕ
 position_in line = number_in (behind 64 line)
 
--- the event that begins a refresh: the number behind the first blank
+-- the event that begins a refresh: the number after the first blank
 abbrev pub cut_in : List ℕ → ℕ
 cut_in line = number_in (behind 32 line)
 
@@ -70,7 +70,7 @@ cut_in line = number_in (behind 32 line)
 abbrev pub snapshot_in : List ℕ → ℕ
 snapshot_in line = number_in (behind 32 (behind 32 (behind 64 line)))
 
--- the looks of a line with this head. An event comes directly after its look
+-- the read positions of a line with this head. An event comes directly after its read position
 abbrev pub told_in : Head → List ℕ → List ℕ
 told_in heads.Event line = (position_in line - 1) ∷ []
 told_in heads.Cut line = (cut_in line - 1) ∷ []
@@ -82,8 +82,8 @@ told_in heads.Quiet line = []
 
 -- ---- events
 
--- the numbers of the events that a line with this head names as made: an event stands at its position. A cut is named
--- by its number, and a whole refresh by that of its cut and by its position
+-- the numbers of the events that a line with this head names: an event has the number of its position. A cut is named
+-- by its number, and a whole refresh by the number of its cut and by its position
 abbrev pub named_in : Head → List ℕ → List ℕ
 named_in heads.Event line = position_in line ∷ []
 named_in heads.Cut line = cut_in line ∷ []

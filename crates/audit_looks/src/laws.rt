@@ -1,12 +1,12 @@
 //! Laws of texts. Each is the clause of a function that does nothing.
 ghost use Rattle.audit_looks.specs.Laws.{TextsTellLooks, TextsTellNumbers};
 
-/// What is read of the text of a reply are the looks that the reply tells.
+/// The positions that are read from the text of a reply are the read positions that the reply prints.
 pub fn texts_tell_looks()
     ensures { TextsTellLooks }
 {}
 
-/// What is read of the text of a reply are the numbers of the events that the reply names as made.
+/// The numbers that are read from the text of a reply are those of the events that the reply names.
 pub fn texts_tell_numbers()
     ensures { TextsTellNumbers }
 {}

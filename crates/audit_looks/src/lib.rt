@@ -1,8 +1,8 @@
-//! The positions of looks, and the numbers of events, read from the text of the reply that prints them.
+//! Read positions and numbers of events, read from the text of the reply that prints them.
 //!
 //! - `numbers`: the numbers that a text begins with.
-//! - `lines`: the looks of one line, by its head.
-//! - `replies`: the looks of a reply.
+//! - `lines`: the read positions of one line, by its head.
+//! - `replies`: the read positions of a reply.
 //! - `laws`: what is read of a text is what its reply tells.
 #![tactic(auto)]
 

@@ -1,4 +1,4 @@
-//! The looks that one line of a reply prints, by its head.
+//! The read positions that one line of a reply prints, by its head.
 ghost use Rattle.std.specs.Prelude.{◌≡◌, ◌++◌, OnOk};
 ghost use Rattle.audit_looks.specs.Lines.{cut_in, head_of, is_event, position_in, snapshot_in, told_in};
 ghost use Rattle.audit_looks.specs.Replies.{is_last};
@@ -6,22 +6,22 @@ ghost use Rattle.audit_looks.specs.Replies.{is_last};
 use crate::numbers::{behind, number_in};
 use ts_schema::NoMemory;
 
-/// What the head of a line says of its looks.
+/// What the head of a line says about its read positions.
 #[derive(Clone, Copy, Debug, PartialEq, Eq)]
 pub enum Head {
-    /// An event was made directly after the look.
+    /// An event was created directly after the read position.
     Event,
-    /// A refresh was begun.
+    /// A refresh was cut.
     Cut,
-    /// A refresh was cut, built and finished.
+    /// A refresh was cut, its snapshot taken, and it was finished.
     Refresh,
-    /// The look is printed as it is.
+    /// The read position is printed as it is.
     Look,
-    /// The statement was refused at the look.
+    /// The statement was refused at the read position.
     Fault,
-    /// The look of an answer, behind which nothing follows.
+    /// The read position of an answer. No line follows it.
     Answer,
-    /// No look is printed.
+    /// No read position is printed.
     Quiet,
 }
 
@@ -46,7 +46,7 @@ fn is_event(line: &[u8]) -> bool
         || line.starts_with(b"FINISH ")
 }
 
-/// What the head of a line says of its looks.
+/// What the head of a line says about its read positions.
 pub fn head_of(line: &[u8]) -> Head
     ensures { result ≡ head_of line.now }
 {
@@ -88,7 +88,7 @@ fn snapshot_in(line: &[u8]) -> u64
     number_in(behind(b' ', behind(b' ', behind(b'@', line))))
 }
 
-/// Appends the looks of a line with this head.
+/// Appends the read positions of a line with this head.
 pub fn put_looks(head: &Head, line: &[u8], looks: &mut Vec<u64>) -> Result<(), NoMemory>
     ensures { OnOk result (looks.new.items ≡ looks.old.items ++ told_in head.now line.now) }
 {

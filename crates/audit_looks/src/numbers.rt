@@ -1,17 +1,17 @@
-//! Texts up to a byte and behind it, and the numbers that they begin with.
+//! Texts before and after a byte, and the numbers that they begin with.
 ghost use Rattle.std.specs.Prelude.{◌≡◌, true, ◌==◌};
 ghost use Rattle.std.specs.Char.{is_ascii_digit};
 ghost use Rattle.std.specs.List.{position};
 ghost use Rattle.audit_looks.specs.Lines.{ahead, behind, number_in, with_digit};
 
-/// Where the first such byte stands.
+/// The place of the first such byte.
 fn place_of(byte: u8, text: &[u8]) -> Option<usize>
     ensures { result ≡ position (λ b. b == byte) text.now }
 {
     text.iter().position(|b| *b == byte)
 }
 
-/// What stands ahead of the first such byte, or all where there is none.
+/// The text before the first such byte, or all of it if there is none.
 pub fn ahead(byte: u8, text: &[u8]) -> &[u8]
     ensures { result.now ≡ ahead byte text.now }
 {
@@ -21,7 +21,7 @@ pub fn ahead(byte: u8, text: &[u8]) -> &[u8]
     }
 }
 
-/// What stands behind the first such byte, or nothing where there is none.
+/// The text after the first such byte, or nothing if there is none.
 pub fn behind(byte: u8, text: &[u8]) -> &[u8]
     ensures { result.now ≡ behind byte text.now }
 {
@@ -31,7 +31,7 @@ pub fn behind(byte: u8, text: &[u8]) -> &[u8]
     }
 }
 
-/// A number with one more digit behind it, or the greatest number of 64 bits.
+/// A number with one more digit after it, at most the greatest number of 64 bits.
 fn with_digit(number: u64, digit: u8) -> u64
     requires { is_ascii_digit digit ≡ true }
     ensures { result ≡ with_digit number digit }

@@ -1,4 +1,4 @@
-//! The looks that a reply prints.
+//! The read positions that a reply prints.
 ghost use Rattle.std.specs.Prelude.{◌≡◌, ◌+◌, IfOk, length, drop};
 ghost use Rattle.audit_looks.specs.Replies.{looks_in};
 
@@ -7,7 +7,7 @@ use crate::numbers::{ahead, behind};
 use std::alloc::Global;
 use ts_schema::NoMemory;
 
-/// What a line says behind the name, a colon and a blank.
+/// The text of a line after the name, a colon and a blank.
 fn behind_name<'a>(name: &[u8], line: &'a [u8]) -> &'a [u8]
     ensures { result.now ≡ drop (length name.now + 2) line.now }
 {
@@ -18,9 +18,9 @@ fn behind_name<'a>(name: &[u8], line: &'a [u8]) -> &'a [u8]
     }
 }
 
-/// The positions of the looks that a reply of the session with this name prints, in order, up to an answer. That of
-/// a refusal comes twice: a refresh that was cut may have been refused at its snapshot or at its finish, and the
-/// reply doesn't say which.
+/// The read positions that a reply of the session with this name prints, in order, up to an answer. The position
+/// of a refusal comes twice: a refresh that was cut may have been refused at its snapshot or at its finish, and
+/// the reply doesn't say which.
 pub fn looks_of_reply(alloc: Global, name: &[u8], reply: &[u8]) -> Result<Vec<u64>, NoMemory>
     ensures { IfOk result (λ looks. looks.items ≡ looks_in name.now reply.now) }
 {

@@ -1,4 +1,4 @@
--- What a line gives, it comes to by the looks that its reply tells.
+-- A replay by the printed read positions yields what a line gave.
 use Rattle.std.proofs.Common.{◌≡◌, ℕ, suc, ◌+◌, ◌≤◌, Bool, true, false, cond, nat_lt, List, [], ◌∷◌, ◌++◌, length, Option, Some, None, inl, inr, sym, refl, ap, ◌∙◌, subst, ◌⊎◌, arith}
 use Rattle.std.specs.Prelude.{Result, Ok, Err, ℤ, is_some, ⊤}
 use Rattle.std.specs.List.{AllByRecursion}
@@ -61,17 +61,18 @@ use Rattle.ts_sessions.proofs.GivenEnds.{gives_as}
 use Rattle.audit_past.proofs.ReplayLaws.{may_from, tells_as}
 use Rattle.ts_sessions.proofs.UpperCodes.{rolled_looked}
 
--- ---- what is told by the end of a procedure
+-- ---- the read positions that the end of a procedure prints
 
 -- positions of a history
 abbrev Within : History → List ℕ → Type 0
 Within all ps = AllByRecursion (λ p. p ≤ position all) ps
 
--- what was told, as what Tells comes to
+-- an outcome, as a result of Tells
 abbrev telling : {A : Type 0} → ℕ → List (ℕ × Event) → A → Option (Told A)
 telling last given a = Some (record { last = last; given = given; end = a })
 
--- what a procedure gave, where so many of the looks that its end tells were taken before it: it comes to that by the rest of them
+-- what a procedure gave, if so many of the printed read positions were taken before it: a replay by the rest of them
+-- yields it
 record Comes (all : History) (at : ℕ) (so_far : List (ℕ × Event)) (before_it : List ℕ) (procedure : Procedure (Turn Places)) (last : ℕ) (given : List (ℕ × Event)) (y : Turn Places) : Type 0 where
   rest : List ℕ
   told : looks_told y.said ≡ before_it ++ rest
@@ -81,7 +82,7 @@ record Comes (all : History) (at : ℕ) (so_far : List (ℕ × Event)) (before_i
   places : end.places ≡ y.places
   tells : Tells all at so_far procedure rest (telling last given end)
 
--- whatever such a procedure gives
+-- so is all that such a procedure gives
 abbrev TellsLooks : List ℕ → Procedure (Turn Places) → Type 0
 TellsLooks before_it procedure =
     (all : History) (at : ℕ) (so_far : List (ℕ × Event)) (looks : List (Option ℕ)) (last : ℕ) (given : List (ℕ × Event)) (y : Turn Places)
@@ -108,11 +109,11 @@ tells_end before_it rest t is within all at so_far [] last given y low b g = rec
 }
 tells_end before_it rest t is within all at so_far (p ∷ ps) last given y low b g = absurd g
 
--- an end whose looks were all taken
+-- an end all of whose printed read positions were taken
 tells_all : (before_it : List ℕ) (t : Turn Places) → looks_told t.said ≡ before_it ++ [] → TellsLooks before_it (ends t)
 tells_all before_it t is = tells_end before_it [] t is (λ all w. tt)
 
--- a look that is printed
+-- a read that is printed
 looked_at : (all : History) (at p : ℕ) (so_far : List (ℕ × Event)) (before_it : List ℕ) (shown : History → Bool) (f : History → Procedure (Turn Places)) (last : ℕ) (given : List (ℕ × Event)) (y : Turn Places) → at ≤ p → p ≤ position all → shown (prefix all p) ≡ true → position (prefix all p) ≡ p → Comes all p so_far (before_it ++ position (prefix all p) ∷ []) (f (prefix all p)) last given y → Comes all at so_far before_it (sees shown f) last given y
 looked_at all at p so_far before_it shown f last given y low high look there c = record {
   rest = p ∷ c.rest;
@@ -143,7 +144,7 @@ tells_event before_it e next stop n all at so_far ps last given y low b (inr g) 
     let c = n all (suc at) (so_far ++ (suc at, e) ∷ []) ps last given y (omega (arith, low)) b g.1 in
     record { rest = c.rest; told = c.told; within = c.within; end = c.end; said = c.said; places = c.places; tells = inl (g.0, c.tells) }
 
--- a line that is said first
+-- a line that is replied earlier
 tells_after : (k : ℕ) (before_it : List ℕ) (procedure : Procedure (Turn Places)) → TellsLooks before_it procedure → TellsLooks (before k ∷ before_it) (ending_as (after_line (said.View k)) procedure)
 tells_after k before_it procedure n all at so_far ps last given y low b g =
     let line : Turn Places → Turn Places = after_line (said.View k) in
@@ -159,7 +160,7 @@ tells_after k before_it procedure n all at so_far ps last given y low b g =
       tells = tells_as line all at so_far procedure c.rest (telling last given c.end) c.tells;
     }
 
--- what only ends, with something that P holds of, comes to that by whatever looks
+-- a replay by any read positions yields a value that P is true of, for a procedure that only ends
 record EndsByAny (P : Turn Places → Type 0) (all : History) (at : ℕ) (so_far : List (ℕ × Event)) (procedure : Procedure (Turn Places)) (last : ℕ) (given : List (ℕ × Event)) (y : Turn Places) : Type 0 where
   holds : P y
   tells : (ps : List ℕ) → Tells all at so_far procedure ps (telling last given y)
@@ -173,7 +174,7 @@ ended_tells P all at so_far (ends a) [] last given y t g = record {
 }
 ended_tells P all at so_far (ends a) (p ∷ ps) last given y t g = absurd g
 
--- a look that isn't printed ends its statement: it tells nothing, or no look is printed
+-- a read that isn't printed ends its statement: the reply prints none, or no such read is ever printed
 abbrev Hidden : (History → Bool) → History → Procedure (Turn Places) → Type 0
 Hidden shown h procedure = EndsSo (λ y. looks_told y.said ≡ []) procedure ⊎ (((g : History) → shown g ≡ false) × EndsSo (λ y. Within h (looks_told y.said)) procedure)
 
@@ -190,7 +191,7 @@ hidden_comes shown f all at so_far ps last given y unseen_now (inr t) g =
     let rest = looks_told y.said in
     record { rest = rest; told = refl; within = e.holds; end = y; said = refl; places = refl; tells = unseen all at so_far shown f rest _ t.0 (e.tells rest) }
 
--- the first look of a statement
+-- the first read of a statement
 tells_first : (shown : History → Bool) (f : History → Procedure (Turn Places)) → ((h : History) → shown h ≡ true → TellsLooks (position h ∷ []) (f h)) → ((h : History) → shown h ≡ false → Hidden shown h (f h)) → TellsLooks [] (sees shown f)
 tells_first shown f n hid all at so_far [] last given y low b g = absurd g
 tells_first shown f n hid all at so_far (None ∷ ps) last given y low b g = hidden_comes shown f all at so_far ps last given y g.0 (hid all g.0) g.1
@@ -201,7 +202,7 @@ tells_first shown f n hid all at so_far (Some p ∷ ps) last given y low b g = l
 fault_told : (pos : ℕ) (r : Refusal) → IsLooked pos r → refusal_told r [] ≡ pos ∷ pos ∷ []
 fault_told pos r l = ap (λ b. cond b (r.pos ∷ r.pos ∷ []) []) l.shown ∙ ap (λ k. k ∷ k ∷ []) l.at
 
--- a refusal at the only look
+-- a refusal at the only read position
 tells_fault : (h : History) (p : Places) (r : Refusal) → IsLooked (position h) r → TellsLooks (position h ∷ []) (ends (refuses p r))
 tells_fault h p r l = tells_end (position h ∷ []) (position h ∷ []) (refuses p r) (fault_told (position h) r l) (λ all w. w)
 
@@ -211,7 +212,7 @@ tells_bare p r e = tells_all [] (refuses p r) (ap (λ b. cond b (r.pos ∷ r.pos
 
 -- ---- calls
 
--- a call says at which position it looked
+-- a call reports the position at which it read
 abbrev Finds : {A : Type 0} → (A → ℕ) → History → Act A → Type 0
 Finds of h (is_refused r) = IsLooked (position h) r
 Finds of h (returns a) = of a ≡ position h
@@ -255,13 +256,13 @@ pending_finds c at h Unknown = looked (position h) no_refresh 0 refl
 finish_finds : (c at : ℕ) (h : History) → Finds before h (act_of_finish c at h)
 finish_finds c at h = pending_finds c at h (pending h c)
 
--- a call, and what follows by what came of it
+-- a call, and what follows by its outcome
 tells_call : {A : Type 0} (of : A → ℕ) (before_it : List ℕ) (h : History) (act : Act A) (then : Result A Refusal → Procedure (Turn Places)) → Finds of h act → ((r : Refusal) → IsLooked (position h) r → TellsLooks before_it (then (Err r))) → ((a : A) → of a ≡ position h → TellsLooks before_it (then (Ok a))) → TellsLooks before_it (followed_by (tries_at h act) then)
 tells_call of before_it h (is_refused r) then finds refused answered = refused r finds
 tells_call of before_it h (returns a) then finds refused answered = answered a finds
 tells_call of before_it h (makes e a) then finds refused answered = tells_event before_it e (then (Ok a)) _ (answered a finds)
 
--- a call that is replied to in one line
+-- a call with a reply of one line
 tells_said : {A : Type 0} (of : A → ℕ) (h : History) (act : Act A) (p : Places) (turn : Result A Refusal → Turn Places) → Finds of h act → ((r : Refusal) → turn (Err r) ≡ refuses p r) → ((a : A) → looks_told (turn (Ok a)).said ≡ of a ∷ []) → TellsLooks (position h ∷ []) (ending_as turn (tries_at h act))
 tells_said of h act p turn finds refused answered =
     tells_call of (position h ∷ []) h act (λ r. ends (turn r)) finds (λ r l. subst (λ t. TellsLooks (position h ∷ []) (ends t)) (sym (refused r)) (tells_fault h p r l))
@@ -269,7 +270,7 @@ tells_said of h act p turn finds refused answered =
 
 -- ---- refreshes
 
--- a finish that is refused is so with a snapshot of its own position, or that snapshot is
+-- a finish is refused with a snapshot of the same position, or its snapshot is refused
 module _ (p : Places) (c : ℕ) (span : Span) (min : ℤ) (all : History) (at q : ℕ) (so_far : List (ℕ × Event)) (last : ℕ) (given : List (ℕ × Event)) (low : at ≤ q) (high : q ≤ position all) (ended : (last ≡ q) × (given ≡ so_far)) where
   -- the turn that is come to so
   record Again (procedure : Procedure (Turn Places)) (r : Refusal) : Type 0 where
@@ -296,7 +297,7 @@ module _ (p : Places) (c : ℕ) (span : Span) (min : ℤ) (all : History) (at q 
       subst (λ a. Tells all q so_far (ending_as (turn_of_refresh p c span min t) (tries_at h a)) [] told) (sym finish_is) (same_end last q given so_far end ended.0 ended.1) in
       inl (may_from all at (λ h. true) q low high refl, subst (λ x. Tells all q so_far (after_snapshot p c span min x) (q ∷ []) told) (sym taken_is) (inl (may_from all q (λ h. true) q (omega arith) high refl, finished)))
 
--- what was cut, and then refused at a position
+-- a cut that was followed by a refusal at a position
 cut_told : (p : Places) (c : ℕ) (span : Span) (min : ℤ) (pos q reads : ℕ) (r : Refusal) → before c ≡ pos → IsLooked q r → looks_told (cut_refused p c span min r reads).said ≡ pos ∷ q ∷ q ∷ []
 cut_told p c span min pos q reads r is l = ap (λ k. k ∷ refusal_told r []) is ∙ ap (λ ps. pos ∷ ps) (fault_told q r l)
 
@@ -304,7 +305,7 @@ module _ (p : Places) (c : ℕ) (span : Span) (min : ℤ) (pos : ℕ) (is : befo
   abbrev snapshot_part : Procedure (Turn Places)
   snapshot_part = looks (λ h. after_snapshot p c span min (snapshot_taken c h))
 
-  -- what came of a finish that was refused
+  -- the outcome of a finish that was refused
   refused_comes : (q reads reads_too : ℕ) (r : Refusal) → q ≤ position all → position (prefix all q) ≡ q → IsLooked (position (prefix all q)) r → y ≡ cut_refused p c span min r reads → Tells all at so_far snapshot_part (q ∷ q ∷ []) (telling last given (cut_refused p c span min r reads_too)) → Comes all at so_far (pos ∷ []) snapshot_part last given y
   refused_comes q reads reads_too r high there l end t = record {
     rest = q ∷ q ∷ [];
@@ -316,7 +317,7 @@ module _ (p : Places) (c : ℕ) (span : Span) (min : ℤ) (pos : ℕ) (is : befo
     tells = t;
   }
 
-  -- what came of a finish that was made, with a snapshot at a position
+  -- the outcome of a finish that succeeded, with a snapshot at a position
   made_comes : (s q n : ℕ) (qs : List (Option ℕ)) (t : Taken) → pending (prefix all q) c ≡ Waiting n → has_room (prefix all q) ≡ true → at ≤ s → s ≤ q → q ≤ position all → position (prefix all s) ≡ s → position (prefix all q) ≡ q → snapshot_taken c (prefix all s) ≡ Ok t → t.at ≡ position (prefix all s) → base_position all ≤ at → Within all (pos ∷ []) → Gives all None q so_far (ending_as (turn_of_refresh p c span min t) (tries_at (prefix all q) (act_of_finish c t.at (prefix all q)))) qs last given y → Comes all at so_far (pos ∷ []) snapshot_part last given y
   made_comes s q n qs t waits room low le high there_s there_q taken_is t_at base w g =
       let h = prefix all s in
@@ -370,7 +371,7 @@ module _ (p : Places) (c : ℕ) (span : Span) (min : ℤ) (pos : ℕ) (is : befo
     finish_comes (Finished f) e = gone_comes (Finished f) (refusal no_refresh (prefix all q) f) e refl refl (looked (position (prefix all q)) no_refresh f refl)
     finish_comes Unknown e = gone_comes Unknown (refusal no_refresh (prefix all q) 0) e refl refl (looked (position (prefix all q)) no_refresh 0 refl)
 
-  -- what came of a snapshot that was taken at a position
+  -- the outcome of a snapshot that was taken at a position
   taken_comes : (s : ℕ) (ps : List (Option ℕ)) (t : Taken) → at ≤ s → position (prefix all s) ≡ s → snapshot_taken c (prefix all s) ≡ Ok t → t.at ≡ position (prefix all s) → base_position all ≤ at → Within all (pos ∷ []) → Gives all None s so_far (after_snapshot p c span min (Ok t)) ps last given y → Comes all at so_far (pos ∷ []) snapshot_part last given y
   taken_comes s [] t low there taken_is t_at base w g = absurd g
   taken_comes s (None ∷ qs) t low there taken_is t_at base w g = absurd (true≢false g.0)
@@ -475,7 +476,7 @@ tells_query p bytes h actions.Rollback asks = absurd asks
 tells_query p bytes h (actions.Calendar table number unit at fold) asks = tells_answer p h (calendar_plan table (record { number = number; unit = unit_of unit; at = at; fold = fold }))
 tells_query p bytes h (actions.Ask q) asks = tells_answer p h (plan_of (roster h) q)
 
--- at a look that is printed, where what acts tells it
+-- a statement that resolves names at a printed read, if what it does prints that position
 tells_named : (h : History) (p : Places) (bytes : ℕ) (stmt : Stmt) → (refusal_of (position h) (roster h) stmt ≡ None → TellsLooks (position h ∷ []) (acts p bytes h (action_of (roster h) stmt))) → TellsLooks (position h ∷ []) (turn_of_names p bytes stmt h)
 tells_named h p bytes stmt passed =
     named_holds (TellsLooks (position h ∷ [])) p bytes h stmt (λ r e. tells_fault h p r (rolled_looked (position h) (roster h) stmt r e)) (λ plan. tells_answer p h plan)
@@ -544,7 +545,7 @@ tells_outside p bytes stmt pass =
 
 -- ---- in a write block
 
--- a statement that waits: what is printed is why it is refused
+-- a statement that is queued: only its refusal is printed
 tells_queue : (p : Places) (bytes : ℕ) (stmt : Stmt) (ops : List Op) (n : ℕ) (op : Roster → Op) → kind_of stmt ≡ kinds.Changes → ((r : Roster) → action_of r stmt ≡ actions.Change (op r)) → TellsLooks [] (named_here (enters (writing ops n) p) bytes stmt)
 tells_queue p bytes stmt ops n op kind is =
     let q = enters (writing ops n) p in
@@ -605,7 +606,7 @@ tells_writing p bytes (stmts.Rows table tests) ops n e = tells_asked p bytes (st
 
 -- ---- in a read block
 
--- what is told is the position of the block, and no look is printed
+-- the reply prints the position of the block only, and no read is printed
 abbrev TellsWithin : History → Turn Places → Type 0
 TellsWithin all y = Within all (looks_told y.said)
 

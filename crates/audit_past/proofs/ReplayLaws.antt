@@ -1,4 +1,4 @@
--- What a procedure comes to where its looks are told, it gives; and that is one thing.
+-- A procedure gives what a replay of it yields, and a replay has one outcome.
 use Rattle.std.proofs.Common.{◌≡◌, ℕ, suc, ◌≤◌, Bool, true, List, [], ◌∷◌, ◌++◌, Option, Some, None, inl, inr, sym, ap, ◌∙◌}
 use Rattle.std.specs.Prelude.{nat_le, ◌&&◌}
 use Rattle.std.proofs.lemmas.Bool.{true≢false, and_parts, and_from, leb-true, le-leb}
@@ -10,9 +10,9 @@ use Rattle.ts_sessions.specs.Procedures.{Procedure, sees, adds, ends, ending_as}
 use Rattle.audit_past.specs.Replay.{Told, Tells, may_look}
 use Rattle.audit_past.specs.ReplayLaws.{ToldIsGiven, ToldOnce}
 
--- ---- looks that may be printed
+-- ---- reads that may be printed
 
--- where a look may be printed
+-- a read may be printed at a position
 record MayLook (all : History) (at : ℕ) (shown : History → Bool) (p : ℕ) : Type 0 where
   low : at ≤ p
   high : p ≤ position all
@@ -28,9 +28,9 @@ pub may_from : (all : History) (at : ℕ) (shown : History → Bool) (p : ℕ) �
 may_from all at shown p low high look =
     and_from (nat_le at p && nat_le p (position all)) (shown (prefix all p)) (and_from (nat_le at p) (nat_le p (position all)) (le-leb at p low) (le-leb p (position all) high)) look
 
--- ---- what is told is given
+-- ---- a procedure gives the outcome of its replay
 
--- by some looks
+-- by some read positions
 record GivesSo {A : Type 0} (all : History) (at : ℕ) (so_far : List (ℕ × Event)) (procedure : Procedure A) (told : Told A) : Type 0 where
   looks : List (Option ℕ)
   gives : Gives all None at so_far procedure looks told.last told.given told.end
@@ -81,9 +81,9 @@ told_once all at so_far (adds e next stopped) ps r s (inr t) (inl u) = absurd (t
 told_once all at so_far (adds e next stopped) ps r s (inr t) (inr u) = t.1 ∙ sym u.1
 told_once all at so_far (ends a) ps r s t u = t ∙ sym u
 
--- ---- what is told of a procedure's end
+-- ---- the value at the end of a replay
 
--- what was told, with something else said of its end
+-- an outcome with a function of its value
 abbrev told_as : {A B : Type 0} → (A → B) → Option (Told A) → Option (Told B)
 told_as g None = None
 told_as g (Some t) = Some (record { last = t.last; given = t.given; end = g t.end })

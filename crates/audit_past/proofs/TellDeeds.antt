@@ -1,4 +1,4 @@
--- Deeds over a whole history: each meets it at its look, and a statement goes on from what came of one.
+-- Store calls over a whole history: each is made at its read position, and a statement continues after its outcome.
 use Rattle.std.proofs.Common.{◌≡◌, ℕ, ◌≤◌, true, List, Option, Some, None, sym, refl, ap, ◌∙◌, subst, arith}
 use Rattle.std.specs.Prelude.{is_some, Result, Ok, Err, unwrap_or}
 use Rattle.std.proofs.lemmas.Bool.{true≢false}
@@ -28,7 +28,7 @@ use Rattle.audit_past.specs.ReplaySteps.{AsksThere, GoesTo, IsWent, LedTo, Meets
 use Rattle.audit_past.proofs.TellWalks.{LiesWithin, end_reached, led_nothing, led_reached, look_lies, look_nothing, look_tells, nothing_then, reached_then, tells_same, tells_then}
 use Rattle.ts_sessions.proofs.ViewWalks.{view_stays}
 
--- ---- where a deed meets the past
+-- ---- where a store call is made
 
 pub deed_lies : {T J : Type 0} (all : History) (at look : ℕ) (ps : List ℕ) (d : Deed T J) → at ≤ position all → meets_at all at ps d ≡ Some look → LiesWithin all at look
 deed_lies all at look ps (deeds.Fill new made) le e = subst (LiesWithin all at) (ap (λ o. unwrap_or o at) e) (record { low = omega arith; high = le })
@@ -50,7 +50,7 @@ prefix_later all a b le = subst (λ g. Begins g (prefix all b)) (prefix_prefix a
 asked_later : (all : History) (a b : ℕ) (asked : RefreshRequest) → a ≤ b → IsAsked (prefix all a) asked → IsAsked (prefix all b) asked
 asked_later all a b asked le k = record { view = view_stays (prefix all a) (prefix all b) asked.view (prefix_later all a b le) k.view; low = k.low; high = k.high }
 
--- an aggregate that is there is there where the deed meets the past
+-- an aggregate that exists still exists where the store call is made
 pub deed_asks : {T J : Type 0} (all : History) (at look : ℕ) (ps : List ℕ) (d : Deed T J) → meets_at all at ps d ≡ Some look → AsksThere d (prefix all at) → AsksThere d (prefix all look)
 deed_asks all at look ps (deeds.Cut asked then) e k = asked_later all at look asked (look_lies all at look ps e).low k
 deed_asks {T} {J} all at look ps (deeds.Fill new made) e k = subst (λ n. AsksThere {T = T} {J = J} (deeds.Fill new made) (prefix all n)) (ap (λ o. unwrap_or o at) e) k
@@ -60,25 +60,25 @@ deed_asks all at look ps other e k = tt
 pub next_asks : {T J : Type 0} (shown : Shown T J) (bytes : ℕ) (all : History) (at : ℕ) (next : Next T J) (d : Deed T J) → next ≡ nexts.Deed d → NextStands shown bytes all at next → AsksThere d (prefix all at)
 next_asks shown bytes all at next d e k = subst (NextStands shown bytes all at) e k
 
--- what a deed comes to that was read as another
+-- the outcome of a store call that equals another
 pub deed_met : {T J : Type 0} (shown : Shown T J) (all : History) (at : ℕ) (deed like : Deed T J) (o : Option (OutcomeAt T)) → deed ≡ like → MeetsAt shown all at (left like) (λ p read. rest_at p read (prefix all at) like) o → MeetsAt shown all at (left deed) (λ p read. rest_at p read (prefix all at) deed) o
 deed_met {T} {J} shown all at deed like o e w = subst (λ (d : Deed T J). MeetsAt shown all at (left d) (λ p read. rest_at p read (prefix all at) d) o) (sym e) w
 
--- what a deed came to
+-- the outcome of a store call
 pub went_is : {T J : Type 0} (shown : Shown T J) (all : History) (at before : ℕ) (procedure : Places → ℕ → Procedure (Turn Places)) (o : Option (StepOutcome T J)) (w : StepOutcome T J) → o ≡ Some w → GoesTo shown all at before procedure (Ok o) → IsWent shown all at before procedure w
 went_is {T} {J} shown all at before procedure o w e k = subst (λ (x : Option (StepOutcome T J)). GoesTo shown all at before procedure (Ok x)) e k
 
 pub nothing_is : {T J : Type 0} (shown : Shown T J) (all : History) (at before : ℕ) (procedure : Places → ℕ → Procedure (Turn Places)) (o : Option (StepOutcome T J)) → o ≡ None → GoesTo shown all at before procedure (Ok o) → (p : Places) (read : ℕ) (ps : List ℕ) → TellsNothing all at (procedure p read) ps
 nothing_is {T} {J} shown all at before procedure o e k = subst (λ (x : Option (StepOutcome T J)). GoesTo shown all at before procedure (Ok x)) e k
 
--- ---- what a statement came to
+-- ---- the outcome of a statement
 
 pub reaches_then : {T J : Type 0} (shown : Shown T J) (bytes : ℕ) (all : History) (a b : ℕ) (first second : Procedure (Turn Places)) (ps qs : List ℕ) (p : Places) (result : Result (Option (StatementOutcome T J)) NoMemory) → TellsBy all a first ps b second qs → a ≤ b → ReachesTo shown bytes all b second qs p result → ReachesTo shown bytes all a first ps p result
 reaches_then shown bytes all a b first second ps qs p (Ok (Some r)) v le i = reached_then shown bytes all a b first second ps qs p r v le i
 reaches_then shown bytes all a b first second ps qs p (Ok None) v le n = nothing_then all a b first second ps qs v n
 reaches_then shown bytes all a b first second ps qs p (Err e) v le n = tt
 
--- led by a line that was said before
+-- with a line that was replied earlier before it
 pub led_reaches : {T J : Type 0} (shown : Shown T J) (bytes : ℕ) (line : Option Said) (all : History) (at : ℕ) (procedure : Procedure (Turn Places)) (ps : List ℕ) (p : Places) (o : Option (StatementOutcome T J)) (result : Result (Option (StatementOutcome T J)) NoMemory) → LedTo line o result → ReachesTo shown bytes all at procedure ps p (Ok o) → ReachesTo shown bytes all at (with_line line procedure) ps p result
 led_reaches shown bytes line all at procedure ps p None (Ok x) w n = subst (λ y. ReachesTo shown bytes all at (with_line line procedure) ps p (Ok y)) (sym w) (led_nothing line all at procedure ps n)
 led_reaches shown bytes line all at procedure ps p (Some r) (Ok (Some q)) w i = led_reached shown bytes line all at procedure ps p r q w.0 w.1 i
@@ -86,7 +86,7 @@ led_reaches shown bytes line all at procedure ps p (Some r) (Ok None) w i = absu
 led_reaches shown bytes line all at procedure ps p None (Err e) w n = tt
 led_reaches shown bytes line all at procedure ps p (Some r) (Err e) w i = tt
 
--- ---- a statement goes on
+-- ---- a statement continues
 
 -- its end
 pub went_ends : {T J : Type 0} (shown : Shown T J) (bytes : ℕ) (line : Option Said) (all : History) (at : ℕ) (ps : List ℕ) (p : Places) (read : ℕ) (next : Next T J) (t : Completion T J) (result : Result (Option (StatementOutcome T J)) NoMemory) → next ≡ nexts.End t → at ≤ position all → NextStands shown bytes all at next → LedTo line (Some (record { completion = t; last = at })) result → ReachesTo shown bytes all at (with_line line (rest_next p read (prefix all at) next)) ps p result
@@ -95,20 +95,20 @@ went_ends {T} {J} shown bytes line all at ps p read next t result e within k w =
     (led_reaches shown bytes line all at (ends (turn_of p read t)) ps p (Some (record { completion = t; last = at })) result w
     (end_reached shown bytes all at ps p read t within (subst (NextStands shown bytes all at) e k)))
 
--- a deed that has no position
+-- a store call that has no position
 pub went_nowhere : {T J : Type 0} (line : Option Said) (all : History) (at : ℕ) (ps : List ℕ) (p : Places) (read : ℕ) (next : Next T J) (d : Deed T J) (place : Option ℕ) → next ≡ nexts.Deed d → place ≡ meets_at all at ps d → place ≡ None → TellsNothing all at (with_line line (rest_next p read (prefix all at) next)) ps
 went_nowhere {T} {J} line all at ps p read next d place e is none =
     subst (λ (n : Next T J). TellsNothing all at (with_line line (rest_next p read (prefix all at) n)) ps) (sym e)
     (led_nothing line all at (rest p read (prefix all at) d) ps (deed_nothing p read all at ps d (sym is ∙ none)))
 
--- a deed that came to nothing
+-- a store call that the history doesn't explain
 pub went_to_nothing : {T J : Type 0} (line : Option Said) (all : History) (at look : ℕ) (ps : List ℕ) (p : Places) (read : ℕ) (next : Next T J) (d : Deed T J) → next ≡ nexts.Deed d → meets_at all at ps d ≡ Some look → TellsNothing all look (rest_at p read (prefix all look) d) (looks_then ps d) → TellsNothing all at (with_line line (rest_next p read (prefix all at) next)) ps
 went_to_nothing {T} {J} line all at look ps p read next d e is none =
     subst (λ (n : Next T J). TellsNothing all at (with_line line (rest_next p read (prefix all at) n)) ps) (sym e)
     (led_nothing line all at (rest p read (prefix all at) d) ps
     (nothing_then all at look (rest p read (prefix all at) d) (rest_at p read (prefix all look) d) ps (looks_then ps d) (deed_meets p read all at look ps d is) none))
 
--- a deed, and what came after it
+-- a store call, and the rest of the statement after it
 pub went_on : {T J : Type 0} (shown : Shown T J) (bytes : ℕ) (line : Option Said) (all : History) (at look before : ℕ) (ps later : List ℕ) (p : Places) (read : ℕ) (next : Next T J) (d : Deed T J) (w : StepOutcome T J) (o : Option (StatementOutcome T J)) (result : Result (Option (StatementOutcome T J)) NoMemory) → at ≤ position all → next ≡ nexts.Deed d → meets_at all at ps d ≡ Some look → later ≡ looks_then ps d → IsWent shown all look before (λ q n. rest_at q n (prefix all look) d) w → ((n : ℕ) → ReachesTo shown bytes all w.at (with_line w.said (rest_next p n (prefix all w.at) w.next)) later p (Ok o)) → LedTo line o result → ReachesTo shown bytes all at (with_line line (rest_next p read (prefix all at) next)) ps p result
 went_on {T} {J} shown bytes line all at look before ps later p read next d w o result within e is same went reaches l =
     let procedure = rest p read (prefix all at) d in

@@ -55,7 +55,7 @@ module _ (p : Places) (bytes : ℕ) (stmt : Stmt) (ops : List Op) (n : ℕ) (in_
   named_is : (h : History) → turn_of_names p bytes stmt h ≡ unless p (refusal_of (position h) (roster h) stmt) (acts p bytes h (action_of (roster h) stmt))
   named_is h = event_named p bytes h stmt (ap makes_event kind)
 
-  -- refused at its look
+  -- it is refused at its read position
   pub change_refused : {T J : Type 0} (shown : Shown T J) (all : History) (at : ℕ) (ps : List ℕ) (o : Option (StatementOutcome T J)) (r : StatementOutcome T J) → o ≡ refused_at all stmt (next_look all at ps) → o ≡ Some r → ReachesTo shown bytes all at (named_here p bytes stmt) ps p (Ok (Some r))
   change_refused {T} {J} shown all at ps o r e is =
       reaches_as shown bytes all at (named_here p bytes stmt) (change_in p bytes stmt) ps p (Ok (Some r)) change_is (by_look (next_look all at ps) refl (sym e ∙ is))
@@ -76,7 +76,7 @@ module _ (p : Places) (bytes : ℕ) (stmt : Stmt) (ops : List Op) (n : ℕ) (in_
       by_look None told f = absurd (true≢false (sym (ap is_some f)))
       by_look (Some look) told f = by_refusal look (refusal_of (position (prefix all look)) (roster (prefix all look)) stmt) told refl f
 
-  -- an operation that waits
+  -- an operation that is queued
   waits : {T J : Type 0} (shown : Shown T J) (all : History) (at : ℕ) (ps : List ℕ) (a : Action) → at ≤ position all → kind_of_action a ≡ kinds.Changes → IsSound all bytes a → ReachesTo {T = T} {J = J} shown bytes all at (acts p bytes all a) ps p (Ok (ended_of (queued_operation a bytes) at))
   waits {T} {J} shown all at ps (actions.Change op) le k s =
       let queue : changes_of p bytes all op p.block ≡ ends (turns (enters (queued_on op bytes p.block) p) said.Queued) = ap (changes_of p bytes all op) in_block ∙ ap (λ b. ends (turns (enters (queued_on op bytes b) p) said.Queued)) (sym in_block) in
@@ -84,7 +84,8 @@ module _ (p : Places) (bytes : ℕ) (stmt : Stmt) (ops : List Op) (n : ℕ) (in_
       (ends_told shown bytes all at ps p 0 (said_once said.Queued (changes.Queues op bytes)) (record { said = said.Queued ∷ []; change = changes.Queues op bytes; failed = false }) le refl (record { change = (s, refl); stands = refl }))
   waits shown all at ps other le k s = absurd cc
 
-  -- what no look refused waits, or comes to nothing where it is refused at the end
+  -- a change that wasn't refused at its read position is queued; if the end of the history refuses it, the history
+  -- doesn't explain it
   pub change_waits : {T J : Type 0} (shown : Shown T J) (all : History) (at : ℕ) (ps : List ℕ) (o first : Option (StatementOutcome T J)) → at ≤ position all → all_allowed all ≡ true → AsksSoundly bytes stmt → first ≡ refused_at all stmt (next_look all at ps) → first ≡ None → o ≡ waits_at all at bytes stmt → ReachesTo shown bytes all at (named_here p bytes stmt) ps p (Ok o)
   change_waits {T} {J} shown all at ps o first le ok sound e none w =
       reaches_as shown bytes all at (named_here p bytes stmt) (change_in p bytes stmt) ps p (Ok o) change_is
@@ -152,7 +153,7 @@ read_only T J pos r stmt uppers.NoMemory k = checked_only T J r stmt (refusal_of
 pub asks_only : {T J : Type 0} (pos : ℕ) (r : Roster) (stmt : Stmt) (m like : Resolved T J) → kind_of stmt ≡ kinds.Asks → m ≡ meant_by pos r stmt → m ≡ like → AsksOnly like
 asks_only {T} {J} pos r stmt m like k e is = subst (λ (x : Resolved T J). AsksOnly x) (sym e ∙ is) (read_only T J pos r stmt (upper_read pos r stmt) k)
 
--- what a query is said to show
+-- the reply of a query
 shown_is : {T J : Type 0} (b : Block) (h : History) (pos : ℕ) (r : Roster) (stmt : Stmt) (m like : Resolved T J) → pos ≡ position h → r ≡ roster h → m ≡ meant_by pos r stmt → m ≡ like → shown_as b h like ≡ shown_as b h (meant_by (position h) (roster h) stmt)
 shown_is {T} {J} b h pos r stmt m like e f i is = ap (λ (x : Resolved T J). shown_as b h x) (sym is ∙ i ∙ ap (λ x. meant_by x r stmt) e ∙ ap (λ x. meant_by (position h) x stmt) f)
 

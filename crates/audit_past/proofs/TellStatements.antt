@@ -62,21 +62,21 @@ here_in p bytes stmt b = sees (λ h. prints b (kind_of stmt) (refusal_of (positi
 here_is : (p : Places) (bytes : ℕ) (stmt : Stmt) (b : Block) → p.block ≡ b → named_here p bytes stmt ≡ here_in p bytes stmt b
 here_is p bytes stmt b e = ap (here_in p bytes stmt) e
 
--- a result of one procedure is that of an equal one
+-- an outcome of one procedure is one of an equal procedure
 pub reaches_as : {T J : Type 0} (shown : Shown T J) (bytes : ℕ) (all : History) (at : ℕ) (procedure like : Procedure (Turn Places)) (ps : List ℕ) (p : Places) (result : Result (Option (StatementOutcome T J)) NoMemory) → procedure ≡ like → ReachesTo shown bytes all at like ps p result → ReachesTo shown bytes all at procedure ps p result
 reaches_as shown bytes all at procedure like ps p result e k = subst (λ d. ReachesTo shown bytes all at d ps p result) (sym e) k
 
--- what isn't printed at any history
+-- a read that isn't printed at any history
 unprinted_reaches : {T J : Type 0} (shown : Shown T J) (bytes : ℕ) (all : History) (at : ℕ) (test : History → Bool) (f : History → Procedure (Turn Places)) (ps : List ℕ) (p : Places) (result : Result (Option (StatementOutcome T J)) NoMemory) → ((h : History) → test h ≡ false) → ReachesTo shown bytes all at (f all) ps p result → ReachesTo shown bytes all at (sees test f) ps p result
 unprinted_reaches shown bytes all at test f ps p result never k =
     reaches_then shown bytes all at at (sees test f) (f all) ps ps p result (look_unprinted all at test f ps (λ look e. never (prefix all look)) (never all)) (omega arith) k
 
--- an end that is told as it is
+-- an end, replayed unchanged
 pub ends_told : {T J : Type 0} (shown : Shown T J) (bytes : ℕ) (all : History) (at : ℕ) (ps : List ℕ) (p : Places) (read : ℕ) (next : Next T J) (t : Completion T J) → at ≤ position all → next ≡ nexts.End t → EndFits shown bytes t (state_of all) → ReachesTo shown bytes all at (ends (turn_of p read t)) ps p (Ok (ended_of next at))
 ends_told {T} {J} shown bytes all at ps p read next t le e k =
     subst (λ (n : Next T J). ReachesTo shown bytes all at (ends (turn_of p read t)) ps p (Ok (ended_of n at))) (sym e) (end_reached shown bytes all at ps p read t le k)
 
--- a read block is one
+-- a read block is a block
 reads_none : (begun : ℕ) → reading begun ≡ none → ⊥
 reads_none begun e = absurd cc
 
@@ -124,14 +124,14 @@ module _ {T J : Type 0} (shown : Shown T J) (bytes : ℕ) (all : History) (at : 
   pub finish_held : (c at_snap : ℕ) (result : Result (Option (StatementOutcome T J)) NoMemory) → refresh_meant p number ≡ Some c → held_for c p.held ≡ Some at_snap → ReachesTo shown bytes all at (looks (λ h. finishes_held p h c (Some at_snap))) ps p result → ReachesTo shown bytes all at (looks (λ h. finishes p h (refresh_meant p number))) ps p result
   finish_held c at_snap result e f k = reaches_as shown bytes all at (looks (λ h. finishes p h (refresh_meant p number))) (looks (λ h. finishes_held p h c (Some at_snap))) ps p result (ap (λ m. looks (λ h. finishes p h m)) e ∙ ap (λ o. looks (λ h. finishes_held p h c o)) f) k
 
--- ---- names that are looked at outside a block
+-- ---- names that are resolved outside a block
 
--- an end is told alike whatever looks are left
+-- an end has one replay, whatever read positions are left
 ends_again : {A : Type 0} (all : History) (at : ℕ) (y : A) (ps qs : List ℕ) → TellsBy all at (ends y) ps at (ends y) qs
 ends_again all at y ps qs = record { given = λ s. s; tells = λ s r t. t }
 
 module _ {T J : Type 0} (shown : Shown T J) (bytes : ℕ) (all : History) (look at : ℕ) (ps : List ℕ) (p : Places) (stmt : Stmt) (told : next_look all at ps ≡ Some look) (outside : p.block ≡ none) (names : looks_at_names (kind_of stmt) ≡ true) where
-  -- what was asked for is done where it looks again, which is where its names were looked at
+  -- a statement acts where its names were resolved, since it reads there again
   acts_again : (a : Action) → looks_at_names (kind_of_action a) ≡ true → TellsBy all look (acts p bytes (prefix all look) a) (later_looks ps) look (meant_left {T = T} {J = J} p bytes none (prefix all look) (asked_by (roster (prefix all look)) a)) ps
   acts_again (actions.Table def) k = look_again all at look (λ h. true) (λ h. acts p bytes h (actions.Table def)) ps told refl
   acts_again (actions.Hyper t hyper) k = look_again all at look (λ h. true) (λ h. acts p bytes h (actions.Hyper t hyper)) ps told refl
@@ -174,7 +174,7 @@ module _ {T J : Type 0} (shown : Shown T J) (bytes : ℕ) (all : History) (look 
       (reaches_then shown bytes all at look (here_in p bytes stmt none) (left_of shown p bytes stmt (prefix all look)) ps ps p result second (look_lies all at look ps told).low
       (subst (λ d. ReachesTo shown bytes all look d ps p result) l.rest (k l.read)))
 
--- names that have no position
+-- names that have no read position
 pub names_nowhere : (all : History) (at : ℕ) (ps : List ℕ) (p : Places) (bytes : ℕ) (stmt : Stmt) → next_look all at ps ≡ None → p.block ≡ none → looks_at_names (kind_of stmt) ≡ true → TellsNothing all at (named_here p bytes stmt) ps
 names_nowhere all at ps p bytes stmt e outside names =
     subst (λ d. TellsNothing all at d ps) (sym (here_is p bytes stmt none outside))
@@ -186,7 +186,7 @@ names_nowhere all at ps p bytes stmt e outside names =
     printed kinds.Asks e q = refl
     printed other e q = absurd (true≢false (sym e))
 
--- what comes next goes with the history
+-- the next step fits the history
 pub names_stand : {T J : Type 0} (shown : Shown T J) (bytes : ℕ) (all : History) (look : ℕ) (b : Block) (next : Next T J) → b ≡ none → LeftIn b next → NextFits shown bytes next (state_of (prefix all look)) → NextStands shown bytes all look next
 names_stand shown bytes all look b (nexts.Deed d) e l k = asks_there shown d (prefix all look) k
 names_stand {T} {J} shown bytes all look b (nexts.End t) e l k =
@@ -273,12 +273,12 @@ module _ {T J : Type 0} (shown : Shown T J) (bytes : ℕ) (all : History) (at : 
       rest_is (nexts.Deed d) in_block i = absurd in_block
       rest_is (nexts.End t) in_block i = sym i
 
--- what comes next of it goes with the history
+-- the next step of a query fits the history
 pub query_stands : {T J : Type 0} (shown : Shown T J) (bytes : ℕ) (all : History) (at begun : ℕ) (b : Block) (next : Next T J) → b ≡ reading begun → LeftIn b next → NextFits shown bytes next (state_of all) → NextStands shown bytes all at next
 query_stands {T} {J} shown bytes all at begun b (nexts.Deed d) e l k = absurd (subst (λ x. LeftIn {T = T} {J = J} x (nexts.Deed d)) e l)
 query_stands {T} {J} shown bytes all at begun b (nexts.End t) e l k = k
 
--- ---- what comes first
+-- ---- the first step
 
 begins_none : (b : Block) → block_refusal b kinds.Begins ≡ None → b ≡ none
 begins_none none pass = refl
@@ -304,7 +304,7 @@ module _ {T J : Type 0} (shown : Shown T J) (bytes : ℕ) (all : History) (at : 
   rollback_told (writing ops n) next result i pass e k = given_up_told shown bytes all at ps p stmts.Rollback result (writing ops n) next i (λ h. refl) refl e k
   rollback_told (reading begun) next result i pass e k = given_up_told shown bytes all at ps p stmts.Rollback result (reading begun) next i (λ h. refl) refl e k
 
-  -- what comes first of a statement that looks at no names
+  -- the first step of a statement that resolves no names
   pub opening_told : (stmt : Stmt) (next : Next T J) (result : Result (Option (StatementOutcome T J)) NoMemory) → opening_of p stmt ≡ openings.Next next → block_refusal p.block (kind_of stmt) ≡ None → ((n : ℕ) → NextStands shown n all at next → ReachesTo shown n all at (rest_next p 0 (prefix all at) next) ps p result) → ReachesTo shown bytes all at (named_here p bytes stmt) ps p result
   opening_told (stmts.Snap number) next result e pass k =
       let is : next ≡ nexts.Deed (hold_of (refresh_meant p number)) = sym (same_next _ next e) in

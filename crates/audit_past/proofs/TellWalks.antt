@@ -1,4 +1,4 @@
--- Telling over a whole history: looks, calls, and one part after the other.
+-- Replays over a whole history: reads, calls, and parts in order.
 use Rattle.std.proofs.Common.{◌≡◌, ℕ, suc, ◌≤◌, ◌<◌, ◌==◌, Bool, true, false, cond, nat_lt, List, [], ◌∷◌, ◌++◌, Option, Some, None, inl, inr, sym, refl, ap, ◌∙◌, subst, arith}
 use Rattle.std.specs.Prelude.{◌&&◌, nat_le, is_some, Result, Ok, Err}
 use Rattle.std.proofs.lemmas.Bool.{true≢false, leb-true, le-leb, and_from, and_parts}
@@ -66,7 +66,7 @@ prefix_next (h ▸ x) at e is =
           ∙ ap (λ b. cond b (h ▸ x) (prefix h at) ▸ e) (sym not_yet)
     ] refl is
 
--- ---- one part after the other
+-- ---- parts in order
 
 pub tells_same : {A : Type 0} (all : History) (at : ℕ) (procedure : Procedure A) (ps : List ℕ) → TellsBy all at procedure ps at procedure ps
 tells_same all at procedure ps = record { given = λ s. s; tells = λ s r t. t }
@@ -87,7 +87,7 @@ reached_then shown bytes all a b first second ps qs p r v le i = record {
   high = i.high;
 }
 
--- a line that was said before
+-- a line that was replied earlier
 pub led_nothing : (line : Option Said) (all : History) (at : ℕ) (procedure : Procedure (Turn Places)) (ps : List ℕ) → TellsNothing all at procedure ps → TellsNothing all at (with_line line procedure) ps
 led_nothing None all at procedure ps n = n
 led_nothing (Some line) all at procedure ps n = λ s. tells_as (after_line line) all at s procedure ps None (n s)
@@ -113,7 +113,7 @@ led_reached shown bytes line all at procedure ps p r q j same i = record {
 pub end_reached : {T J : Type 0} (shown : Shown T J) (bytes : ℕ) (all : History) (at : ℕ) (ps : List ℕ) (p : Places) (read : ℕ) (t : Completion T J) → at ≤ position all → EndFits shown bytes t (state_of all) → IsReached shown bytes all at (ends (turn_of p read t)) ps p (record { completion = t; last = at })
 end_reached shown bytes all at ps p read t within k = record { total = read; given = λ s. s; tells = λ s. refl; stands = k; low = omega arith; high = within }
 
--- ---- looks
+-- ---- reads
 
 look_by : (all : History) (at p look : ℕ) (ps : List ℕ) → next_look all at (p ∷ ps) ≡ Some look → ((nat_le at p && nat_le p (position all)) ≡ true) × (p ≡ look)
 look_by all at p look ps e =
@@ -129,7 +129,7 @@ no_look all at p ps e =
       | false ↦ λ i. refl
     ] e
 
--- it lies from the last one on and within the history
+-- a read position isn't before the last one and lies within the history
 pub record LiesWithin (all : History) (at look : ℕ) : Type 0 where
   pub low : at ≤ look
   pub high : look ≤ position all
@@ -141,7 +141,7 @@ look_lies all at look (p ∷ ps) e =
     let both = and_parts (nat_le at p) (nat_le p (position all)) k.0 in
     subst (LiesWithin all at) k.1 (record { low = leb-true at p both.0; high = leb-true p (position all) both.1 })
 
--- a look whose position is printed
+-- a read whose position is printed
 pub look_tells : {A : Type 0} (all : History) (at look : ℕ) (shown : History → Bool) (f : History → Procedure A) (ps : List ℕ) → next_look all at ps ≡ Some look → shown (prefix all look) ≡ true → TellsBy all at (sees shown f) ps look (f (prefix all look)) (later_looks ps)
 look_tells all at look shown f [] e s = absurd (true≢false (sym (ap is_some e)))
 look_tells {A} all at look shown f (p ∷ ps) e s =
@@ -149,14 +149,14 @@ look_tells {A} all at look shown f (p ∷ ps) e s =
     subst (λ q. TellsBy {A = A} all at (sees shown f) (p ∷ ps) q (f (prefix all q)) ps) k.1
     (record { given = λ so_far. so_far; tells = λ so_far r t. inl (and_from _ _ k.0 (subst (λ q. shown (prefix all q) ≡ true) (sym k.1) s), t) })
 
--- one that has no position
+-- a read that has no position
 pub look_nothing : {A : Type 0} (all : History) (at : ℕ) (shown : History → Bool) (f : History → Procedure A) (ps : List ℕ) → next_look all at ps ≡ None → shown all ≡ true → TellsNothing all at (sees shown f) ps
 look_nothing all at shown f [] e s = λ so_far. inr (s, refl)
 look_nothing all at shown f (p ∷ ps) e s =
     let none : may_look all at shown p ≡ false = ap (λ t. t && shown (prefix all p)) (no_look all at p ps e) in
     λ so_far. inr (inr (none, s, refl))
 
--- one that isn't printed where it may be, nor at the end
+-- a read that isn't printed where it might be, nor at the end
 pub look_unprinted : {A : Type 0} (all : History) (at : ℕ) (shown : History → Bool) (f : History → Procedure A) (ps : List ℕ) → ((look : ℕ) → next_look all at ps ≡ Some look → shown (prefix all look) ≡ false) → shown all ≡ false → TellsBy all at (sees shown f) ps at (f all) ps
 look_unprinted all at shown f [] none e = record { given = λ s. s; tells = λ s r t. inl (e, t) }
 look_unprinted all at shown f (p ∷ ps) none e =
@@ -167,7 +167,7 @@ look_unprinted all at shown f (p ∷ ps) none e =
     ] none in
     record { given = λ s. s; tells = λ s r t. inr (inl (missed, e, t)) }
 
--- and one that comes to nothing at the end
+-- a read that the end of the history doesn't explain
 pub look_refused : {A : Type 0} (all : History) (at : ℕ) (shown : History → Bool) (f : History → Procedure A) (ps : List ℕ) → ((look : ℕ) → next_look all at ps ≡ Some look → shown (prefix all look) ≡ false) → shown all ≡ true → TellsNothing all at (sees shown f) ps
 look_refused all at shown f [] none e = λ s. inr (e, refl)
 look_refused all at shown f (p ∷ ps) none e =
@@ -178,7 +178,7 @@ look_refused all at shown f (p ∷ ps) none e =
     ] none in
     λ s. inr (inr (missed, e, refl))
 
--- what a procedure tells that looks again where it looked
+-- the replay of a procedure that reads again at the same position
 pub look_again : {A : Type 0} (all : History) (at look : ℕ) (shown : History → Bool) (f : History → Procedure A) (ps : List ℕ) → next_look all at ps ≡ Some look → shown (prefix all look) ≡ true → TellsBy all look (f (prefix all look)) (later_looks ps) look (sees shown f) ps
 look_again all at look shown f [] e s = absurd (true≢false (sym (ap is_some e)))
 look_again {A} all at look shown f (p ∷ ps) e s =
@@ -220,7 +220,7 @@ call_tells all at h (makes e a) (came.Returned b) m k ps w is = absurd w
 call_tells all at h (makes e a) (came.Refused r) m k ps w is = absurd w
 call_tells all at h (makes e a) came.Otherwise m k ps w is = absurd (true≢false (sym (ap is_some is)))
 
--- and one whose event isn't that of the history
+-- a call whose event isn't that of the history
 pub call_nothing : {A B : Type 0} (all : History) (at : ℕ) (h : History) (act : Act A) (c : PastOutcome A) (k : Result A Refusal → Procedure B) (ps : List ℕ) → CameTo act (event_at all (suc at)) c → met_of at c ≡ None → TellsNothing all at (followed_by (tries_at h act) k) ps
 call_nothing all at h (refuses r) c k ps w is = absurd (true≢false (ap is_some (sym (ap (met_of at) w) ∙ is)))
 call_nothing all at h (returns a) c k ps w is = absurd (true≢false (ap is_some (sym (ap (met_of at) w) ∙ is)))
@@ -235,7 +235,7 @@ met_lies {A} all at (came.Returned b) m le w is = subst (λ (x : CallAt A). Lies
 met_lies {A} all at (came.Refused r) m le w is = subst (λ (x : CallAt A). LiesWithin all at x.at) (same_Some _ m is) (record { low = omega arith; high = le })
 met_lies all at came.Otherwise m le w is = absurd (true≢false (sym (ap is_some is)))
 
--- ---- what goes with a history goes with a longer one
+-- ---- what fits a history fits a longer one
 
 pub asks_there : {T J : Type 0} (shown : Shown T J) (d : Deed T J) (h : History) → DeedFits shown d (state_of h) → AsksThere d h
 asks_there shown (deeds.Cut asked then) h k = k
@@ -257,9 +257,9 @@ pub next_stands : {T J : Type 0} (shown : Shown T J) (fits_on : (job : J) (g h :
 next_stands shown fits_on all at (nexts.Deed d) k bytes = asks_there shown d (prefix all at) (k 0)
 next_stands shown fits_on all at (nexts.End t) k bytes = record { change = change_on shown fits_on (prefix all at) all t.change (begins_prefix all at) (λ n. (k n).change) bytes; stands = (k 0).stands }
 
--- ---- deeds
+-- ---- store calls
 
--- a call that may make an event
+-- a call that may create an event
 pub met_by : {A T J : Type 0} (shown : Shown T J) (all : History) (at before : ℕ) (act : Act A) (c : PastOutcome A) (m : CallAt A) (k : Places → ℕ → Result A Refusal → Procedure (Turn Places)) (outcome : CallOutcome T) → at ≤ position all → CameTo act (event_at all (suc at)) c → met_of at c ≡ Some m → ((p : Places) (read : ℕ) → k p read m.came ≡ left_after p read (prefix all m.at) outcome) → OutcomeFits shown (prefix all m.at) outcome → meets_left outcome ≡ before → IsMet shown all at before (λ p read. followed_by (tries_at (prefix all at) act) (k p read)) (record { outcome = outcome; at = m.at })
 met_by shown all at before act c m k outcome le w is same fits left =
     let lies = met_lies all at c m le (came_within act all at c w) is in
@@ -271,7 +271,7 @@ met_by shown all at before act c m k outcome le w is same fits left =
       high = lies.high;
     }
 
--- one that makes none
+-- a call that creates none
 pub met_here : {T J : Type 0} (shown : Shown T J) (all : History) (at before : ℕ) (procedure : Places → ℕ → Procedure (Turn Places)) (outcome : CallOutcome T) → at ≤ position all → ((p : Places) (read : ℕ) → procedure p read ≡ left_after p read (prefix all at) outcome) → OutcomeFits shown (prefix all at) outcome → meets_left outcome ≡ before → IsMet shown all at before procedure (record { outcome = outcome; at = at })
 met_here shown all at before procedure outcome le same fits left = record {
   tells = λ p read ps. subst (λ d. TellsBy all at (procedure p read) ps at d ps) (same p read) (tells_same all at (procedure p read) ps);

@@ -1,11 +1,11 @@
--- What a call of a store comes to at a position of a whole history.
+-- The outcome of a store call at a position of a whole history.
 use Rattle.std.specs.Prelude.{◌≡◌, Option, Some}
 use Rattle.ts_model.specs.declared.events.Event.{Event}
 use Rattle.ts_model.specs.Calls.{Act, refuses, returns, makes}
 use Rattle.audit_past.specs.declared.history_view.PastOutcome.{PastOutcome}
 use Rattle.audit_past.specs.declared.history_view.PastOutcome.TheVariants.{Made, Returned, Refused, Otherwise}
 
--- a call that does this comes to this, where the history has this event next, if any
+-- a call that does this has this outcome, if the history has this event next, or none
 abbrev pub CameTo : {A : Type 0} → Act A → Option Event → PastOutcome A → Type 0
 CameTo (refuses r) next c = c ≡ Refused r
 CameTo (returns a) next c = c ≡ Returned a

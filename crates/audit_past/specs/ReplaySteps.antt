@@ -1,4 +1,4 @@
--- Telling a statement over a whole history: what each part of it comes to there.
+-- The parts of the replay of a statement over a whole history.
 use Rattle.std.specs.Prelude.{◌≡◌, ℕ, suc, ◌≤◌, ◌<◌, Bool, true, false, ◌&&◌, nat_le, cond, List, [], ◌∷◌, ◌++◌, IsTrue, Option, Some, None, Result, Ok, Err, ⊤}
 use Rattle.ts_schema.specs.declared.memory.NoMemory.{NoMemory}
 use Rattle.ts_model.specs.declared.events.Event.{Event}
@@ -44,47 +44,48 @@ use Rattle.ts_sessions.specs.declared.name_checks.Resolved.{Resolved}
 use Rattle.ts_sessions.specs.declared.name_checks.Resolved.TheVariants as meant
 use Rattle.ts_sessions.specs.ResolvedNames.{answered_line}
 
--- ---- looks
+-- ---- read positions
 
--- the position of the next look that is told, where it lies from the last one on and within the history
+-- the next printed read position, if it isn't before the last one and lies within the history
 abbrev pub next_look : History → ℕ → List ℕ → Option ℕ
 next_look all at [] = None
 next_look all at (p ∷ ps) = cond (nat_le at p && nat_le p (position all)) (Some p) None
 
--- the looks after it
+-- the read positions after it
 abbrev pub later_looks : List ℕ → List ℕ
 later_looks [] = []
 later_looks (p ∷ ps) = ps
 
--- what is left of a procedure after its first look, where this history was found
+-- what is left of a procedure after its first read, of this history
 abbrev pub after_look : {A : Type 0} → History → Procedure A → Procedure A
 after_look h (sees shown f) = f h
 after_look h (adds e next stopped) = adds e next stopped
 after_look h (ends a) = ends a
 
--- ---- deeds
+-- ---- store calls
 
--- a deed meets the past at its look, but for an aggregate that is filled: its number is looked up where it was made
+-- a store call is made at its read position; one that fills an aggregate is made where the aggregate was created, to
+-- look up its number
 abbrev pub meets_at : {T J : Type 0} → History → ℕ → List ℕ → Deed T J → Option ℕ
 meets_at all at ps (deeds.Fill new made) = Some at
 meets_at all at ps other = next_look all at ps
 
--- whether it is one
+-- whether a store call fills an aggregate
 abbrev pub fills_view : {T J : Type 0} → Deed T J → Bool
 fills_view (deeds.Fill new made) = true
 fills_view other = false
 
--- the looks that are left then
+-- the read positions that are left after a store call
 abbrev pub looks_then : {T J : Type 0} → List ℕ → Deed T J → List ℕ
 looks_then ps (deeds.Fill new made) = ps
 looks_then ps other = later_looks ps
 
--- what is left of a statement whose deed meets the past at this history
+-- what is left of a statement whose store call is made at this history
 abbrev pub rest_at : {T J : Type 0} → Places → ℕ → History → Deed T J → Procedure (Turn Places)
 rest_at {T} {J} p read h (deeds.Fill new made) = rest {T = T} {J = J} p read h (deeds.Fill new made)
 rest_at {T} {J} p read h other = after_look h (rest {T = T} {J = J} p read h other)
 
--- the aggregate that is to be refreshed is there
+-- the aggregate to refresh or fill exists
 abbrev pub AsksThere : {T J : Type 0} → Deed T J → History → Type 0
 AsksThere (deeds.Cut asked then) h = IsAsked h asked
 AsksThere (deeds.Fill new made) h = IsThere h new.name
@@ -92,25 +93,25 @@ AsksThere other h = ⊤
 
 -- ---- calls
 
--- what a call that does this at a history leads to, by what came of it
+-- what a call that does this at a history leads to, by its outcome
 abbrev pub does_at : {A B : Type 0} → History → (History → Act A) → (Result A Refusal → Procedure B) → Procedure B
 does_at h act k = followed_by (tries_at h (act h)) k
 
--- an event that is made lies within the history
+-- an event that a call creates lies within the history
 abbrev pub CameWithin : {A : Type 0} → ℕ → ℕ → PastOutcome A → Type 0
 CameWithin at end (Made a) = suc at ≤ end
 CameWithin at end other = ⊤
 
--- what came of a call at a position, and the position after it
+-- the outcome of a call at a position, and the position after it
 abbrev pub met_of : {A : Type 0} → ℕ → PastOutcome A → Option (CallAt A)
 met_of at (Made a) = Some (record { came = Ok a; at = suc at })
 met_of at (Returned a) = Some (record { came = Ok a; at = at })
 met_of at (Refused r) = Some (record { came = Err r; at = at })
 met_of at Otherwise = None
 
--- ---- what is told
+-- ---- outcomes
 
--- a state of which only its history is known
+-- a state of which only the history is known
 abbrev pub state_of : History → State
 state_of h = record {
   history = h;
@@ -120,24 +121,25 @@ state_of h = record {
   origin = record { faults = 0; opening = h; moment = 0 };
 }
 
--- what comes next goes with a history that was told up to a position: the aggregate that is asked for is there, and
--- what a statement of a text of so many bytes brings to its session goes with the whole history
+-- the next step fits a history that was replayed up to a position: the requested aggregate exists, and what a
+-- statement of a text of so many bytes brings to its session fits the whole history
 abbrev pub NextStands : {T J : Type 0} → Shown T J → ℕ → History → ℕ → Next T J → Type 0
 NextStands shown bytes all at (nexts.Deed d) = AsksThere d (prefix all at)
 NextStands shown bytes all at (nexts.End t) = EndFits shown bytes t (state_of all)
 
--- what a procedure comes to, with these looks from a position on, is what another comes to from where the first has led
+-- a replay of a procedure, by these read positions from a position on, yields what a replay of the rest yields from
+-- where the first steps have led
 pub record TellsBy {A : Type 0} (all : History) (at : ℕ) (procedure : Procedure A) (ps : List ℕ) (to : ℕ)
     (left : Procedure A) (qs : List ℕ) : Type 0 where
   pub given : List (ℕ × Event) → List (ℕ × Event)
   pub tells : (so_far : List (ℕ × Event)) (r : Option (Told A))
       → Tells all to (given so_far) left qs r → Tells all at so_far procedure ps r
 
--- a procedure comes to nothing
+-- the history doesn't explain a procedure
 abbrev pub TellsNothing : {A : Type 0} → History → ℕ → Procedure A → List ℕ → Type 0
 TellsNothing all at procedure ps = (so_far : List (ℕ × Event)) → Tells all at so_far procedure ps None
 
--- a call at a position of the past came to this, which leaves what was left of a procedure
+-- a call at a position of the history had this outcome, which leaves the rest of a procedure
 pub record IsMet {T J : Type 0} (shown : Shown T J) (all : History) (at before : ℕ)
     (procedure : Places → ℕ → Procedure (Turn Places)) (m : OutcomeAt T) : Type 0 where
   pub tells : (p : Places) (read : ℕ) (ps : List ℕ) → TellsBy all at (procedure p read) ps m.at
@@ -147,13 +149,13 @@ pub record IsMet {T J : Type 0} (shown : Shown T J) (all : History) (at before :
   pub low : at ≤ m.at
   pub high : m.at ≤ position all
 
--- so, or it came to nothing
+-- so, or the history doesn't explain it
 abbrev pub MeetsAt :
     {T J : Type 0} → Shown T J → History → ℕ → ℕ → (Places → ℕ → Procedure (Turn Places)) → Option (OutcomeAt T) → Type 0
 MeetsAt shown all at before procedure (Some m) = IsMet shown all at before procedure m
 MeetsAt shown all at before procedure None = (p : Places) (read : ℕ) (ps : List ℕ) → TellsNothing all at (procedure p read) ps
 
--- a deed that met the past at a position led to this, which meets the past less often than before
+-- a store call at a position led to this, and fewer store calls are left than before
 pub record IsWent {T J : Type 0} (shown : Shown T J) (all : History) (at before : ℕ)
     (procedure : Places → ℕ → Procedure (Turn Places)) (w : StepOutcome T J) : Type 0 where
   pub read_then : ℕ → ℕ
@@ -164,7 +166,7 @@ pub record IsWent {T J : Type 0} (shown : Shown T J) (all : History) (at before 
   pub high : w.at ≤ position all
   pub shorter : left_next w.next < before
 
--- so, or it came to nothing
+-- so, or the history doesn't explain it
 abbrev pub GoesTo :
     {T J : Type 0} → Shown T J → History → ℕ → ℕ → (Places → ℕ → Procedure (Turn Places))
     → Result (Option (StepOutcome T J)) NoMemory → Type 0
@@ -173,7 +175,7 @@ GoesTo shown all at before procedure (Ok None) =
     (p : Places) (read : ℕ) (ps : List ℕ) → TellsNothing all at (procedure p read) ps
 GoesTo shown all at before procedure (Err e) = ⊤
 
--- a statement of a session with these places, of a text of so many bytes, came to this
+-- a statement of a session with these places, of a text of so many bytes, had this outcome
 pub record IsReached {T J : Type 0} (shown : Shown T J) (bytes : ℕ) (all : History) (at : ℕ)
     (procedure : Procedure (Turn Places)) (ps : List ℕ) (p : Places) (r : StatementOutcome T J) : Type 0 where
   pub total : ℕ
@@ -184,7 +186,7 @@ pub record IsReached {T J : Type 0} (shown : Shown T J) (bytes : ℕ) (all : His
   pub low : at ≤ r.last
   pub high : r.last ≤ position all
 
--- so, or it came to nothing
+-- so, or the history doesn't explain it
 abbrev pub ReachesTo :
     {T J : Type 0} → Shown T J → ℕ → History → ℕ → Procedure (Turn Places) → List ℕ → Places
     → Result (Option (StatementOutcome T J)) NoMemory → Type 0
@@ -192,7 +194,7 @@ ReachesTo shown bytes all at procedure ps p (Ok (Some r)) = IsReached shown byte
 ReachesTo shown bytes all at procedure ps p (Ok None) = TellsNothing all at procedure ps
 ReachesTo shown bytes all at procedure ps p (Err e) = ⊤
 
--- what a statement came to, led by a line that was said before
+-- the outcome of a statement, with a line that was replied earlier before it
 abbrev pub LedTo :
     {T J : Type 0} → Option Said → Option (StatementOutcome T J) → Result (Option (StatementOutcome T J)) NoMemory → Type 0
 LedTo said None (Ok o) = o ≡ None
@@ -202,38 +204,38 @@ LedTo said o (Err e) = ⊤
 
 -- ---- statements and lines
 
--- the end of a statement, where this is its end
+-- the outcome of a statement that ends here, or None
 abbrev pub ended_of : {T J : Type 0} → Next T J → ℕ → Option (StatementOutcome T J)
 ended_of (nexts.Deed d) last = None
 ended_of (nexts.End t) last = Some (record { completion = t; last = last })
 
--- a statement that is refused by names looked at there, or isn't
+-- the outcome of a statement that is refused by its names at a position, or None
 abbrev pub refused_to : {T J : Type 0} → Option Refusal → ℕ → Option (StatementOutcome T J)
 refused_to None look = None
 refused_to (Some q) look = ended_of (said_once (said.Fault q) changes.Nothing) look
 
--- by its names at a look, if it has one that is told
+-- the same at its read position, if it has a printed one
 abbrev pub refused_at : {T J : Type 0} → History → Stmt → Option ℕ → Option (StatementOutcome T J)
 refused_at all stmt None = None
 refused_at all stmt (Some look) =
     refused_to (refusal_of (position (prefix all look)) (roster (prefix all look)) stmt) look
 
--- an operation from a text of so many bytes waits. Only an operation does
+-- an operation from a text of so many bytes is queued. Only an operation is
 abbrev pub queued_operation : {T J : Type 0} → Action → ℕ → Next T J
 queued_operation (actions.Change op) bytes = said_once said.Queued (changes.Queues op bytes)
 queued_operation other bytes = said_once said.Queued changes.Nothing
 
--- unless this refuses it
+-- the outcome of a statement, unless this refuses it
 abbrev pub unless_refused : {T J : Type 0} → Option Refusal → Next T J → ℕ → Option (StatementOutcome T J)
 unless_refused None next last = ended_of next last
 unless_refused (Some q) next last = None
 
--- a change that waits by what stands at the end of a history
+-- a change that is queued by the names at the end of a history
 abbrev pub waits_at : {T J : Type 0} → History → ℕ → ℕ → Stmt → Option (StatementOutcome T J)
 waits_at all at bytes stmt =
     unless_refused (refusal_of (position all) (roster all) stmt) (queued_operation (action_of (roster all) stmt) bytes) at
 
--- what is said of what is asked for in a block
+-- the reply to a query in a block
 abbrev pub shown_as : {T J : Type 0} → Block → History → Resolved T J → Next T J
 shown_as b h (meant.Refused q) = said_once (said.Fault q) changes.Nothing
 shown_as b h (meant.Shows plan) = said_once (answered_line b h plan) changes.Nothing
@@ -243,12 +245,12 @@ shown_as b h other = said_once said.Queued changes.Nothing
 abbrev pub if_fits : Roster → Op → List Op
 if_fits r op = cond (op_fits r op) (op ∷ []) []
 
--- those of some operations that fit the tables of a roster
+-- the operations that fit the tables of a roster
 abbrev pub ops_that_fit : Roster → List Op → List Op
 ops_that_fit r [] = []
 ops_that_fit r (op ∷ ops) = if_fits r op ++ ops_that_fit r ops
 
--- a snapshot shows an allowed history, and a queue waits by a longer one
+-- a snapshot shows an allowed history, and a queue fits a longer one
 pub record IsSeenUnder {T : Type 0} (stands : T → History → Type 0) (shot : T) (queue : Queue) : Type 0 where
   pub history : History
   pub holds : stands shot history
@@ -258,7 +260,7 @@ pub record IsSeenUnder {T : Type 0} (stands : T → History → Type 0) (shot : 
   pub waits : IsQueue later queue.bytes queue.ops
   pub room : queue.bytes ≤ most_queued
 
--- a line of the session with a name, which has these places then, has this reply
+-- a line of the session with a name has this reply, and leaves these places
 pub record IsToldLine (all : History) (at : ℕ) (procedure : Procedure (Turn Places)) (ps : List ℕ) (name : List ℕ)
     (places : Places) (line : ReplayedLine) : Type 0 where
   pub said : List Said
@@ -270,14 +272,14 @@ pub record IsToldLine (all : History) (at : ℕ) (procedure : Procedure (Turn Pl
   pub low : at ≤ line.last
   pub high : line.last ≤ position all
 
--- so, or it comes to nothing
+-- so, or the history doesn't explain it
 abbrev pub LineTells :
     History → ℕ → Procedure (Turn Places) → List ℕ → List ℕ → Places → Result (Option ReplayedLine) NoMemory → Type 0
 LineTells all at procedure ps name places (Ok (Some line)) = IsToldLine all at procedure ps name places line
 LineTells all at procedure ps name places (Ok None) = Tells all at [] procedure ps None
 LineTells all at procedure ps name places (Err e) = ⊤
 
--- the reply to what a line came to, and the places then
+-- the reply to a line by its outcome, and the places after it
 abbrev pub RepliesTo :
     {T J : Type 0} → List ℕ → StatementOutcome T J → Places → Places → Result ReplayedLine NoMemory → Type 0
 RepliesTo name r old new (Ok line) =

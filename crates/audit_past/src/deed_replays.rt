@@ -1,4 +1,4 @@
-//! Deeds over a past: what each comes to at the position at which it meets the past.
+//! Replays store calls over a history: what each does at its position there.
 ghost use Rattle.std.specs.Prelude.{◌≡◌, ℕ, suc, ◌<◌, ◌≤◌, ◌^◌, true, IsTrue, IfOk};
 ghost use Rattle.std.specs.Thread.{IsSync};
 ghost use Rattle.ts_model.specs.History.{History, event_at, position as position_of, prefix};
@@ -22,7 +22,7 @@ use ts_sessions::deeds::{Deed, FinishSource, Next, prepend_line};
 use ts_sessions::events::{all_of, new_view, view_number};
 use ts_sessions::follows::follow;
 
-/// What came of a call at a position.
+/// The outcome of a call at a position.
 #[derive(Drop)]
 pub(crate) struct CallAt<A> {
     /// What it did, or why it was refused.
@@ -31,22 +31,22 @@ pub(crate) struct CallAt<A> {
     pub at: u64,
 }
 
-/// What the call of a deed came to at a position.
+/// The outcome of a store call at a position.
 #[derive(Drop)]
 pub(crate) struct OutcomeAt<T> {
-    /// What it came to.
+    /// The outcome.
     pub outcome: CallOutcome<T>,
     /// The position after it.
     pub at: u64,
 }
 
-/// What came of a deed.
+/// The outcome of a store call within a statement.
 #[derive(Drop)]
 pub(crate) struct StepOutcome<T: Shown>
 where
     T::Job: Drop,
 {
-    /// A line that is said at once.
+    /// A line that is replied before the statement ends.
     pub said: Option<Said>,
     /// What comes next.
     pub next: Next<T>,
@@ -54,7 +54,7 @@ where
     pub at: u64,
 }
 
-/// What a statement came to.
+/// The outcome of a statement.
 #[derive(Drop)]
 pub(crate) struct StatementOutcome<T: Shown>
 where
@@ -66,7 +66,8 @@ where
     pub last: u64,
 }
 
-/// Goes on from what came of a deed, with the looks that are left.
+/// Continues a statement after a store call, with the remaining read positions. `None`: the history explains no
+/// such statement.
 pub(crate) fn go_on<R: Threads + Sync, P: Past, L>(
     rt: &R,
     alloc: Global,
@@ -113,7 +114,7 @@ where
     }
 }
 
-/// What a statement came to, led by a line that was said before.
+/// Prepends a line that was replied earlier to the outcome of a statement.
 fn led_by<T: Shown + Drop>(
     said: Option<Said>,
     reached: Option<StatementOutcome<T>>,
@@ -134,7 +135,8 @@ where
     }
 }
 
-/// The position of the next look that is told, where it lies from the last one on and within the history.
+/// The next printed read position. `None` if none is left, or if it lies before `at` or after the end of the
+/// history.
 pub(crate) fn next_look<P: Past>(past: &P, at: u64, looks: &[u64]) -> Option<u64>
     ensures { result ≡ look_told (P.all past.now) at looks.now }
 {
@@ -147,7 +149,7 @@ pub(crate) fn next_look<P: Past>(past: &P, at: u64, looks: &[u64]) -> Option<u64
     }
 }
 
-/// The looks after the next one.
+/// The read positions after the next one.
 pub(crate) fn after_next(looks: &[u64]) -> &[u64]
     ensures { result.now ≡ later_looks looks.now }
 {
@@ -157,7 +159,7 @@ pub(crate) fn after_next(looks: &[u64]) -> &[u64]
     }
 }
 
-/// Where a deed meets the past: at its look, but for an aggregate that is filled.
+/// The position at which a store call is made: its read position, or `at` if it fills an aggregate.
 fn place_of<P: Past>(past: &P, at: u64, looks: &[u64], deed: &Deed<P::Shot>) -> Option<u64>
 where
     <P::Shot as Shown>::Job: Drop,
@@ -169,7 +171,7 @@ where
     }
 }
 
-/// The looks that are left then.
+/// The read positions that are left after a store call.
 fn looks_after<'a, T: Shown + Drop>(looks: &'a [u64], deed: &Deed<T>) -> &'a [u64]
 where
     T::Job: Drop,
@@ -181,7 +183,7 @@ where
     }
 }
 
-/// Whether it fills an aggregate that was made.
+/// Whether a store call fills a new aggregate.
 fn fills<T: Shown + Drop>(deed: &Deed<T>) -> bool
 where
     T::Job: Drop,
@@ -190,7 +192,7 @@ where
     matches!(deed, Deed::Fill { .. })
 }
 
-/// What a deed comes to at the position at which it meets the past.
+/// Makes a store call at a position of the history, and follows its outcome.
 pub(crate) fn act<R: Threads + Sync, P: Past, L>(
     rt: &R,
     alloc: Global,
@@ -214,7 +216,7 @@ where
     follow_met(rt, alloc, met, steps)
 }
 
-/// What follows a call at a position, unless the history has another event there.
+/// Follows the outcome of a call. `None` if the history has another event there.
 pub(crate) fn follow_met<R: Threads + Sync, T: Shown + Drop, L>(
     rt: &R,
     alloc: Global,
@@ -241,7 +243,7 @@ where
     }
 }
 
-/// What the call of a deed comes to at a position of the past.
+/// The outcome of a store call at a position of the history.
 fn call<P: Past>(
     past: &P,
     at: u64,
@@ -336,7 +338,7 @@ where
     }
 }
 
-/// What the finish of a refresh comes to, by its number and the position of its snapshot.
+/// The outcome of the finish of a refresh, by the refresh's number and the position of its snapshot.
 pub(crate) fn finish<P: Past>(
     past: &P,
     at: u64,
@@ -362,7 +364,7 @@ where
     }
 }
 
-/// What came of a call at a position, and the position after it, unless the history has another event there.
+/// The outcome of a call and the position after it. `None` if the history has another event there.
 fn with_place<P: Past, A>(past: &P, at: u64, came: PastOutcome<A>) -> Option<CallAt<A>>
     requires { CameWithin at (position_of (P.all past.now)) came }
     ensures { result ≡ met_of at came }

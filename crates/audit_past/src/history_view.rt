@@ -1,26 +1,26 @@
-//! The past of a store: its whole history, with what calls of the store come to at positions of it.
+//! The access of an audit to a whole history, and the outcomes of store calls at positions of it.
 use ts_model::{Committed, CutDone, Op, Refusal, Shown, ViewDef};
 use ts_schema::{NoMemory, Seq};
 use ts_sessions::deeds::RelationChange;
 
-/// What a call of a store comes to at a position of its past.
+/// The outcome of a store call at a position of a history.
 #[derive(Drop, Debug, PartialEq, Eq)]
 pub enum PastOutcome<A> {
-    /// It makes the event that comes next in the history, and returns this.
+    /// It creates the next event of the history, and returns this.
     Made(A),
-    /// It makes no event, and returns this.
+    /// It creates no event, and returns this.
     Returned(A),
-    /// It is refused, and makes no event.
+    /// It is refused, and creates no event.
     Refused(Refusal),
-    /// It would make an event that isn't the one that comes next in the history.
+    /// It would create an event that isn't the next one of the history.
     Otherwise,
 }
 
-/// The past of a store.
+/// The access of an audit to a history.
 ///
-/// Contracts see its whole history, and the first position that it knows. Each call is told at a position
-/// from there on: what it does in the history up to that position, and whether an event that it makes is the
-/// history's own next one. Nothing changes. No event is asked to be sound: one that isn't is not the history's.
+/// Contracts see the whole history, and the first position that the view knows. A call is made at a position from
+/// there on. Its outcome says what it does over the history up to that position, and whether its event is the
+/// history's next one. No call changes anything. An event may be unsound: then it isn't one of the history.
 pub trait Past {
     ghost use Rattle.std.specs.Prelude.{◌≡◌, ℕ, suc, ◌≤◌, IsTrue, IsSome, IfOk};
     ghost use Rattle.std.specs.Option.{ForSome};
@@ -37,7 +37,7 @@ pub trait Past {
     // The whole history.
     ghost all: { Self → History };
 
-    // The first position that it knows.
+    // The first position that the view knows.
     ghost from: { Self → ℕ };
 
     /// The position at which the history ends.
@@ -50,25 +50,25 @@ pub trait Past {
         requires within { position ≤ position_of (all self.now) }
         ensures { IfOk result (λ shot. Self.Shot.stands shot (prefix (all self.now) position)) };
 
-    /// What making a table, or setting one thing of a relation, comes to.
+    /// Creates a table, or sets a property of a relation. Returns the event's number.
     fn make(&self, at: u64, making: RelationChange) -> PastOutcome<u64>
         requires known { from self.now ≤ at }
         requires within { at ≤ position_of (all self.now) }
         ensures { CameTo (making_of making (prefix (all self.now) at)) (event_at (all self.now) (suc at)) result };
 
-    /// What making an aggregate comes to.
+    /// Creates an aggregate. Returns the event's number.
     fn make_view(&self, at: u64, def: ViewDef) -> PastOutcome<u64>
         requires known { from self.now ≤ at }
         requires within { at ≤ position_of (all self.now) }
         ensures { CameTo (making_view def (prefix (all self.now) at)) (event_at (all self.now) (suc at)) result };
 
-    /// What a commit of operations comes to.
+    /// Commits operations.
     fn commit(&self, at: u64, ops: Seq<Op>) -> PastOutcome<Committed>
         requires known { from self.now ≤ at }
         requires within { at ≤ position_of (all self.now) }
         ensures { CameTo (act_of_commit ops (prefix (all self.now) at)) (event_at (all self.now) (suc at)) result };
 
-    /// What the cut of a refresh of a window comes to.
+    /// Cuts a refresh of an aggregate in a window. A bound that is `None` is open.
     fn cut(&self, at: u64, view: u32, lo: Option<i64>, hi: Option<i64>) -> PastOutcome<CutDone>
         requires known { from self.now ≤ at }
         requires within { at ≤ position_of (all self.now) }
@@ -77,7 +77,7 @@ pub trait Past {
         requires high { ForSome hi (λ t. IsTrue (is_time t)) }
         ensures { CameTo (act_of_cut view lo hi (prefix (all self.now) at)) (event_at (all self.now) (suc at)) result };
 
-    /// What the finish of a refresh with a snapshot at a position comes to.
+    /// Finishes the refresh `cut` with the snapshot at the position `snap`. Returns the event's number.
     fn finish(&self, at: u64, cut: u64, snap: u64) -> PastOutcome<u64>
         requires known { from self.now ≤ at }
         requires within { at ≤ position_of (all self.now) }

@@ -1,14 +1,14 @@
-//! Lines of sessions told over a past: what a line came to over a whole history, by the positions of its looks.
+//! Replays lines of sessions over a whole history: the outcome of a line, by its read positions.
 //!
-//! A store that goes on is met by the driver of `ts_sessions`. This one meets a history that is given, and goes by the
-//! same deeds and the same functions of what follows them.
+//! The driver of `ts_sessions` runs lines on a store. This one runs them on a given history, by the same store
+//! calls and the same functions of what follows them.
 //!
-//! - `history_view`: the past of a store, and what calls of it come to there.
-//! - `deed_replays`: deeds over a past.
-//! - `statements`: statements over a past, by the block of their session.
-//! - `write_blocks`: statements of a write block over a past.
-//! - `lines`: telling a line of a session over a past.
-//! - `laws`: laws of what is told.
+//! - `history_view`: the access to a history, and the outcomes of store calls there.
+//! - `deed_replays`: replays store calls.
+//! - `statements`: replays statements, by the block of their session.
+//! - `write_blocks`: replays statements of a write block.
+//! - `lines`: replays a line of a session.
+//! - `laws`: laws of replays.
 #![tactic(auto)]
 
 mod deed_replays;

@@ -1,4 +1,4 @@
-//! Telling a line of a session over a past: what it says there, and how it changes its session.
+//! Replays a line of a session over a history: its reply, and how it changes its session.
 ghost use Rattle.std.specs.Prelude.{◌≡◌, ◌+◌, ◌<◌, ◌≤◌, ◌^◌, length, None, IsTrue, OnErr};
 ghost use Rattle.std.specs.Thread.{IsSync};
 ghost use Rattle.ts_model.specs.Allowed.{all_allowed};
@@ -19,22 +19,23 @@ use ts_model::{Shown, codes};
 use ts_schema::{NoMemory, Steps};
 use ts_sessions::{Reply, Session, kind_of, text_refusal, write_reply};
 
-/// What a line came to over a past.
+/// The outcome of a replayed line.
 #[derive(Drop, Debug, PartialEq, Eq)]
 pub struct ReplayedLine {
     /// Its reply.
     pub reply: Reply,
-    /// The position of its last look or event.
+    /// The position of its last printed read or event.
     pub last: u64,
 }
 
-/// Tells what a line came to over a past, and changes the session as the line says. The session had looked at the
-/// position `at` last. The looks of the line take their positions from `looks`, in order; one that takes none was at
-/// the end of the past. `None`: the line came to nothing, since its event isn't that of the history, or since a look
-/// has no position. `text` is the line before its comment, and its statement stands after the first `skip` bytes.
+/// Replays a line over a history, and changes the session as the line says. `at` is the session's last read
+/// position or event. `looks` holds the read positions that the reply prints, in order; a read that prints none is
+/// at the end of the history. `text` is the line before its comment; its statement begins after the first `skip`
+/// bytes. `None`: the history doesn't explain the line. Its event isn't the history's next one, or a read has no
+/// position.
 ///
-/// After `None` and `NoMemory` no clause says which places the session has; what it holds goes with the past still,
-/// and its name and its number are as they were.
+/// After `None` and `NoMemory` no clause says which session state is left. What it holds still fits the history,
+/// and its name and its number are unchanged.
 pub fn replay<T: Shown + Drop, R: Threads + Sync, P: Past<Shot = T>, L>(
     rt: &R,
     alloc: Global,
@@ -73,7 +74,7 @@ where
     }
 }
 
-/// Writes the reply to what a line came to, and changes as it says. Where there is no memory it stays as it is.
+/// Writes the reply to a line, and changes the session. If memory runs out, the session stays as it is.
 fn replay_reply<T: Shown + Drop>(
     alloc: Global,
     session: &mut Session<T>,
@@ -94,7 +95,7 @@ where
     Ok(ReplayedLine { reply, last })
 }
 
-/// Tells what a line asks for, where the block of its session lets it pass.
+/// Replays the statement of a line, if the session's block allows it.
 fn replay_line<T: Shown + Drop, R: Threads + Sync, P: Past<Shot = T>, L>(
     rt: &R,
     alloc: Global,

@@ -1,4 +1,4 @@
-//! Statements over a past: what each comes to there, by the block of its session.
+//! Replays statements over a history, by the block of their session.
 ghost use Rattle.std.specs.Prelude.{◌≡◌, ℕ, ◌<◌, ◌≤◌, ◌^◌, None, Some, IsTrue, IfOk};
 ghost use Rattle.std.specs.Thread.{IsSync};
 ghost use Rattle.result_text.specs.declared.replies.Said.TheVariants.{Fault};
@@ -31,7 +31,7 @@ use ts_sessions::deeds::{AfterLook, Deed, FinishSource, MissingPart, Next};
 use ts_sessions::follows::say;
 use ts_sessions::{Open, Opening, Session, StatementKind, kind_of};
 
-/// A statement that is refused, after a look or event at a position.
+/// The outcome of a statement that is refused, after a read or event at a position.
 pub(crate) fn refuse_at<T: Shown + Drop>(
     alloc: Global,
     refusal: Refusal,
@@ -45,7 +45,7 @@ where
     Ok(end_of_statement(next, last))
 }
 
-/// The end of a statement, where this is its end.
+/// The outcome of a statement that ends here. `None` if a store call follows.
 pub(crate) fn end_of_statement<T: Shown + Drop>(
     next: Next<T>,
     last: u64,
@@ -60,7 +60,7 @@ where
     }
 }
 
-/// Goes on with what a statement does first.
+/// Starts a statement with its first step, and replays the rest.
 fn start<R: Threads + Sync, P: Past, L>(
     rt: &R,
     alloc: Global,
@@ -90,7 +90,7 @@ where
     go_on(rt, alloc, past, looks, went, steps)
 }
 
-/// Tells a statement of a text of so many bytes that the block lets pass.
+/// Replays a statement that the block allows. `bytes` is the length of its text.
 pub(crate) fn replay_statement<T: Shown + Drop, R: Threads + Sync, P: Past<Shot = T>, L>(
     rt: &R,
     alloc: Global,
@@ -125,7 +125,7 @@ where
     }
 }
 
-/// Tells a statement whose names are looked at, by the block of its session.
+/// Replays a statement that resolves names, by the block of its session.
 fn tell_by_names<T: Shown + Drop, R: Threads + Sync, P: Past<Shot = T>, L>(
     rt: &R,
     alloc: Global,
@@ -174,7 +174,7 @@ where
     }
 }
 
-/// Tells a statement outside a block whose names are looked at.
+/// Replays a statement outside a block that resolves names.
 fn replay_names<T: Shown + Drop, R: Threads + Sync, P: Past<Shot = T>, L>(
     rt: &R,
     alloc: Global,
@@ -210,7 +210,7 @@ where
     }
 }
 
-/// Tells the finish of the refresh that is meant, with the snapshot that is held for it.
+/// Replays the finish of the named refresh, with the snapshot that the session holds for it.
 fn replay_finishing<T: Shown + Drop, R: Threads + Sync, P: Past<Shot = T>, L>(
     rt: &R,
     alloc: Global,
@@ -255,7 +255,7 @@ where
     }
 }
 
-/// Tells a query in a read block.
+/// Replays a query in a read block.
 fn replay_in_read_block<T: Shown + Drop, R: Threads + Sync, P: Past<Shot = T>, L>(
     rt: &R,
     alloc: Global,
@@ -289,7 +289,7 @@ where
     start(rt, alloc, past, at, looks, next, steps)
 }
 
-/// Tells the finish of a refresh with the snapshot at a position.
+/// Replays the finish of a refresh with the snapshot at a position.
 fn replay_held<R: Threads + Sync, P: Past, L>(
     rt: &R,
     alloc: Global,

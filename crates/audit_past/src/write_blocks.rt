@@ -1,4 +1,4 @@
-//! Statements of a write block over a past: changes that wait, and queries that show the queue.
+//! Replays statements of a write block over a history: changes that are queued, and queries that see the queue.
 ghost use Rattle.std.specs.Prelude.{◌≡◌, ◌++◌, ℕ, ◌<◌, ◌≤◌, List, IsTrue, IfOk};
 ghost use Rattle.std.specs.Thread.{IsSync};
 ghost use Rattle.ts_model.specs.Allowed.{all_allowed};
@@ -35,8 +35,8 @@ use ts_sessions::follows::say;
 use ts_sessions::name_checks::{Resolved, resolve};
 use ts_sessions::queries::{Plan, answer_line, in_form};
 
-/// Tells a change of a text of so many bytes in a write block: it is refused at its look, or waits for the end of the
-/// block by what stands at the end of the history.
+/// Replays a change in a write block. `bytes` is the length of its text. It is refused at its read position, or
+/// queued by the names at the end of the history.
 pub(crate) fn replay_change<P: Past>(
     alloc: Global,
     past: &P,
@@ -61,7 +61,7 @@ where
     }
 }
 
-/// The refusal of a statement's names at its look, where it has one that is told.
+/// The refusal of a statement's names at its read position, if it has a printed one and is refused there.
 fn refused_there<P: Past>(
     alloc: Global,
     past: &P,
@@ -88,7 +88,7 @@ where
     }
 }
 
-/// A change that waits, where nothing of it is refused at the end of the history.
+/// Queues a change. `None` if it is refused at the end of the history.
 fn wait<P: Past>(
     alloc: Global,
     past: &P,
@@ -115,7 +115,7 @@ where
     }
 }
 
-/// An operation that waits for the end of its write block.
+/// Queues an operation until the end of its write block.
 fn queue_operation<T: Shown + Drop>(
     alloc: Global,
     action: Action,
@@ -145,7 +145,7 @@ where
     }
 }
 
-/// Tells a query of a text of so many bytes in a write block.
+/// Replays a query in a write block. `bytes` is the length of its text.
 pub(crate) fn replay_query<R: Threads + Sync, P: Past, L>(
     rt: &R,
     alloc: Global,
@@ -179,7 +179,7 @@ where
     }
 }
 
-/// What a query in a write block shows from a snapshot.
+/// The reply of a query in a write block to a snapshot.
 fn show<R: Threads + Sync, T: Shown + Drop, L>(
     rt: &R,
     alloc: Global,
@@ -207,7 +207,7 @@ where
     }
 }
 
-/// An answer by a plan from a snapshot, with a queue on top of it. An operation whose table isn't there shows nothing.
+/// Answers by a plan from a snapshot with a queue on top of it. An operation whose table is missing has no effect.
 fn answer_queued<R: Threads + Sync, T: Shown + Drop, L>(
     rt: &R,
     alloc: Global,
@@ -236,7 +236,7 @@ where
     say(alloc, said, Change::Nothing)
 }
 
-/// Those of some operations that fit the tables of a roster.
+/// The operations that fit the tables of a roster.
 fn keep_fitting_ops(alloc: Global, roster: &Roster, ops: &Seq<Op>) -> Result<Seq<Op>, NoMemory>
     ensures { IfOk result (λ there. there ≡ standing_in roster.now ops.now) }
 {
@@ -248,7 +248,7 @@ fn keep_fitting_ops(alloc: Global, roster: &Roster, ops: &Seq<Op>) -> Result<Seq
     Ok(there)
 }
 
-/// Appends an operation where it fits.
+/// Appends an operation if it fits.
 fn keep(roster: &Roster, op: &Op, there: &mut Seq<Op>) -> Result<(), NoMemory>
     ensures { IfOk result (λ _. there.new ≡ there.old ++ if_fits roster.now op.now) }
 {

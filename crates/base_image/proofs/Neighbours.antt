@@ -40,7 +40,7 @@ some_apart e (x ∷ y ∷ xs) (suc k) l h =
     ap (λ (t : Bool). e x y && t) (some_apart e (y ∷ xs) k (omega arith) (λ d. subst (λ n. false ≡ e (get_or (y ∷ xs) k d) (get_or (x ∷ y ∷ xs) n d)) next (h d)))
     ∙ none_after (e x y)
 
--- what a search for two neighbours that don't pass answers
+-- what a search for two adjacent items that don't pass answers
 pub answer_is : {X : Type 0} (e : X → X → Bool) (xs : List X) (r : Bool) → IsAllAdjacentAnswer (λ x y b. b ≡ e x y) xs r → r ≡ neighbours e xs
 answer_is e xs true h = sym (all_neighbours e xs h)
 answer_is e xs false h = sym (some_apart e xs h.0 h.1 h.2)

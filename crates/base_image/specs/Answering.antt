@@ -9,7 +9,7 @@ IfImage (answers.Image i) P = P i
 IfImage answers.BadImage P = Unit {0}
 IfImage answers.NoMemory P = Unit {0}
 
--- P where no image was read, and memory was enough
+-- P if no image was read, and memory was enough
 abbrev pub IfBad : ReadImage → Type 0 → Type 0
 IfBad (answers.Image i) P = Unit {0}
 IfBad answers.BadImage P = P

@@ -1,4 +1,4 @@
--- What has a spelling: images all of whose parts are in the range of their fields.
+-- What can be encoded: images all of whose parts are in the range of their fields.
 use Rattle.std.specs.Prelude.{ℤ, negsuc, pos, ◌-◌, ◌^◌, length}
 use Rattle.std.specs.List.{AllByRecursion}
 use Rattle.ts_model.specs.declared.events.Event.{Event}

@@ -31,6 +31,6 @@ abbrev pub make_rest : Bool → Roster → List Event → Bool
 make_rest false r es = make_relations r es
 make_rest true r es = make_views r es
 
--- the roster that events make, where they are those of an image
+-- the roster that events make, if they are those of an image
 abbrev pub made_roster : List Event → Option Roster
 made_roster es = cond (make_relations no_relations es) (Some (roster_over no_relations es)) None

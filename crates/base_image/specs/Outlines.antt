@@ -14,7 +14,7 @@ use Rattle.base_image.specs.declared.outlines.Outline.{Outline}
 
 -- ---- the rows of a table, span by span
 
--- the rows whose times lie in a span
+-- the rows whose times are in a span
 abbrev pub rows_in : Span → List Row → List Row
 rows_in s rows = filter (λ row. in_span s row.at) rows
 
@@ -24,7 +24,7 @@ span_rows rows spans = flat_map (λ s. rows_in s rows) spans
 
 -- ---- how many rows there are
 
--- how many, and how many bytes they have, each told up to the last count of 64 bits
+-- their number and the number of their bytes, each capped at the greatest number of 64 bits
 abbrev pub tally_of : List Row → Tally
 tally_of rows = record { rows = min (length rows) (2 ^ 64 - 1); bytes = min (sum_by row_bytes rows) (2 ^ 64 - 1) }
 
@@ -42,8 +42,8 @@ commits held t (suc n) = held_events t (held t) ++ commits held (suc t) n
 abbrev pub commit_bytes : Tally → ℕ
 commit_bytes tally = cond (tally.rows == 0) 0 (18 + tally.bytes)
 
--- what stands before the rows of a table: the count of the commit's bytes, that it is a commit of one insert, the
--- table's number, and how many rows there are
+-- what precedes the rows of a table: the count of the commit's bytes, that it is a commit of one insert, the table's
+-- number, and how many rows there are
 abbrev pub commit_head : ℕ → Tally → List ℕ
 commit_head t tally = four (14 + tally.bytes) ++ (5 ∷ (four 1 ++ (1 ∷ (four t ++ four tally.rows))))
 
@@ -54,11 +54,11 @@ abbrev pub with_rows : List Event → Image → Image
 with_rows events i =
     record { pos = i.pos; roster = i.roster; rows = events; views = i.views; waiting = i.waiting; done = i.done }
 
--- the image that an outline stands for, where tables have these rows
+-- the image that an outline represents, if tables have these rows
 abbrev pub whole : (ℕ → List Row) → Outline → Image
 whole held outline = with_rows (commits held 0 (length outline.tallies)) outline.rest
 
--- the image that is there holds no rows, and of each of at most 64 tables it is told how many rows there are
+-- the image in an outline holds no rows, and the outline has the tally of the rows of each of at most 64 tables
 pub record IsOutline (held : ℕ → List Row) (outline : Outline) : Type 0 where
   pub no_rows : outline.rest.rows ≡ []
   pub tallied : outline.tallies ≡ tallies held 0 (length outline.tallies)

@@ -1,4 +1,4 @@
--- The bytes of a saved image.
+-- The bytes of a checkpoint image.
 use Rattle.std.specs.Prelude.{ℕ, ℤ, List, ◌∷◌, ◌++◌, length}
 use Rattle.std.specs.Int.{w128, to_le_bytes, cast_unsigned}
 use Rattle.std.specs.List.{flat_map}
@@ -16,14 +16,14 @@ use Rattle.event_codec.specs.Spelling.{four, eight, signed_bytes, many, value, s
 unfoldable pub wide : ℤ → List ℕ
 wide z = to_le_bytes w128 (cast_unsigned w128 z)
 
--- an event behind the count of its bytes
+-- an event after the count of its bytes
 abbrev pub bytes_of_frame : Event → List ℕ
 bytes_of_frame e = four (length (event e)) ++ event e
 
 abbrev pub sums : Sums → List ℕ
 sums s = eight s.count ++ (eight s.values ++ (wide s.sum ++ (value s.least ++ value s.most)))
 
--- how many keys and parts a group has, its aggregate tells
+-- the aggregate of a group decides how many keys and parts the group has
 abbrev pub group : SavedGroup → List ℕ
 group g = signed_bytes g.start ++ (flat_map value g.keys ++ flat_map sums g.parts)
 

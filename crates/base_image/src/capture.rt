@@ -1,4 +1,4 @@
-//! The image of a history, taken of a state that stands for it.
+//! The image of a history, taken of a state that represents it.
 ghost use Rattle.std.specs.Prelude.{◌≡◌, [], ◌<◌, ◌∷◌, ◌++◌, length, IfOk, IsSome, Some};
 ghost use Rattle.std.specs.List.{AllByRecursion};
 ghost use Rattle.ts_bucket.specs.Ranges.{IsWholeRange, RiseApart};
@@ -28,7 +28,7 @@ fn row_events<I: Imaged>(alloc: Global, of: &I) -> Result<Seq<Event>, NoMemory>
     Ok(events)
 }
 
-/// What the last refreshes of an aggregate have left in the buckets of ranges that rise.
+/// The groups that the last refreshes of an aggregate have left in the buckets of these rising ranges.
 fn groups_of_span<I: Imaged>(
     alloc: Global,
     of: &I,
@@ -81,7 +81,7 @@ pub(crate) fn saved_views<I: Imaged>(alloc: Global, of: &I) -> Result<Seq<SavedV
     Ok(views)
 }
 
-/// The image of the history that a state stands for.
+/// Takes the image of the history that a state represents.
 pub fn take<I: Imaged>(alloc: Global, of: &I) -> Result<Image, NoMemory>
     ensures image { (h : History) → I.stands of.now h → IfOk result (IsImage h) }
 {

@@ -1,4 +1,4 @@
-//! The rows of an image: that they are held table by table, and that they are below marks.
+//! The rows of an image: whether they are held table by table, and are below watermarks.
 ghost use Rattle.std.specs.Prelude.{◌≡◌, ◌&&◌, ◌∷◌, [], is_some, not, true};
 ghost use Rattle.std.specs.List.{list_all};
 ghost use Rattle.ts_bucket.specs.Bucket.{is_time};
@@ -136,8 +136,8 @@ fn is_clean(fold: &Fold, view: &SavedView, row: &Row, start: i64) -> bool
     passes(row, &fold.tests) && has_last(lasts, start) && !is_inside(dirty, start)
 }
 
-/// Whether a row is below the mark, where it passes every test and is of a bucket with a last refresh that
-/// isn't dirty.
+/// Whether a row is below the watermark, if it passes every test and its bucket has a last refresh and isn't
+/// dirty.
 fn row_is_marked(fold: &Fold, view: &SavedView, row: &Row) -> bool
     requires time { is_time row.now.at ≡ true }
     requires lasts { are_rising (spans_of view.now.lasts) ≡ true }
@@ -148,7 +148,7 @@ fn row_is_marked(fold: &Fold, view: &SavedView, row: &Row) -> bool
     is_below(start, view.mark) || !is_clean(fold, view, row, start)
 }
 
-/// Whether each of these rows is, too.
+/// The same for each of these rows.
 fn rows_are_marked(fold: &Fold, view: &SavedView, rows: &[Row]) -> bool
     requires times { list_all (λ row. is_time row.at) rows.now ≡ true }
     requires lasts { are_rising (spans_of view.now.lasts) ≡ true }
@@ -165,7 +165,7 @@ fn rows_are_marked(fold: &Fold, view: &SavedView, rows: &[Row]) -> bool
     true
 }
 
-/// Whether each row that a commit appends to the table of an aggregate is, too.
+/// The same for each row that a commit appends to the table of an aggregate.
 fn commit_is_marked(def: &ViewDef, view: &SavedView, event: &Event) -> bool
     requires timed { is_timed event.now ≡ true }
     requires lasts { are_rising (spans_of view.now.lasts) ≡ true }
@@ -175,7 +175,7 @@ fn commit_is_marked(def: &ViewDef, view: &SavedView, event: &Event) -> bool
     rows_are_marked(&def.fold, view, rows_into(def.table, event))
 }
 
-/// Whether each row that these commits append to it is, too.
+/// The same for each row that these commits append to it.
 fn commits_are_marked(def: &ViewDef, view: &SavedView, events: &[Event]) -> bool
     requires timed { list_all is_timed events.now ≡ true }
     requires lasts { are_rising (spans_of view.now.lasts) ≡ true }
@@ -193,7 +193,7 @@ fn commits_are_marked(def: &ViewDef, view: &SavedView, events: &[Event]) -> bool
     true
 }
 
-/// Whether each row of the table of an aggregate is, too.
+/// The same for each row of the table of an aggregate.
 pub fn table_is_marked(def: &ViewDef, view: &SavedView, events: &[Event]) -> bool
     requires timed { list_all is_timed events.now ≡ true }
     requires lasts { are_rising (spans_of view.now.lasts) ≡ true }

@@ -1,4 +1,4 @@
-//! Events, each behind the count of its bytes.
+//! Events, each after the count of its bytes.
 ghost use Rattle.std.specs.Prelude.{◌≡◌};
 ghost use Rattle.event_codec.specs.Reading.{Gives};
 ghost use Rattle.base_image.specs.Formed.{IsFramed};

@@ -51,8 +51,7 @@ fn put_ends(out: &mut Vec<u8>, sums: &Sums) -> Result<(), NoMemory>
     put_value(out, sums.most)
 }
 
-/// The signed number of sixteen bytes whose eight lower bytes are `low` and whose eight upper bytes are
-/// `high`.
+/// The signed number of sixteen bytes with the lower eight bytes `low` and the upper eight bytes `high`.
 fn join_halves(low: u64, high: i64) -> i128
     ensures { result ≡ to_wide (low, high) }
 {

@@ -3,9 +3,9 @@ use ts_bucket::Span;
 use ts_model::{Finished, Roster, SavedGroup, SavedLast, Waiting};
 use ts_schema::{NoMemory, Row, Seq};
 
-/// A state of a history, which gives what the image of the history is made of. It need not store one: that
-/// it stands for a history is a relation between what it holds and that history, and each of its promises
-/// is for every history that it stands for.
+/// A state of a history, which gives what the image of the history is made of. It need not store a history:
+/// `stands` relates what it holds to the histories that it represents, and each of its promises is for all of
+/// them.
 pub trait Imaged {
     ghost use Rattle.std.specs.Prelude.{◌≡◌, ◌≤◌, ℕ, List, [], ◌∷◌, length, Some, IsSome, IfOk};
     ghost use Rattle.ts_bucket.specs.Ranges.{IsWholeRange};
@@ -20,51 +20,51 @@ pub trait Imaged {
     ghost use Rattle.base_image.specs.Outlines.{rows_in, span_rows};
     ghost use Rattle.base_image.specs.Taking.{AreDirty, AreLasts, AreLeft};
 
-    /// What it holds stands for this history.
+    /// What it holds represents this history.
     ghost stands: { Self → History → Type 0 };
 
     /// The rows of each table, by its number.
     ghost held: { Self → ℕ → List RowValue };
 
-    /// The position of the history.
+    /// Returns the position of the history.
     fn position(&self) -> u64
         ensures { (h : History) → stands self.now h → result ≡ position h };
 
-    /// Its tables and aggregates, at most 64 of each.
+    /// Returns its tables and aggregates, at most 64 of each.
     fn roster(&self) -> &Roster
         ensures roster { (h : History) → stands self.now h → result.now ≡ roster h }
         ensures few_tables { length result.now.tables ≤ 64 }
         ensures few_views { length result.now.views ≤ 64 };
 
-    /// The rows of a table, in order.
+    /// Returns the rows of a table, in order.
     fn rows(&self, table: u32) -> Result<Seq<Row>, NoMemory>
         requires table { (h : History) → stands self.now h → IsSome (table_of (roster h) table) }
         ensures rows { (h : History) → stands self.now h → IfOk result (λ found. found ≡ rows table h) };
 
-    /// Spans whose rows, one span after another, are those of a table. Those of one span are few, or of one
-    /// chunk.
+    /// Returns spans whose rows, span by span, are those of a table. The rows of one span are few, or those of
+    /// one chunk.
     fn spans(&self, table: u32) -> Result<Seq<Span>, NoMemory>
         ensures spans { IfOk result (λ spans. span_rows (held self.now table) spans ≡ held self.now table) }
         ensures held { (h : History) → stands self.now h → held self.now table ≡ rows table h };
 
-    /// The rows of a table whose times lie in a span, in order.
+    /// Returns the rows of a table whose times are in a span, in order.
     fn rows_in(&self, table: u32, span: Span) -> Result<Seq<Row>, NoMemory>
         ensures rows { IfOk result (λ found. found ≡ rows_in span (held self.now table)) };
 
-    /// The last refreshes of an aggregate, as ranges that are as long as can be.
+    /// Returns the last refreshes of an aggregate, as maximal ranges.
     fn lasts(&self, view: u32) -> Result<Seq<SavedLast>, NoMemory>
         requires view { (h : History) → stands self.now h → IsSome (view_of (roster h) view) }
         ensures lasts { (h : History) (def : ViewDef) → stands self.now h → view_of (roster h) view ≡ Some def
             → IfOk result (AreLasts view def h) };
 
-    /// The buckets of an aggregate that were touched after their last refresh, as ranges that are as long
-    /// as can be.
+    /// Returns the buckets of an aggregate that were touched after their last refresh, as maximal ranges.
     fn dirty(&self, view: u32) -> Result<Seq<Span>, NoMemory>
         requires view { (h : History) → stands self.now h → IsSome (view_of (roster h) view) }
         ensures dirty { (h : History) (def : ViewDef) → stands self.now h → view_of (roster h) view ≡ Some def
             → IfOk result (AreDirty view def h) };
 
-    /// What the last refreshes of an aggregate have left in the buckets of a span of whole ones, in order.
+    /// Returns the groups that the last refreshes of an aggregate have left in the buckets of a span of whole
+    /// buckets, in order.
     fn groups(&self, view: u32, span: Span) -> Result<Seq<SavedGroup>, NoMemory>
         requires view { (h : History) → stands self.now h → IsSome (view_of (roster h) view) }
         requires whole { (h : History) (def : ViewDef) → stands self.now h → view_of (roster h) view ≡ Some def
@@ -72,17 +72,17 @@ pub trait Imaged {
         ensures groups { (h : History) (def : ViewDef) → stands self.now h → view_of (roster h) view ≡ Some def
             → IfOk result (AreLeft view def h (span ∷ [])) };
 
-    /// The watermark of an aggregate.
+    /// Returns the watermark of an aggregate.
     fn mark(&self, view: u32) -> Option<i64>
         requires view { (h : History) → stands self.now h → IsSome (view_of (roster h) view) }
         ensures mark { (h : History) (def : ViewDef) → stands self.now h → view_of (roster h) view ≡ Some def
             → result ≡ watermark view def h };
 
-    /// The refreshes that were cut and not finished, in order of their cuts.
+    /// Returns the refreshes that are pending, in order of their cuts.
     fn waiting(&self) -> Result<Seq<Waiting>, NoMemory>
         ensures waiting { (h : History) → stands self.now h → IfOk result (λ found. found ≡ waiting h) };
 
-    /// The refreshes that were finished, in order of their cuts.
+    /// Returns the refreshes that were finished, in order of their cuts.
     fn done(&self) -> Result<Seq<Finished>, NoMemory>
         ensures done { (h : History) → stands self.now h
             → IfOk result (λ found. found ≡ finished_upto h (position h)) };

@@ -1,4 +1,4 @@
-//! Images: their bytes, and what bytes say.
+//! Images: encoding and decoding.
 ghost use Rattle.std.specs.Prelude.{◌≡◌, ◌++◌, ◌∷◌, ◌==◌, ◌<◌, ◌^◌, true, length, IfOk, OnOk};
 ghost use Rattle.ts_model.specs.Valid.{valid};
 ghost use Rattle.event_codec.specs.Growing.{Grows};
@@ -18,7 +18,7 @@ use std::alloc::Global;
 use ts_model::{Event, Image, Roster};
 use ts_schema::{NoMemory, Seq};
 
-/// The byte that images begin with, and no event.
+/// The byte that images begin with, and events don't.
 const IMAGE_KIND: u8 = 8;
 
 /// Appends the refreshes.
@@ -119,7 +119,7 @@ fn read_image(reader: &mut Reader<'_>) -> Result<(Image, Roster), ReadError>
     Ok((image, made))
 }
 
-/// Reads an image with its roster, and nothing after it. It may still not be valid.
+/// Reads an image with its roster, and nothing after it. The image need not be valid.
 #[tactic(auto, unfolding(crate::specs::Reading::whole_image))]
 pub(crate) fn read_whole(reader: &mut Reader<'_>) -> Result<(Image, Roster), ReadError>
     ensures { Gives result (whole_image reader.old) reader.new }
@@ -131,7 +131,7 @@ pub(crate) fn read_whole(reader: &mut Reader<'_>) -> Result<(Image, Roster), Rea
     Ok(found)
 }
 
-/// The bytes of a valid image.
+/// Returns the bytes of a valid image.
 #[tactic(auto, using(crate::proofs::WritableLaws::writable))]
 pub fn put(alloc: Global, image: &Image) -> Result<Seq<u8>, NoMemory>
     requires valid { valid image.now ≡ true }

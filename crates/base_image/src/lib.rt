@@ -1,6 +1,6 @@
-//! Saved images: how the image of a history is taken of a state that stands for it, and the bytes of an
-//! image: how many they are, how they are put, and how they are read from left to right. What is read is a
-//! valid image, whose bytes these are and no others.
+//! Checkpoint images: how the image of a history is taken of a state that represents it, and the bytes of an
+//! image: how many there are, how they are written, and how they are read from left to right. What is read is
+//! a valid image, and no other image has these bytes.
 #![tactic(auto)]
 
 mod capture;

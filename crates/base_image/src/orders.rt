@@ -1,4 +1,4 @@
-//! Whether rows, groups, refreshes and spans stand in order. Each is compared with the next one alone.
+//! Whether rows, groups, refreshes and spans are in order. Each is compared only with the next one.
 ghost use Rattle.std.specs.Prelude.{◌≡◌, map, not, nat_lt, int_le};
 ghost use Rattle.std.specs.Ordering.{is_gt, is_lt, nat_cmp};
 ghost use Rattle.partial_agg.specs.Groups.{group_cmp};
@@ -12,8 +12,7 @@ use ts_bucket::Span;
 use ts_model::{Finished, SavedGroup, SavedLast, Waiting};
 use ts_schema::{Row, order_of_values, values_order};
 
-/// Whether a row may stand before another. Their other columns are looked at only where the times are the
-/// same.
+/// Whether a row may come before another. Their other columns are compared only if the times are the same.
 fn may_precede(row: &Row, next: &Row) -> bool
     ensures { result ≡ not (is_gt (row_cmp row.now next.now)) }
 {
@@ -24,14 +23,14 @@ fn may_precede(row: &Row, next: &Row) -> bool
     }
 }
 
-/// Whether rows stand in order.
+/// Whether rows are in order.
 pub fn rows_stand(rows: &[Row]) -> bool
     ensures { result ≡ all_stand row_cmp rows.now }
 {
     rows.is_sorted_by(|row: &Row, next: &Row| may_precede(row, next))
 }
 
-/// How two groups compare. Their keys are looked at only where the buckets are the same.
+/// How two groups compare. Their keys are compared only if the buckets are the same.
 fn order_of(group: &SavedGroup, next: &SavedGroup) -> Ordering
     ensures { result ≡ group_cmp (group_of group.now) (group_of next.now) }
 {
@@ -42,7 +41,7 @@ fn order_of(group: &SavedGroup, next: &SavedGroup) -> Ordering
     }
 }
 
-/// Whether a group stands before another, so that they don't have the same bucket and keys.
+/// Whether a group comes before another, so that they don't have the same bucket and keys.
 fn precedes(group: &SavedGroup, next: &SavedGroup) -> bool
     ensures { result ≡ is_lt (group_cmp (group_of group.now) (group_of next.now)) }
 {

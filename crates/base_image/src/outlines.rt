@@ -1,4 +1,4 @@
-//! The image of a history whose rows stay in the state that stands for it.
+//! The image of a history whose rows stay in the state that represents it.
 ghost use Rattle.std.specs.Prelude.{◌≡◌, ◌≤◌, ◌<◌, ◌-◌, ◌^◌, ◌++◌, ◌∷◌, ℕ, List, length, min, true, IfOk, OnOk};
 ghost use Rattle.ts_schema.specs.declared.rows.Row.{Row as RowValue};
 ghost use Rattle.ts_model.specs.History.{History};
@@ -22,7 +22,7 @@ use std::alloc::Global;
 use ts_model::Image;
 use ts_schema::{NoMemory, Seq};
 
-/// The image of a history, but for its rows: of each table it has how many they are.
+/// The image of a history without its rows, and a tally of the rows of each table.
 #[derive(Drop)]
 pub struct Outline {
     /// The image without rows.
@@ -31,7 +31,8 @@ pub struct Outline {
     pub tallies: Seq<Tally>,
 }
 
-/// The outline of the history that a state stands for. It holds the rows of one span of `Imaged::spans` at a time.
+/// Takes the outline of the history that a state represents. Holds the rows of one span of `Imaged::spans` at
+/// a time.
 pub fn outline_of<I: Imaged>(alloc: Global, of: &I) -> Result<Outline, NoMemory>
     ensures outline { IfOk result (IsOutline (I.held of.now)) }
     ensures image { (h : History) → I.stands of.now h
@@ -50,7 +51,7 @@ pub fn outline_of<I: Imaged>(alloc: Global, of: &I) -> Result<Outline, NoMemory>
 }
 
 impl Outline {
-    /// How many bytes the image has, or 2^64 - 1 where they are more. It takes no memory.
+    /// Returns how many bytes the image has, or 2^64 - 1 if there are more. Takes no memory.
     pub fn size(&self) -> u64
         ensures size { (held : ℕ → List RowValue) → IsOutline held self.now
             → result ≡ min (length (spelling.image (whole held self.now))) (2 ^ 64 - 1) }
@@ -58,9 +59,9 @@ impl Outline {
         size(&self.rest).saturating_add(bytes_of_commits(self.tallies.items()))
     }
 
-    /// Appends the bytes of the image, which is valid and has fewer than 2^32 of them. The rows come from the state
-    /// that the outline was taken of, those of one span at a time. Where memory runs out `out` may have some of
-    /// the bytes.
+    /// Appends the bytes of the image, which is valid and has fewer than 2^32 of them. Reads the rows from the
+    /// state that the outline was taken of, one span at a time. If memory runs out, `out` may have some of the
+    /// bytes.
     pub fn put<I: Imaged>(&self, of: &I, out: &mut Vec<u8>) -> Result<(), NoMemory>
         requires outline { IsOutline (I.held of.now) self.now }
         requires valid { valid (whole (I.held of.now) self.now) ≡ true }

@@ -11,7 +11,7 @@ use crate::shapes::Shape;
 use event_codec::{ReadError, Reader, put_four};
 use ts_schema::{NoMemory, Seq};
 
-/// What stands in the bytes of an image.
+/// A part of the bytes of an image.
 pub trait Part {
     /// Its bytes.
     ghost spelling: { Self → List ℕ };
@@ -19,7 +19,7 @@ pub trait Part {
     /// Whether its counts fit their fields.
     ghost fits: { Self → Type 0 };
 
-    /// What the bytes in front say, where groups have this shape.
+    /// The reading of its bytes from the front, if groups have this shape.
     ghost reading: { Shape → Reads Self };
 
     /// Appends its bytes.
@@ -33,7 +33,7 @@ pub trait Part {
         ensures read { Gives result (reading shape reader.old) reader.new };
 }
 
-/// Appends items one after the other.
+/// Appends items in order.
 #[tactic(auto, using(event_codec::proofs::GrowthLaws::grows_by, event_codec::proofs::GrowthLaws::grows_not, event_codec::proofs::GrowthLaws::grows_on))]
 pub fn put_items<T: Part>(items: &[T], out: &mut Vec<u8>) -> Result<(), NoMemory>
     requires fit { AllByRecursion T.fits items.now }

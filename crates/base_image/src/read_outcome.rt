@@ -1,4 +1,4 @@
-//! What bytes say: the valid image whose bytes they are.
+//! Decoding an image.
 ghost use Rattle.std.specs.Prelude.{◌≡◌, true};
 ghost use Rattle.ts_model.specs.Valid.{valid};
 ghost use Rattle.ts_model.specs.declared.images.Image.{Image};
@@ -12,18 +12,18 @@ use event_codec::{ReadError, Reader};
 use std::alloc::Global;
 use ts_model::Image;
 
-/// What bytes say.
+/// The outcome of decoding an image.
 #[derive(Drop, Debug, PartialEq, Eq)]
 pub enum ReadImage {
-    /// They are the bytes of this valid image.
+    /// The bytes are those of this valid image.
     Image(Image),
-    /// They are the bytes of no valid image.
+    /// The bytes are those of no valid image.
     BadImage,
     /// Memory ran out.
     NoMemory,
 }
 
-/// The valid image whose bytes these are.
+/// Decodes a valid image from exactly these bytes.
 #[tactic(auto, using(crate::proofs::ReadLaws::is_made, crate::proofs::ReadLaws::is_roster, crate::proofs::ReadLaws::is_formed, crate::proofs::ReadLaws::is_spelled, crate::proofs::ReadLaws::not_another, crate::proofs::ReadLaws::not_one))]
 pub fn read(alloc: Global, bytes: &[u8]) -> ReadImage
     ensures valid { IfImage result (λ image. valid image ≡ true) }

@@ -8,7 +8,7 @@ use std::alloc::Global;
 use ts_model::{Event, Roster};
 use ts_schema::{NoMemory, Seq};
 
-/// Whether an event may come next among those that make a roster, where aggregates have begun or not.
+/// Whether an event may come next among those that make a roster. `begun` says whether aggregates have begun.
 fn may_come(roster: &Roster, begun: bool, event: &Event) -> bool
     ensures { result ≡ may_come roster.now begun event.now }
 {
@@ -51,7 +51,7 @@ fn no_relations(alloc: Global) -> Roster
     }
 }
 
-/// The roster that these events make, where they are those of an image.
+/// Returns the roster that these events make, or `None` if they aren't those of an image.
 pub fn roster_of(alloc: Global, events: &[Event]) -> Result<Option<Roster>, NoMemory>
     ensures { IfOk result (λ made. made ≡ made_roster events.now) }
 {

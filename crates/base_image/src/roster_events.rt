@@ -7,7 +7,7 @@ use std::alloc::Global;
 use ts_model::{Event, Hyper, Op, Roster, TableInfo, ViewDef};
 use ts_schema::{NoMemory, Row, Seq, SharedSlice};
 
-/// Appends what makes a table a hypertable, where it is one.
+/// Appends the event that makes a table a hypertable, if it is one.
 fn push_hyper(events: &mut Seq<Event>, table: u32, hyper: Option<Hyper>) -> Result<(), NoMemory>
     ensures pushed { IfOk result (λ _. events.new ≡ events.old ++ hyper_events table hyper) }
 {
@@ -17,7 +17,7 @@ fn push_hyper(events: &mut Seq<Event>, table: u32, hyper: Option<Hyper>) -> Resu
     }
 }
 
-/// Appends what makes a table, and a hypertable, where it is one.
+/// Appends the event that makes a table, and the one that makes it a hypertable, if it is one.
 fn push_table(events: &mut Seq<Event>, table: u32, info: &TableInfo) -> Result<(), NoMemory>
     ensures pushed { IfOk result (λ _.
         events.new ≡ events.old ++ Table info.now.def ∷ hyper_events table info.now.hyper) }
@@ -26,7 +26,7 @@ fn push_table(events: &mut Seq<Event>, table: u32, info: &TableInfo) -> Result<(
     push_hyper(events, table, info.hyper)
 }
 
-/// Appends what makes these tables.
+/// Appends the events that make these tables.
 fn push_tables(events: &mut Seq<Event>, tables: &[TableInfo]) -> Result<(), NoMemory>
     requires few { length tables.now ≤ 64 }
     ensures pushed { IfOk result (λ _. events.new ≡ events.old ++ table_events 0 tables.now) }
@@ -41,7 +41,7 @@ fn push_tables(events: &mut Seq<Event>, tables: &[TableInfo]) -> Result<(), NoMe
     Ok(())
 }
 
-/// Appends what makes these aggregates.
+/// Appends the events that make these aggregates.
 fn push_views(events: &mut Seq<Event>, views: &[ViewDef]) -> Result<(), NoMemory>
     ensures pushed { IfOk result (λ _. events.new ≡ events.old ++ map View views.now) }
 {
@@ -51,7 +51,7 @@ fn push_views(events: &mut Seq<Event>, views: &[ViewDef]) -> Result<(), NoMemory
     Ok(())
 }
 
-/// The events that make a roster.
+/// Returns the events that make a roster.
 pub fn roster_events(alloc: Global, roster: &Roster) -> Result<Seq<Event>, NoMemory>
     requires few { length roster.now.tables ≤ 64 }
     ensures made { IfOk result (λ events. events ≡ roster_events roster.now) }
@@ -62,7 +62,7 @@ pub fn roster_events(alloc: Global, roster: &Roster) -> Result<Seq<Event>, NoMem
     Ok(events)
 }
 
-/// Appends a commit of these rows of a table, where there are some.
+/// Appends a commit of these rows of a table, if there are any.
 pub fn push_held(
     events: &mut Seq<Event>,
     alloc: Global,

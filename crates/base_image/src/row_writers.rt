@@ -1,4 +1,4 @@
-//! The rows of a state put into the bytes of an image, span by span.
+//! Writing the rows of a state into the bytes of an image, span by span.
 ghost use Rattle.std.specs.Prelude.{◌≡◌, ◌≤◌, ◌<◌, ◌+◌, ◌^◌, ◌++◌, ◌∷◌, ◌==◌, false, length, OnOk};
 ghost use Rattle.std.specs.List.{AllByRecursion, flat_map};
 ghost use Rattle.event_codec.specs.Formed.{IsRow, Many};
@@ -55,7 +55,7 @@ fn put_rows<I: Imaged>(of: &I, table: u32, out: &mut Vec<u8>) -> Result<(), NoMe
     put_spans(of, table, spans.items(), out)
 }
 
-/// Appends what stands before the rows of an insert.
+/// Appends what precedes the rows of an insert.
 #[tactic(auto, using(std::proofs::lemmas::List::append_assoc, event_codec::proofs::GrowthLaws::grows_by, event_codec::proofs::GrowthLaws::grows_not, event_codec::proofs::GrowthLaws::grows_on))]
 fn put_insert_head(table: u32, rows: u32, out: &mut Vec<u8>) -> Result<(), NoMemory>
     ensures put { OnOk result (out.new.items ≡ out.old.items ++ (1 ∷ (four table ++ four rows))) }
@@ -66,7 +66,7 @@ fn put_insert_head(table: u32, rows: u32, out: &mut Vec<u8>) -> Result<(), NoMem
     put_four(out, rows)
 }
 
-/// Appends what stands before the rows of a table.
+/// Appends what precedes the rows of a table.
 #[tactic(auto, using(std::proofs::lemmas::List::append_assoc, event_codec::proofs::GrowthLaws::grows_by, event_codec::proofs::GrowthLaws::grows_not, event_codec::proofs::GrowthLaws::grows_on))]
 fn put_head(table: u32, tally: Tally, out: &mut Vec<u8>) -> Result<(), NoMemory>
     requires few_bytes { 14 + tally.bytes < 2 ^ 32 }
@@ -80,7 +80,7 @@ fn put_head(table: u32, tally: Tally, out: &mut Vec<u8>) -> Result<(), NoMemory>
     put_insert_head(table, tally.rows as u32, out)
 }
 
-/// Appends the commit of the rows of a table, where there are some.
+/// Appends the commit of the rows of a table, if there are any.
 fn put_commit<I: Imaged>(
     of: &I,
     table: u32,
@@ -123,7 +123,7 @@ fn put_each<I: Imaged>(
     }
 }
 
-/// Appends how many tables have rows, and the commits of these.
+/// Appends the number of tables that have rows, and the commits of these rows.
 pub fn put_commits<I: Imaged>(of: &I, each: &[Tally], out: &mut Vec<u8>) -> Result<(), NoMemory>
     requires few { length each.now ≤ 64 }
     requires tallied { each.now ≡ tallies (I.held of.now) 0 (length each.now) }

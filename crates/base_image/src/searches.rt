@@ -26,7 +26,7 @@ fn spans_below(spans: &[Span], b: i64) -> usize
     spans.partition_point(|span| span.hi <= b)
 }
 
-/// Whether `b` lies in one of these spans.
+/// Whether `b` is in one of these spans.
 pub fn is_inside(spans: &[Span], b: i64) -> bool
     requires rising { are_rising spans.now ≡ true }
     ensures { result ≡ lies_in spans.now b }
@@ -46,7 +46,7 @@ pub fn lasts_below(lasts: &[SavedLast], b: i64) -> usize
     lasts.partition_point(|last| last.span.hi <= b)
 }
 
-/// Whether `b` has a last refresh.
+/// Whether the range of one of these last refreshes holds `b`.
 pub fn has_last(lasts: &[SavedLast], b: i64) -> bool
     requires rising { are_rising (spans_of lasts.now) ≡ true }
     ensures { result ≡ is_some (pos_in lasts.now b) }

@@ -3,7 +3,7 @@ ghost use Rattle.std.specs.Prelude.{◌≡◌, length};
 
 use ts_model::ViewDef;
 
-/// How many keys and parts the groups of an aggregate have. Their bytes don't tell it.
+/// How many keys and parts the groups of an aggregate have. Their bytes don't contain these numbers.
 #[derive(Clone, Copy, Debug, PartialEq, Eq)]
 pub struct Shape {
     /// The keys.
@@ -13,7 +13,7 @@ pub struct Shape {
 }
 
 impl Shape {
-    /// The shape of what has no groups.
+    /// The shape for parts without groups.
     pub fn none() -> Shape
         ensures { result ≡ record { keys = 0; parts = 0 } }
     {

@@ -1,4 +1,4 @@
-//! How many bytes an image has, or the last count of 64 bits where they are more.
+//! How many bytes an image has, or the greatest number of 64 bits if there are more.
 ghost use Rattle.std.specs.Prelude.{◌≡◌, ◌-◌, ◌^◌, ◌*◌, length, min, sum_by};
 ghost use Rattle.base_image.specs.Counting.{framed_bytes, group_bytes, image_bytes, saved_bytes, sums_bytes};
 ghost use Rattle.base_image.specs.Spelling as spelling;
@@ -6,7 +6,7 @@ ghost use Rattle.base_image.specs.Spelling as spelling;
 use event_check::{bytes_of, bytes_of_value, bytes_of_values};
 use ts_model::{Event, Image, SavedGroup, SavedView, Sums};
 
-/// A count of items with so many bytes each.
+/// The number of bytes of `count` items with `each` bytes each.
 fn bytes_each(count: usize, each: u64) -> u64
     ensures { result ≡ min (each * count) (2 ^ 64 - 1) }
 {
@@ -76,7 +76,7 @@ fn bytes_of_events(events: &[Event]) -> u64
     total
 }
 
-/// How many bytes an image has, or 2^64 - 1 where they are more. It takes no memory.
+/// Returns how many bytes an image has, or 2^64 - 1 if there are more. Takes no memory.
 #[tactic(auto, using(crate::proofs::Counts::bytes_counted))]
 pub fn size(image: &Image) -> u64
     ensures size { result ≡ min (length (spelling.image image.now)) (2 ^ 64 - 1) }

@@ -14,23 +14,24 @@ use std::alloc::Global;
 use ts_bucket::Span;
 use ts_schema::{NoMemory, Row, Seq};
 
-/// How many rows a table has, and how many bytes they have, each told up to the last count of 64 bits.
+/// The number of rows of a table and the number of their bytes, each capped at the greatest number of 64
+/// bits.
 #[derive(Clone, Copy, Debug, PartialEq, Eq)]
 pub struct Tally {
-    /// The rows.
+    /// How many rows there are.
     pub rows: u64,
-    /// Their bytes.
+    /// How many bytes they have in an image.
     pub bytes: u64,
 }
 
-/// That of no row.
+/// The tally of no rows.
 fn none() -> Tally
     ensures { result ≡ tally_of [] }
 {
     Tally { rows: 0, bytes: 0 }
 }
 
-/// The same with more rows.
+/// The tally with more rows.
 fn with_more(tally: Tally, more: &[Row]) -> Tally
     ensures { (so_far : List RowValue) → tally ≡ tally_of so_far → result ≡ tally_of (so_far ++ more.now) }
 {
@@ -40,7 +41,7 @@ fn with_more(tally: Tally, more: &[Row]) -> Tally
     }
 }
 
-/// That of the rows of these spans.
+/// The tally of the rows of these spans.
 fn tally_spans<I: Imaged>(of: &I, table: u32, spans: &[Span]) -> Result<Tally, NoMemory>
     ensures { IfOk result (λ tally. tally ≡ tally_of (span_rows (I.held of.now table) spans.now)) }
 {
@@ -52,7 +53,7 @@ fn tally_spans<I: Imaged>(of: &I, table: u32, spans: &[Span]) -> Result<Tally, N
     Ok(tally)
 }
 
-/// That of a table.
+/// The tally of a table.
 fn table_tally<I: Imaged>(of: &I, table: u32) -> Result<Tally, NoMemory>
     ensures tally { IfOk result (λ tally. tally ≡ tally_of (I.held of.now table)) }
     ensures held { (h : History) → I.stands of.now h → I.held of.now table ≡ rows table h }
@@ -61,7 +62,7 @@ fn table_tally<I: Imaged>(of: &I, table: u32) -> Result<Tally, NoMemory>
     tally_spans(of, table, spans.items())
 }
 
-/// Those of all tables.
+/// The tallies of all tables.
 pub fn table_tallies<I: Imaged>(alloc: Global, of: &I) -> Result<Seq<Tally>, NoMemory>
     ensures tallied { IfOk result (λ all. all ≡ tallies (I.held of.now) 0 (length all)) }
     ensures few { IfOk result (λ all. length all ≤ 64) }
@@ -89,7 +90,7 @@ pub fn count_held(tallies: &[Tally]) -> usize
     tallies.iter().filter(|tally| has_rows(tally)).count()
 }
 
-/// The bytes of the commit of a table's rows, where there are some.
+/// The number of bytes of the commit of a table's rows, if it has rows.
 fn bytes_of_commit(tally: &Tally) -> u64
     ensures { result ≡ min (commit_bytes tally.now) (2 ^ 64 - 1) }
 {
@@ -100,7 +101,7 @@ fn bytes_of_commit(tally: &Tally) -> u64
     }
 }
 
-/// The bytes of the commits of these tables' rows.
+/// The number of bytes of the commits of these tables' rows.
 pub fn bytes_of_commits(tallies: &[Tally]) -> u64
     ensures { result ≡ min (sum_by commit_bytes tallies.now) (2 ^ 64 - 1) }
 {

@@ -25,7 +25,7 @@ pub fn put_span(out: &mut Vec<u8>, held: Span) -> Result<(), NoMemory>
     put_signed(out, held.hi)
 }
 
-/// Reads a span that holds something.
+/// Reads a span that isn't empty.
 pub fn read_span(reader: &mut Reader<'_>) -> Result<Span, ReadError>
     ensures { Gives result (span_at reader.old) reader.new }
 {
@@ -112,7 +112,7 @@ fn read_each(defs: &[ViewDef], reader: &mut Reader<'_>) -> Result<Seq<SavedView>
     Ok(views)
 }
 
-/// Reads how many aggregates there are, which are as many as these, and what is kept of each.
+/// Reads the number of aggregates, which must be that of `defs`, and what is kept of each.
 #[tactic(auto, unfolding(crate::specs::Reading::views_at))]
 pub fn read_views(defs: &[ViewDef], reader: &mut Reader<'_>) -> Result<Seq<SavedView>, ReadError>
     ensures { Gives result (views_at defs.now reader.old) reader.new }

@@ -1,4 +1,4 @@
-//! Whether the refreshes of an image may wait, and may have been finished.
+//! Whether the pending and finished refreshes of an image are possible.
 ghost use Rattle.std.specs.Prelude.{◌≡◌, ◌&&◌, ◌==◌, map, nat_le, nat_lt, not, true};
 ghost use Rattle.std.specs.List.{list_all, list_any};
 ghost use Rattle.std.specs.Ordering.{nat_cmp};
@@ -18,7 +18,7 @@ fn is_number(pos: u64, number: u64) -> bool
     0 < number && number <= pos
 }
 
-/// Whether a refresh may wait at a position.
+/// Whether a refresh may be pending at a position.
 fn wait_is_fit(roster: &Roster, pos: u64, refresh: &Waiting) -> bool
     ensures { result ≡ (is_number pos refresh.now.cut
         && span_fits refresh.now.span (view_of roster.now refresh.now.view)) }
@@ -35,14 +35,14 @@ fn each_wait_is_fit(roster: &Roster, pos: u64, waiting: &[Waiting]) -> bool
         .all(|refresh| wait_is_fit(roster, pos, refresh))
 }
 
-/// Whether these refreshes may wait at a position, and stand in order.
+/// Whether these refreshes may be pending at a position, and are in order.
 pub fn waits_are_fit(roster: &Roster, pos: u64, waiting: &[Waiting]) -> bool
     ensures { result ≡ waiting_fits roster.now pos waiting.now }
 {
     each_wait_is_fit(roster, pos, waiting) && waiting_rise(waiting)
 }
 
-/// Whether a refresh may have been finished up to a position where these wait.
+/// Whether a refresh may have been finished up to a position at which these are pending.
 fn finish_is_fit(pos: u64, waiting: &[Waiting], refresh: &Finished) -> bool
     requires rising { all_rise nat_cmp (map (λ w. w.cut) waiting.now) ≡ true }
     ensures { result ≡ (is_number pos refresh.now.cut && nat_lt refresh.now.cut refresh.now.built
@@ -52,7 +52,7 @@ fn finish_is_fit(pos: u64, waiting: &[Waiting], refresh: &Finished) -> bool
     is_number(pos, refresh.cut) && after && !waits(waiting, refresh.cut)
 }
 
-/// Whether these refreshes may have been finished up to a position, and stand in order.
+/// Whether these refreshes may have been finished up to a position, and are in order.
 pub fn finishes_are_fit(pos: u64, waiting: &[Waiting], done: &[Finished]) -> bool
     requires rising { all_rise nat_cmp (map (λ w. w.cut) waiting.now) ≡ true }
     ensures { result ≡ done_fits pos waiting.now done.now }

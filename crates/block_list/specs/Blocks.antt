@@ -1,4 +1,4 @@
--- Parts of a list, one after another, and where each of them begins: blocks of items, and shelves of blocks.
+-- Parts of a list, in order, and where each of them begins: blocks of items, and inner nodes of blocks.
 use Rattle.std.specs.Prelude.{◌≡◌, ℕ, ◌+◌, ◌^◌, ◌<◌, ◌≤◌, List, [], ◌∷◌, ◌++◌, length, take, drop, Option, Some, None, refl}
 use Rattle.std.specs.Arc.{arc_value}
 use Rattle.std.specs.declared.sync.Arc.{Arc}

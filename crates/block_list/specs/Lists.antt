@@ -13,10 +13,10 @@ list_value_code {X} x =
     code_by (List X × ℕ) (coded× (coded_list x) coded_ℕ) (λ v. (v.items, v.room))
     (λ p. record { items = p.0; room = p.1 }) (λ _. refl)
 
--- for how many items there is room beside so many, where a vector has this capacity: no more than fill a block
+-- how many more items fit after so many in a vector of this capacity, up to a whole block
 abbrev pub room_of : ℕ → ℕ → ℕ
 room_of len capacity = min capacity block_len - len
 
--- the items of a list with new ones in place of those from one place on and below another
+-- the items of a list, with new ones instead of those from one place on and below another
 abbrev pub splice : {X : Type 0} → ℕ → ℕ → List X → List X → List X
 splice from to new old = take from old ++ new ++ drop to old

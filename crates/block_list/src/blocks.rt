@@ -1,4 +1,4 @@
-//! Blocks: items that stand together.
+//! Blocks: runs of items.
 ghost use Rattle.std.specs.Prelude.{◌≡◌, ◌≤◌, length, vec_len};
 ghost use Rattle.block_list.specs.Blocks.{block_len};
 

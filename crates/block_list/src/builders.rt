@@ -1,4 +1,4 @@
-//! Lists in the making.
+//! Lists under construction.
 ghost use Rattle.std.specs.Prelude.{◌≡◌, ◌+◌, ◌-◌, ◌<◌, ◌≤◌, [], ◌∷◌, ◌++◌, length, take, drop, vec_len, IfOk, OnOk};
 ghost use Rattle.std.specs.Arc.{arc_value};
 ghost use Rattle.block_list.specs.Blocks.{IsRun, block_len};
@@ -13,8 +13,8 @@ use std::mem;
 use std::sync::Arc;
 use ts_schema::NoMemory;
 
-/// A list in the making, of runs of other lists, whose blocks it shares, and of new items. Contracts
-/// see it as the list of the items so far. After a call that wants memory nothing is known of it.
+/// A list under construction: runs of other lists, whose blocks it shares, and new items. Contracts see it as
+/// the list of the items so far. After a call that runs out of memory nothing is known of it.
 #[derive(Drop, Debug)]
 pub struct Builder<T> {
     alloc: Global,
@@ -69,8 +69,8 @@ impl<T: Clone + Drop> Builder<T> {
         Ok(())
     }
 
-    /// Appends the items of a block, which is shared where it isn't put together with its neighbour.
-    /// The block after it has so many items.
+    /// Appends the items of a block. The block is shared unless it is merged with its neighbor. The next
+    /// block has `after` items.
     fn push_block(&mut self, block: &Arc<Block<T>>, after: usize) -> Result<(), NoMemory>
         requires faithful { (x y : T) → T.is_clone x y → x ≡ y }
         ensures pushed { IfOk result (λ _. self.new ≡ self.old ++ arc_value block.now) }
@@ -82,7 +82,7 @@ impl<T: Clone + Drop> Builder<T> {
         self.closed.push(Arc::try_clone(block)?)
     }
 
-    /// Appends the items of a shelf, which is shared.
+    /// Appends the items of an inner node, which is shared.
     fn push_shelf(&mut self, shelf: &Arc<InnerNode<T>>) -> Result<(), NoMemory>
         ensures pushed { IfOk result (λ _. self.new ≡ self.old ++ arc_value shelf.now) }
     {
@@ -90,8 +90,8 @@ impl<T: Clone + Drop> Builder<T> {
         self.closed.push_shelf(Arc::try_clone(shelf)?)
     }
 
-    /// Whether a shelf's blocks are appended one by one, and it isn't shared. The shelf after it has so
-    /// many blocks.
+    /// Whether the blocks of an inner node are appended one by one, so that the node isn't shared. The next
+    /// inner node has `after` blocks.
     fn opens(&self, shelf: &InnerNode<T>, after: usize) -> bool {
         let newest = usize::from(!self.newest.is_empty());
         let before = self.closed.open_blocks().saturating_add(newest);
@@ -123,8 +123,8 @@ impl<T: Clone + Drop> Builder<T> {
         }
     }
 
-    /// Appends the items of a list from a place on, below another place: those of a shelf, or as many
-    /// as stand together in a block. Gives the place up to which they are appended.
+    /// Appends the items of a list from place `at` on and below place `to`: those of one inner node or of one
+    /// block, or part of a block. Returns the place up to which it appended them.
     fn append_run(&mut self, list: &BlockList<T>, at: usize, to: usize) -> Result<usize, NoMemory>
         requires order { at < to }
         requires within { to ≤ length list.now.items }
@@ -145,10 +145,10 @@ impl<T: Clone + Drop> Builder<T> {
         Ok(end)
     }
 
-    /// Appends the items of a list from place `from` on and below place `to`. Shelves and blocks that
-    /// are whole there are shared, but small ones are put together with their neighbours. It costs the
-    /// items of the blocks at both places, the blocks of the shelves at both places and beside them, and
-    /// the number of shelves.
+    /// Appends the items of a list from place `from` on and below place `to`. Shares the inner nodes and
+    /// blocks that are whole there, but merges small ones with their neighbors. It costs the items of the
+    /// blocks at both places, the blocks of the inner nodes at both places and beside them, and the number of
+    /// inner nodes.
     pub fn append(&mut self, list: &BlockList<T>, from: usize, to: usize) -> Result<(), NoMemory>
         requires order { from ≤ to }
         requires within { to ≤ length list.now.items }
@@ -204,14 +204,14 @@ fn close_block<T: Drop>(
     closed.push(Arc::new(alloc, Block::of(items))?)
 }
 
-/// Whether a block of so many items, or a shelf of so many blocks, is put together with those that
-/// stand open before it, where one holds at most so many; else it is shared. Where none stand open, a
-/// small one is opened, unless the one after it wouldn't fit: so to append a list again opens nothing.
+/// Whether a block of `len` items, or an inner node of `len` blocks, is merged with the open ones before it.
+/// One holds at most `most`. Otherwise it is shared. If none are open, a small one is opened, unless the one
+/// after it wouldn't fit: so appending a list again opens nothing.
 ///
-/// Blocks, and likewise shelves, are half full on average, the last one apart: one that isn't stands
-/// beside another with which it doesn't fit into one. Blocks on different shelves aren't put together,
-/// so two blocks of each shelf are left out of that. However often items are replaced, there are on
-/// average at least 32 blocks a shelf and 30 items a block.
+/// Blocks, and likewise inner nodes, are half full on average, except the last one: a smaller one has a
+/// neighbor with which it doesn't fit into one. Blocks of different inner nodes aren't merged, so this leaves
+/// out two blocks of each inner node. However often items are replaced, there are on average at least 32
+/// blocks per inner node and 30 items per block.
 fn is_merged(before: usize, len: usize, after: usize, most: usize) -> bool {
     if 0 < before {
         before.saturating_add(len) <= most

@@ -1,4 +1,4 @@
-//! Shelves: blocks that stand together, so that a list shares many of them at once.
+//! Inner nodes: runs of blocks, so that a list shares many blocks at once.
 ghost use Rattle.std.specs.Prelude.{◌≡◌, ◌<◌, ◌≤◌, [], ◌++◌, length, IfOk, IfSome};
 ghost use Rattle.std.specs.Arc.{arc_value};
 ghost use Rattle.block_list.specs.Blocks.{IsRun, IsRunFrom, most_items};
@@ -11,16 +11,16 @@ use std::mem;
 use std::sync::Arc;
 use ts_schema::NoMemory;
 
-/// The greatest number of blocks of a shelf.
+/// The greatest number of blocks of an inner node.
 pub(crate) const SHELF_LEN: usize = 64;
 
-/// Blocks, one after another.
+/// Blocks, in order.
 pub(crate) type InnerNode<T> = Parts<Block<T>>;
 
-/// Shelves, one after another.
+/// Inner nodes, in order.
 type Shelves<T> = Parts<InnerNode<T>>;
 
-/// Blocks on shelves that grow: all shelves but the last are closed, and the last is open.
+/// Blocks in inner nodes that grow: all inner nodes but the last are closed, and the last is open.
 #[derive(Drop, Debug)]
 pub(crate) struct NodeBuilder<T> {
     alloc: Global,
@@ -48,7 +48,7 @@ impl<T: Drop> NodeBuilder<T> {
         }
     }
 
-    /// How many blocks stand on the open shelf: fewer than make it full.
+    /// How many blocks the open inner node has: too few to make it full.
     pub(crate) fn open_blocks(&self) -> usize {
         self.last.count()
     }
@@ -64,7 +64,7 @@ impl<T: Drop> NodeBuilder<T> {
         close_shelf(self.alloc, &mut self.shelves, &mut self.last)
     }
 
-    /// Closes the open shelf, and appends a shelf.
+    /// Closes the open inner node, and appends another one.
     pub(crate) fn push_shelf(&mut self, shelf: Arc<InnerNode<T>>) -> Result<(), NoMemory>
         ensures { IfOk result (λ _. self.new ≡ self.old ++ arc_value shelf) }
     {
@@ -88,7 +88,7 @@ impl<T: Drop> NodeBuilder<T> {
     }
 }
 
-/// Puts the open shelf behind all others, so that no block is on it.
+/// Appends the open inner node to the closed ones, and leaves an open one without blocks.
 fn close_shelf<T: Drop>(
     alloc: Global,
     shelves: &mut Shelves<T>,
@@ -104,7 +104,7 @@ fn close_shelf<T: Drop>(
     shelves.push(Arc::new(alloc, shelf)?)
 }
 
-/// The block on shelves that begins at place `at` and ends at or before `end`, if one does.
+/// The block of these inner nodes that begins at place `at` and ends at or before `end`, if there is one.
 fn block_on<T>(shelves: &Shelves<T>, at: usize, end: usize) -> Option<&Arc<Block<T>>>
     requires within { at < length shelves.now }
     requires order { at ≤ end }
@@ -115,7 +115,7 @@ fn block_on<T>(shelves: &Shelves<T>, at: usize, end: usize) -> Option<&Arc<Block
     shelf.items().whole_at(at - start, end - start)
 }
 
-/// Blocks on shelves that are shared.
+/// Blocks in inner nodes that are shared.
 #[derive(Drop, Debug)]
 pub(crate) struct Blocks<T> {
     shelves: Option<Arc<Shelves<T>>>,
@@ -172,7 +172,7 @@ impl<T> Blocks<T> {
         }
     }
 
-    /// The shelf that begins at place `at` and ends at or before `end`, if one does.
+    /// The inner node that begins at place `at` and ends at or before `end`, if there is one.
     pub(crate) fn shelf_at(&self, at: usize, end: usize) -> Option<&Arc<InnerNode<T>>>
         requires within { at < length self.now }
         requires order { at ≤ end }

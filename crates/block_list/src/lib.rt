@@ -1,15 +1,15 @@
-//! Lists in blocks that are shared. A copy of a list all of whose items are shared is a count: it copies no item, and
-//! counts one sharer more. Blocks stand on shelves that are shared too, so a change copies the blocks that it changes,
-//! the lists of blocks of the shelves where it is, and the list of shelves.
+//! Lists in shared blocks. If all items of a list are shared, a copy of the list copies no item and only
+//! counts one more sharer. Blocks are in inner nodes, which are shared too. So a change copies only the
+//! blocks that it changes, the lists of blocks of their inner nodes, and the list of inner nodes.
 //!
 //! - `blocks`: blocks of items.
-//! - `parts`: parts of a list, as blocks of a shelf or shelves, and where each of them begins.
-//! - `inner_nodes`: blocks on shelves, growing and shared.
+//! - `parts`: parts of a list, as blocks of an inner node or as inner nodes, and where each of them begins.
+//! - `inner_nodes`: blocks in inner nodes, growing and shared.
 //! - `lists`: lists, and one more item without memory.
 //! - `runs`: items of a list from a place on.
 //! - `builders`: lists made of runs of others and of new items.
-//! - `iter`: the items of a list, one after another.
-//! - `slices`: items of a list that stand together, as a list of their own.
+//! - `iter`: the items of a list, in order.
+//! - `slices`: consecutive items of a list, as a separate list.
 #![tactic(auto)]
 
 mod blocks;

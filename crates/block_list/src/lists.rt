@@ -16,11 +16,11 @@ use std::marker::Model;
 use std::sync::Arc;
 use ts_schema::NoMemory;
 
-/// A list of items in blocks of at most 64, which stand on shelves of at most 64. Contracts see it as
-/// the list of its items, and for how many more there is room.
+/// A list of items in blocks of at most 64, which are in inner nodes of at most 64 blocks. Contracts see it
+/// as the list of its items, and how many more there is room for.
 ///
-/// Its shelves are shared with its copies. What was pushed since it was last `share` is its own
-/// alone, and a copy copies that.
+/// Copies share its inner nodes. They don't share the items pushed since the last `share`: a copy copies
+/// those.
 #[derive(Drop, Debug)]
 pub struct BlockList<T> {
     alloc: Global,
@@ -124,8 +124,8 @@ impl<T> BlockList<T> {
 }
 
 impl<T: Clone + Drop> BlockList<T> {
-    /// The same list again. It is a count, but for the items that were pushed since the list was
-    /// last `share`. Its room may differ.
+    /// The same list again. Counts one more sharer, and copies only the items pushed since the last `share`.
+    /// The room of the copy may differ.
     pub fn copy(&self) -> Result<BlockList<T>, NoMemory>
         requires faithful { (x y : T) → T.is_clone x y → x ≡ y }
         ensures items { IfOk result (λ copy. copy.items ≡ self.now.items) }
@@ -149,9 +149,9 @@ impl<T: Clone + Drop> BlockList<T> {
         Ok(Slice::of(self.copy()?, from, to))
     }
 
-    /// The same list, all of whose items are shared from here on, so that a copy of it is a count.
-    /// It costs a block, and once in a block of new items the blocks of the last shelf and the number
-    /// of shelves too.
+    /// The same list with all items shared, so that a copy of it only counts one more sharer. It costs a
+    /// block and, once per block of new items, the blocks of the last inner node and the number of inner
+    /// nodes.
     pub fn share(&self) -> Result<BlockList<T>, NoMemory>
         requires faithful { (x y : T) → T.is_clone x y → x ≡ y }
         ensures items { IfOk result (λ shared. shared.items ≡ self.now.items) }
@@ -170,8 +170,8 @@ impl<T: Clone + Drop> BlockList<T> {
         Ok(BlockList::of_blocks(alloc, blocks, newest))
     }
 
-    /// Blocks of the items, and one more after them. It costs the list's own items, the blocks of the
-    /// last shelf, and the number of shelves.
+    /// The blocks of the items, and one more block after them. It costs the items that aren't shared, the
+    /// blocks of the last inner node, and the number of inner nodes.
     fn in_blocks(&self) -> Result<(Blocks<T>, Arc<Block<T>>), NoMemory>
         requires faithful { (x y : T) → T.is_clone x y → x ≡ y }
         ensures items { IfOk result (λ (blocks, newest). blocks ++ arc_value newest ≡ self.now.items) }
@@ -222,9 +222,9 @@ impl<T: Clone + Drop> BlockList<T> {
         Ok(())
     }
 
-    /// The list with these items in place of those from place `from` on and below place `to`. It
-    /// costs the items of the blocks at both places, the new items, the blocks of the shelves at both
-    /// places and beside them, and the number of shelves.
+    /// The list with these items instead of those from place `from` on and below place `to`. It costs the
+    /// items of the blocks at both places, the new items, the blocks of the inner nodes at both places and
+    /// beside them, and the number of inner nodes.
     pub fn replace(&self, from: usize, to: usize, items: &[T]) -> Result<BlockList<T>, NoMemory>
         requires order { from ≤ to }
         requires within { to ≤ length self.now.items }
@@ -240,7 +240,7 @@ impl<T: Clone + Drop> BlockList<T> {
 }
 
 impl<T> BlockList<T> {
-    /// The shelf that begins at place `at` and ends at or before `end`, if one does.
+    /// The inner node that begins at place `at` and ends at or before `end`, if there is one.
     pub(crate) fn shelf_at(&self, at: usize, end: usize) -> Option<&Arc<InnerNode<T>>>
         requires { at ≤ end }
         ensures { IfSome result (λ shelf. IsRun self.now.items at end (arc_value shelf.now)) }

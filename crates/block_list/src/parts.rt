@@ -8,10 +8,10 @@ use std::marker::Model;
 use std::sync::Arc;
 use ts_schema::NoMemory;
 
-/// The greatest number of items that stand in parts.
+/// The greatest number of items in parts.
 const MOST_ITEMS: usize = 4_611_686_018_427_387_904;
 
-/// What has items, which stand together in runs: a block, or parts that have items themselves.
+/// What has items in runs: a block, or parts that have items themselves.
 pub(crate) trait Items {
     ghost use Rattle.std.specs.Prelude.{List};
 
@@ -26,13 +26,13 @@ pub(crate) trait Items {
         ensures len { result ≡ length (items self.now) }
         ensures small { result ≤ most_items };
 
-    /// The items from place `i` on that stand together.
+    /// The items from place `i` on, up to the end of their run.
     fn run_at(&self, i: usize) -> &[Self::Item]
         requires { i < length (items self.now) }
         ensures { IsRunFrom (items self.now) i result.now };
 }
 
-/// A part of a list, which is shared, and how many of the list's items stand before it.
+/// A part of a list, which is shared, and how many of the list's items are before it.
 #[derive(Drop, Debug)]
 pub(crate) struct Part<S: Items> {
     start: usize,
@@ -49,14 +49,14 @@ impl<S: Items> Model for Part<S> {
 }
 
 impl<S: Items> Part<S> {
-    /// The part with these items, before which so many stand.
+    /// The part with these items, and with `start` items of the list before it.
     fn of(start: usize, items: Arc<S>) -> Part<S>
         ensures { result ≡ record { start = start; items = S.items (arc_value items) } }
     {
         Part { start, items }
     }
 
-    /// How many of the list's items stand before it.
+    /// How many of the list's items are before it.
     pub(crate) fn start(&self) -> usize
         ensures { result ≡ self.now.start }
     {
@@ -94,7 +94,7 @@ fn part_of<S: Items>(parts: &[Part<S>], i: usize) -> &Part<S>
     &parts[place]
 }
 
-/// Parts, one after another.
+/// Parts, in order.
 #[derive(Drop, Debug)]
 pub(crate) struct Parts<S: Items> {
     len: usize,
@@ -138,7 +138,7 @@ impl<S: Items> Parts<S> {
         part_of(&self.parts, i)
     }
 
-    /// The part that begins at place `at` and ends at or before `end`, if one does.
+    /// The part that begins at place `at` and ends at or before `end`, if there is one.
     pub(crate) fn whole_at(&self, at: usize, end: usize) -> Option<&Arc<S>>
         requires within { at < length self.now }
         requires order { at ≤ end }

@@ -1,4 +1,4 @@
-//! Items of a list from a place on and below another, as a list of their own.
+//! Items of a list from a place on and below another, as a separate list.
 ghost use Rattle.std.specs.Prelude.{◌≡◌, ◌==◌, ◌-◌, ◌<◌, ◌≤◌, ◌^◌, [], length, take, drop};
 
 use crate::iter::Iter;
@@ -6,8 +6,7 @@ use crate::lists::BlockList;
 use std::alloc::Global;
 use std::marker::Model;
 
-/// Items of a list that stand together, in the blocks that they are in, which it shares with the list.
-/// Contracts see them as a list.
+/// Consecutive items of a list. It shares their blocks with the list. Contracts see them as a list.
 #[derive(Drop, Debug)]
 pub struct Slice<T> {
     list: BlockList<T>,
@@ -63,7 +62,7 @@ impl<T> Slice<T> {
         self.len() == 0
     }
 
-    /// The items, one after another.
+    /// The items, in order.
     pub fn iter(&self) -> Iter<'_, T>
         ensures items { result ≡ self.now }
     {

@@ -1,4 +1,4 @@
--- The cells of a row stand for the moved row.
+-- The cells of a row represent the moved row.
 use Rattle.std.proofs.Common.{◌≡◌, ℕ, zero, suc, ◌+◌, ◌<◌, ◌≤◌, ◌&&◌, List, [], ◌∷◌, ◌++◌, map, take, drop, length, get_or, Option, Some, None, unwrap_or, IsSomeAnd, IsTrue, sym, subst, ap, refl, ◌∙◌, arith, ℤ, pos}
 use Rattle.std.specs.Prelude.{nat_lt}
 use Rattle.std.specs.List.{AllByRecursion}

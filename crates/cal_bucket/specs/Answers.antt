@@ -19,7 +19,7 @@ abbrev pub occurring_names : (ℤ → ℤ) → Fold → List Row → List ℤ
 occurring_names name fold rows =
     once int_cmp (map (λ row. name row.at) (filter (λ row. passes_all row fold.tests) rows))
 
--- the aggregation from scratch, with a name for each time's bucket in place of a width
+-- the aggregation from scratch, with a name for each time's bucket instead of a width
 abbrev pub named_rows : (ℤ → ℤ) → Fold → List Row → List (List Datum)
 named_rows name fold rows =
     flat_map (λ b. group_rows fold b (rows_named name fold b rows)) (occurring_names name fold rows)

@@ -1,4 +1,4 @@
--- How the code groups by the cells of a row: each column stands at its place among them.
+-- How the code groups by the cells of a row: each column has its place among them.
 use Rattle.std.specs.Prelude.{ℕ, ◌-◌, ◌==◌, nat_le, if◌then◌else◌, cond, List, map}
 use Rattle.ts_num.specs.declared.values.Datum.{Datum}
 use Rattle.partial_agg.specs.declared.groups.Group.{Group}

@@ -15,8 +15,8 @@ use std::alloc::Global;
 use ts_model::{Answer, ResultRows};
 use ts_schema::{NoMemory, Seq};
 
-/// The rows of a table, which `lower` shows, grouped by buckets of the calendar. Its counts and sums are never too
-/// great, since the rows show numbers of 64 bits: it ends for want of memory alone.
+/// The rows of a table, which `lower` shows, grouped by buckets of the calendar. Its counts and sums never
+/// overflow, since the rows show numbers of 64 bits: the only error is out of memory.
 pub fn cal_answer(alloc: Global, plan: &CalPlan, lower: &Answer) -> Result<Answer, NoMemory>
     requires number { IsNumber plan.now.number }
     requires columns { IsTrue (columns_are_there most_columns plan.now.fold) }

@@ -46,7 +46,7 @@ pub(crate) fn gather<'a>(
     Ok(gathered)
 }
 
-/// Takes a row in, where it passes every test. `bucket` is that of a row before it, and then its own.
+/// Adds a row, if it matches every test. `bucket` is that of a row before it, and then its own.
 #[inline(always)]
 fn take_row<'a>(
     alloc: Global,

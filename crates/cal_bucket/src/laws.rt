@@ -20,7 +20,7 @@ pub fn months_part_the_times()
     ensures one { EachHasOneMonth }
 {}
 
-/// Every 4,800 months the calendar comes again, 400 years later.
+/// The calendar repeats every 4,800 months, which are 400 years.
 pub fn four_hundred_years_are_alike()
     ensures { FourHundredYears }
 {}
@@ -30,7 +30,7 @@ pub fn each_has_one_bucket()
     ensures { EachHasOneBucket }
 {}
 
-/// The bucket of some months is named by the greatest start that may name it.
+/// The name of a bucket of some months is the greatest possible start that isn't above the time.
 pub fn month_buckets_are_greatest()
     ensures { MonthBucketsAreGreatest }
 {}
@@ -42,7 +42,7 @@ pub fn weeks_start_on_mondays()
     ensures mondays { WeeksStartOnMondays }
 {}
 
-/// The name that answers have for the bucket of a time is that of its bucket.
+/// The name that answers use for the bucket of a time names that bucket.
 pub fn names_are_of_buckets()
     ensures { NamesAreOfBuckets }
 {}
@@ -52,7 +52,7 @@ pub fn columns_show_rows()
     ensures { ColumnsShowRows }
 {}
 
-/// Rows that fit a hypertable are what `cal_answer` takes.
+/// `cal_answer` accepts the rows that fit a hypertable.
 pub fn fitting_rows_are_shown()
     ensures { FittingRowsAreShown }
 {}

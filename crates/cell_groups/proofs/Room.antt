@@ -142,7 +142,7 @@ words_at [] at d h words = absurd (omega (arith, h))
 words_at (g ∷ gs) zero d h words = words.0
 words_at (g ∷ gs) (suc at) d h words = words_at gs at d (omega (arith, h)) words.1
 
--- one more row, in a group of its own
+-- one more row, in a new group
 pub rows_pushed : (n : ℕ) (gs : List Group) (g : Group) → AreOfRows n gs → taken_by g.parts ≤ 1 → AllByRecursion IsOfWords g.parts → AreOfRows (n + 1) (gs ++ g ∷ [])
 rows_pushed n gs g rows one words = record {
   few = omega (arith, sum_by_push (λ x. taken_by x.parts) gs g, rows.few, one);
@@ -168,7 +168,7 @@ row_kept n gs at d row rows within few one words =
     all_kept (n + 1) (joined_parts (get_or gs at d).parts row) few (omega (arith, most, here, rows.few, one))
     (all_words_joined (get_or gs at d).parts row (words_at gs at d within rows.words) words)
 
--- so many rows are no more than a greater number
+-- the bound on the number of rows may be raised
 pub rows_more : (m n : ℕ) (gs : List Group) → m ≤ n → AreOfRows m gs → AreOfRows n gs
 rows_more m n gs le rows = record { few = omega (arith, le, rows.few); words = rows.words }
 

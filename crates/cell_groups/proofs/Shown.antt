@@ -1,4 +1,4 @@
--- What is gathered from rows of cells is what is needed of the groups of the rows that they stand for.
+-- The groups of rows of cells show what is needed of the groups of the rows that the cells represent.
 use Rattle.std.proofs.Common.{◌≡◌, List, [], ◌∷◌, ◌++◌, map, Bool, cond, sym, refl, ap, ◌∙◌}
 use Rattle.std.specs.List.{AllByRecursion}
 use Rattle.ts_num.specs.Aggregates.{shown_or_null}
@@ -24,7 +24,7 @@ use Rattle.cell_groups.specs.Groups.{needed_group, rows_shown}
 use Rattle.cell_groups.specs.TakenRows.{taken_in, with_rows}
 use Rattle.cell_groups.proofs.KeptSummaries.{needed_shown, needed_with_group}
 
--- cells stand for a row of a fold: they pass where it passes, and what is needed of its group is theirs
+-- cells represent a row of a fold: they pass the tests if it does, and they give what is needed of its group
 pub record StandFor (fold : Fold) (aggs : List Agg) (passes : List Datum → Bool) (own : List Datum → Group) (row : List Datum → Row) (cells : List Datum) : Type 0 where
   pub tests : passes cells ≡ passes_all (row cells) fold.tests
   pub group : own cells ≡ needed_group aggs (row_group fold (row cells))

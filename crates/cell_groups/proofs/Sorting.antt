@@ -71,7 +71,7 @@ pub groups_last : (gs : List Group) (g : Group) (hs : List Group) → with_group
 groups_last [] g hs = refl
 groups_last (x ∷ gs) g hs = ap (with_group x) (groups_last gs g hs)
 
--- where a group stands at or before the first of others, so does what stands at or before the group, once it is in
+-- a group at or before another, and at or before the first of a list, stays so when the other is put into the list
 not_after_put : (x g : Group) (hs : List Group) → is_gt (group_cmp x g) ≡ false → IsNotAfter g hs → IsNotAfter x (with_group g hs)
 not_after_put x g [] p h = p
 not_after_put x g (y ∷ hs) p h =

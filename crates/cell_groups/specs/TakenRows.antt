@@ -32,7 +32,7 @@ place_cmp shape g h = group_cmp (as_group shape g) (as_group shape h)
 abbrev pub row_cmp : Shape → CellGroup → ℤ → List Datum → Ordering
 row_cmp shape g b cells = group_cmp (as_group shape g) (cells_at shape b cells)
 
--- the group of a row's bucket and keys stands at a place
+-- the group of a row's bucket and keys is at a place
 pub record IsRowAt (shape : Shape) (b : ℤ) (cells : List Datum) (groups : List CellGroup) (at : ℕ) : Type 0 where
   pub within : at < length groups
   pub same : (d : CellGroup) → row_cmp shape (slice_index_or groups at d) b cells ≡ Equal
@@ -52,7 +52,7 @@ IsPlace shape b cells groups (At at) = IsRowAt shape b cells groups at
 IsPlace shape b cells groups End = ComesLast shape b cells groups
 IsPlace shape b cells groups Unknown = ⊤
 
--- a group stands at or before the first of others
+-- a group is at or before the first of others
 abbrev pub IsNotAfter : Group → List Group → Type 0
 IsNotAfter g [] = ⊤
 IsNotAfter g (x ∷ xs) = is_gt (group_cmp g x) ≡ false

@@ -15,7 +15,7 @@ use Rattle.cell_groups.specs.Groups.{as_group, parts_of, rows_shown}
 use Rattle.cell_groups.specs.KeptSummaries.{as_parts, row_tallies}
 use Rattle.cell_groups.specs.TakenRows.{row_cmp}
 
--- the result rows that have been written, whose cells stand one row after another
+-- the result rows that have been written, whose cells are in one list, row after row
 abbrev pub rows_written : WrittenGroups → List (List Datum)
 rows_written w = parts 0 w.ends.items w.cells.items
 

@@ -8,8 +8,8 @@ use std::marker::Model;
 use ts_model::ResultRow;
 use ts_schema::{Cmp, Test};
 
-/// The cells of a row of an answer, but for so many at its start. Contracts see them as a list. Where a
-/// group shows the row no cell is made: what is asked for is read off the group.
+/// The cells of a row of an answer, without the first `skip`. Contracts see them as a list. If a group shows
+/// the row, no cell is created: each cell that is requested is read from the group.
 #[derive(Drop)]
 pub struct RowCells<'a> {
     row: ResultRow<'a>,

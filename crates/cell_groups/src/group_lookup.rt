@@ -1,4 +1,4 @@
-//! The groups of rows as they are taken in.
+//! The groups of rows while rows are added.
 ghost use Rattle.std.specs.Prelude.{◌≡◌, ◌++◌, ◌∷◌, ◌+◌, ◌<◌, ◌^◌, ℕ, [], Some, IsOkUnless, OnOk, false, true};
 ghost use Rattle.std.specs.declared.cmp.Ordering.TheVariants.{Equal, Less};
 ghost use Rattle.group_fold.specs.Gathering.{in_group_order};
@@ -18,7 +18,7 @@ use std::cmp::Ordering;
 use std::collections::HashMap;
 use ts_schema::NoMemory;
 
-/// Where the group of a row stands.
+/// The place of the group of a row.
 pub(crate) enum GroupSlot {
     /// At this place.
     At(usize),
@@ -28,20 +28,20 @@ pub(crate) enum GroupSlot {
     Unknown,
 }
 
-/// Groups as rows are taken in, in order while each new one comes behind all others. Nothing rests on
-/// `last`, `expected` and `places` but speed: what a place names is looked at before it is used, and a
-/// group may come up twice.
+/// Groups while rows are added, in order as long as each new one comes after all others. `last`, `expected`
+/// and `places` only make it fast: each place that they give is checked before it is used, and a group may
+/// occur twice.
 #[derive(Drop)]
 pub struct CellGroups<'a> {
     /// The groups so far.
     pub groups: Vec<CellGroup<'a>>,
-    /// Whether each group stands before the next. Where it doesn't say so, `places` has all of them.
+    /// Whether each group is before the next. If it is false, `places` has all of them.
     pub in_order: bool,
-    /// Where the group of the last row stands.
+    /// The place of the group of the last row.
     last: usize,
-    /// Where that of the next row may stand: as far from it as it is from the one before.
+    /// The expected place of the group of the next row: as far from `last` as `last` is from the one before.
     expected: usize,
-    /// Where a group may stand, by the print of its bucket and keys.
+    /// Where a group may be, by the hash of its bucket and keys.
     places: HashMap<u64, usize>,
 }
 
@@ -59,9 +59,9 @@ impl<'a> CellGroups<'a> {
         }
     }
 
-    /// Takes a row in: into the group of its keys in the bucket that starts at `start`, or as a group of its
-    /// own. Of fewer than `2^64` rows of 64-bit numbers no count and no sum is too great. After an error nothing is
-    /// known of the groups.
+    /// Adds a row to the group of its keys in the bucket that starts at `start`, or as a new group. For fewer
+    /// than `2^64` rows of 64-bit numbers no count and no sum is too great. After an error nothing is known
+    /// of the groups.
     pub fn take(
         &mut self,
         alloc: Global,
@@ -148,7 +148,7 @@ impl<'a> CellGroups<'a> {
         place_at(groups, at, shape, start, cells)
     }
 
-    /// Puts a group behind the others, after which it comes.
+    /// Appends a group that comes after the others.
     fn put_last(&mut self, group: CellGroup<'a>) -> Result<(), NoMemory>
         ensures groups { OnOk result (self.new.groups.items ≡ self.old.groups.items ++ group.entry ∷ []) }
         ensures order { self.new.in_order ≡ self.old.in_order }
@@ -159,7 +159,7 @@ impl<'a> CellGroups<'a> {
         Ok(())
     }
 
-    /// Puts a group that stands before some other behind the others.
+    /// Appends a group that comes before some other one.
     fn put(&mut self, shape: &Shape, group: CellGroup<'a>) -> Result<(), NoMemory>
         ensures groups { OnOk result (self.new.groups.items ≡ self.old.groups.items ++ group.entry ∷ []) }
         ensures order { OnOk result (self.new.in_order ≡ false) }
@@ -172,7 +172,7 @@ impl<'a> CellGroups<'a> {
         self.put_last(group)
     }
 
-    /// Notes where the groups stand, which aren't in order from here on.
+    /// Stores the places of the groups, which aren't in order from here on.
     fn note_places(&mut self, shape: &Shape) -> Result<(), NoMemory>
         ensures groups { self.new.groups.items ≡ self.old.groups.items }
         ensures order { self.new.in_order ≡ false }
@@ -188,7 +188,7 @@ impl<'a> CellGroups<'a> {
     }
 }
 
-/// How the group at a place compares with that of a row, if one stands there.
+/// How the group at a place compares with that of a row, if there is one at the place.
 #[inline(always)]
 fn order_at(
     groups: &[CellGroup<'_>],
@@ -204,7 +204,7 @@ fn order_at(
     Some(order_beside(shape, group, start, cells))
 }
 
-/// This place, where the group of a row stands there.
+/// This place, if the group of a row is there.
 #[inline(always)]
 fn place_at(
     groups: &[CellGroup<'_>],

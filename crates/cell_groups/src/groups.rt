@@ -13,8 +13,8 @@ use std::alloc::Global;
 use ts_model::Agg;
 use ts_schema::{NoMemory, Seq};
 
-/// A group of rows of an answer. It reads its keys off its first row, and takes no memory of its own until a
-/// second row comes.
+/// A group of rows of an answer. It reads its keys from its first row, and allocates nothing until a second
+/// row comes.
 #[derive(Drop)]
 pub struct CellGroup<'a> {
     /// The start of its bucket.

@@ -1,8 +1,8 @@
-//! Prints: numbers that rows of the same bucket and keys share, and others seldom do.
+//! Hashes: numbers that rows of the same bucket and keys share, and others seldom do.
 
 use crate::cells::RowCells;
 
-/// The print of a row, in the bucket that starts at `start`.
+/// The hash of a row, in the bucket that starts at `start`.
 pub(crate) fn print_of(keys: &[u32], start: i128, cells: &RowCells<'_>) -> u64 {
     let mut print = mix(0, Some(start));
     for key in keys {
@@ -11,7 +11,7 @@ pub(crate) fn print_of(keys: &[u32], start: i128, cells: &RowCells<'_>) -> u64 {
     print
 }
 
-/// A print with one more number.
+/// A hash with one more number.
 fn mix(print: u64, number: Option<i128>) -> u64 {
     let bits = match number {
         None => 0x5851_f42d_4c95_7f2d,

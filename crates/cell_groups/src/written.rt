@@ -107,7 +107,7 @@ impl<'a> WrittenGroups<'a> {
         }
     }
 
-    /// Goes on to the next group: the last one has ended.
+    /// Starts the next group. The last one has ended.
     fn begin(&mut self, shape: &Shape, next: CellGroup<'a>) -> Result<(), NoMemory>
         requires { AreRows self.old }
         ensures are_rows { OnOk result (AreRows self.new) }

@@ -42,7 +42,7 @@ module _ {X : Type 0} where
       let fits : end - from ≤ length cells = fit.1 in
       (fit.0, omega arith, subst (AreParts end (ends ++ last ∷ [])) (sym (drop-append-le (end - from) cells row fit.1)) (are_parts_pushed end last ends rest row fit.2 sum))
 
-  -- cells that were put at the end are a row once it is told where they end
+  -- cells that were appended at the end are a row once their end is stored
   pub row_ended : (ends_before ends : List ℕ) (before cells row : List X) (last : ℕ) → AreParts 0 ends_before before → cells ≡ before ++ row → last ≡ length cells → ends ≡ ends_before ++ last ∷ [] → AreParts 0 ends cells × (parts 0 ends cells ≡ parts 0 ends_before before ++ row ∷ [])
   row_ended ends_before ends before cells row last fit put at told =
       let same : last ≡ length (before ++ row) = at ∙ ap length put in

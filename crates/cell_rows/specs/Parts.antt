@@ -1,4 +1,4 @@
--- Rows of cells that stand one after another in one list, by where each of them ends.
+-- Rows of cells in one list, row after row, given by where each row ends.
 use Rattle.std.specs.Prelude.{◌≡◌, ℕ, ◌-◌, ◌≤◌, List, [], ◌∷◌, length, take, drop}
 
 module _ {X : Type 0} where

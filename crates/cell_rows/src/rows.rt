@@ -38,7 +38,7 @@ impl<T> CellRows<T> {
         }
     }
 
-    /// The rows whose cells stand one after another in `cells`, by where each of them ends.
+    /// The rows whose cells are in `cells`, row after row. `ends` is where each row ends.
     pub fn of(cells: Vec<T>, ends: Vec<usize>) -> CellRows<T>
         requires parts { AreParts 0 ends.items cells.items }
         ensures rows { result ≡ parts 0 ends.items cells.items }

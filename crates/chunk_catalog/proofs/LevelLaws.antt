@@ -32,7 +32,7 @@ doubled j n m h e = omega (arith, pow-suc 2 j, h, e)
 pub few_of : (l n l2 n2 : ℕ) → AreFew l n → l2 ≤ l → n ≤ n2 → AreFew l2 n2
 few_of l n l2 n2 few low wide k h = omega (arith, few k (omega (arith, h, low)), wide)
 
--- a segment beside a pile of two sides, of which the first is smaller than the second and the segment together
+-- a segment as the sibling of a fork whose left side is smaller than its right side and the segment together
 beside_segment : (la lb a b s : ℕ) → AreFew la (2 * a) → AreFew lb (2 * b) → (0 < lb → b ≤ a) → 0 < a → 0 < s → a < b + s → AreFew (suc (suc (max la lb))) (2 * (a + b + s))
 beside_segment la lb a b s fa fb lean some more less zero h = omega (arith, some)
 beside_segment la lb a b s fa fb lean some more less (suc zero) h = omega (arith, some, more)
@@ -81,7 +81,7 @@ even_grown l r new even few more lean some = record {
       (omega arith) (omega (arith, length-append l.0 new.0));
 }
 
--- two piles that are even hang side by side
+-- two segment trees that are even may be siblings
 pub fork_is : (left right l r : List Version × ℕ) (n : ℕ) (hull g h : Option HullValue) (dead d e : Option ℕ) → AreEven left right → l ≡ left → r ≡ right → n ≡ length left.0 + length right.0
     → g ≡ hull_of (rows_of left.0) → h ≡ hull_of (rows_of right.0) → hull ≡ joined_hull g h → d ≡ died_out left.0 → e ≡ died_out right.0 → dead ≡ later_death d e → IsFork l r n hull dead
 fork_is left right l r n hull g h dead d e even l_is r_is many g_is h_is hull_is d_is e_is dead_is = record {
@@ -91,11 +91,11 @@ fork_is left right l r n hull g h dead d e even l_is r_is many g_is h_is hull_is
   dead_is = rw (l_is, r_is, died_out-append left.0 right.0, ← d_is, ← e_is) dead_is;
 }
 
--- what a count tells of a pile that it is of
+-- a segment tree has few levels if there are few for the count of its versions
 pub few_for : (seen pile : List Version × ℕ) (n : ℕ) → seen ≡ pile → n ≡ length pile.0 → AreFew seen.1 (2 * n) → AreFew pile.1 (2 * length pile.0)
 few_for seen pile n same many few = few_of seen.1 (2 * n) pile.1 (2 * length pile.0) few (omega (arith, ap (λ d. d.1) same)) (omega (arith, many))
 
--- a delete leaves how two piles hang side by side
+-- two segment trees are still siblings after a delete
 pub fork_killed : (l r l2 r2 : List Version × ℕ) (n p : ℕ) (hull : Option HullValue) (old dead : Option ℕ) (tests : List Test) → IsFork l r n hull old
     → l2.0 ≡ map (after_kill p tests) l.0 → r2.0 ≡ map (after_kill p tests) r.0 → l2.1 ≡ l.1 → r2.1 ≡ r.1 → dead ≡ later_death (died_out l2.0) (died_out r2.0) → IsFork l2 r2 n hull dead
 fork_killed l r l2 r2 n p hull old dead tests fork left right left_levels right_levels dead_is =

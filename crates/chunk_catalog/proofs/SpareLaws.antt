@@ -1,4 +1,4 @@
--- Versions from which a delete takes nothing: all have died, or none has a time that passes.
+-- Versions from which a delete takes nothing: all are deleted already, or none has a time that passes.
 use Rattle.std.proofs.Common.{◌≡◌, ℕ, ℤ, pos, negsuc, true, false, cond, Option, Some, None, List, [], ◌∷◌, ◌++◌, ◌≤ℤ◌, refl, sym, ◌∙◌, ap, arith}
 use Rattle.std.specs.Prelude.{FitsSigned, nat_le}
 use Rattle.std.specs.Int.{w64}
@@ -52,7 +52,7 @@ module _ (r : TimeRange) (h : HullValue) (low : FitsSigned w64 h.least) (high : 
   pub none_apart : (vs : List Version) → Some h ≡ hull_of (rows_of vs) → taken_at p tests vs ≡ []
   none_apart vs e = none_within vs (within_joined (rows_of vs) None h e)
 
--- where all versions have died, nothing is taken from some of them
+-- if all versions are deleted, a delete takes nothing from any part of them
 pub none_reached : (r : TimeRange) (p : ℕ) (tests : List Test) (ps : List Placed) → is_dead_at p (died_out (versions_of ps)) ≡ true → taken_at p tests (versions_in r ps) ≡ []
 none_reached r p tests [] h = refl
 none_reached r p tests (x ∷ ps) h =

@@ -41,7 +41,7 @@ is_dropped interval n p v = visible_at p v && int_le (chunk_start interval v.row
 abbrev pub dropped_at : ℤ → ℤ → ℕ → List Version → List Row
 dropped_at interval n p vs = rows_of (filter (is_dropped interval n p) vs)
 
--- a version after a drop at p: it died there where it is dropped, and stays as it was elsewhere
+-- a version after a drop at p: deleted at p if it is dropped, and unchanged otherwise
 abbrev pub after_drop : ℤ → ℤ → ℕ → Version → Version
 after_drop interval n p v = cond (is_dropped interval n p v) (record { row = v.row; born = v.born; died = Some p }) v
 

@@ -17,7 +17,7 @@ pub record Levels : Type 0 where
 abbrev pub levels_over : Levels → ℕ → Levels → Levels
 levels_over l n r = record { chunks = suc (max l.chunks r.chunks); segments = max n (max l.segments r.segments) }
 
--- two trees may stand on both sides of a chunk: neither has two levels of chunks more than the other
+-- two trees may be the two sides of a chunk: neither has two levels of chunks more than the other
 pub record AreLevel (l r : Levels) : Type 0 where
   pub left : l.chunks ≤ suc r.chunks
   pub right : r.chunks ≤ suc l.chunks
@@ -56,9 +56,9 @@ no_tree = ([], record { chunks = 0; segments = 0 })
 abbrev pub tree_over : TreeValue → Kept → TreeValue → TreeValue
 tree_over l chunk r = (l.0 ++ in_chunk chunk.start chunk.versions ++ r.0, levels_over l.1 chunk.levels r.1)
 
--- what holds of a chunk between two trees, with a hull, a number of levels and a position: the starts lie in the hull,
--- the number is that of the levels of chunks, both sides are level, there are few levels, and at the position the last
--- version died
+-- what is true of a chunk between two trees, with a hull, a number of levels and a position: the starts are in the
+-- hull, the number is that of the levels of chunks, both sides are level, there are few levels, and the position is
+-- that of the last delete
 pub record IsOver (l : TreeValue) (chunk : Kept) (r : TreeValue) (starts : HullValue) (height : ℕ) (dead : Option ℕ)
     : Type 0 where
   pub starts_in : StartsIn (Some starts) (tree_over l chunk r).0

@@ -8,7 +8,7 @@ use Rattle.ts_bucket.specs.Bucket.{is_time}
 use Rattle.ts_bucket.specs.Chunks.{chunk_start}
 use Rattle.chunk_catalog.specs.Places.{Placed, place}
 
--- rows born at p, each in the chunk that holds its time
+-- rows inserted at p, each in the chunk that holds its time
 abbrev pub placed_row : ℤ → ℕ → Row → Placed
 placed_row interval p row = place (chunk_start interval row.at) (newborn p row)
 

@@ -1,4 +1,4 @@
--- A pile of segments: its versions in order, how many levels it has, and what holds of it.
+-- A segment tree: its versions in order, how many levels it has, and what is true of it.
 use Rattle.std.specs.Prelude.{◌≡◌, ℕ, suc, zero, ◌*◌, ◌<◌, ◌≤◌, max, List, ◌++◌, length, Option}
 use Rattle.ts_bucket.specs.Spans.{HullValue}
 use Rattle.seg_rows.specs.Hulls.{hull_of}
@@ -11,14 +11,14 @@ abbrev pub pile_view : Shape → List Version × ℕ
 pile_view (Leaf s) = (s, zero)
 pile_view (Fork l r n hull dead) = (l.value.0 ++ r.value.0, suc (max l.value.1 r.value.1))
 
--- two piles may hang side by side: the later one is a segment or no larger than the earlier one, and there are few
+-- two segment trees may be siblings: the later one is a segment or no larger than the earlier one, and there are few
 -- levels
 pub record AreEven (l r : List Version × ℕ) : Type 0 where
   pub lean : 0 < r.1 → length r.0 ≤ length l.0
   pub few : AreFew (suc (max l.1 r.1)) (2 * length (l.0 ++ r.0))
 
--- two piles side by side, with the count of their versions, the hull of their times, and the position at which the last
--- one died
+-- two segment trees as siblings, with the count of their versions, the hull of their times, and the position of the
+-- last delete
 pub record IsFork (l r : List Version × ℕ) (count : ℕ) (hull : Option HullValue) (dead : Option ℕ) : Type 0 where
   pub even : AreEven l r
   pub counted : count ≡ length (l.0 ++ r.0)

@@ -52,12 +52,12 @@ impl Model for Chunks {
     ghost invariant = { λ c. IsKept c.interval c.tree.0 c.count };
 }
 
-/// What a delete made of chunks.
+/// What a delete left of the chunks.
 #[derive(Drop)]
 pub struct KilledChunks {
     /// The chunks after it.
     pub chunks: Chunks,
-    /// How many versions died.
+    /// How many versions were deleted.
     pub removed: u64,
     /// The hull of their times.
     pub hull: Option<Hull>,
@@ -128,8 +128,7 @@ impl Chunks {
         let _few = self.tree.height();
     }
 
-    /// The chunks with rows that are born at a position, which is at least those of the earlier
-    /// changes.
+    /// The chunks with rows inserted at a position, which is at least those of the earlier changes.
     fn put(&self, rows: SharedSlice<Row>, pos: u64) -> Result<Chunks, NoMemory>
         requires times { HaveTimes rows }
         ensures interval { IfOk result (λ chunks. chunks.interval ≡ self.now.interval) }
@@ -148,10 +147,10 @@ impl Chunks {
         })
     }
 
-    /// The chunks with rows that are born at a position, which is at least those of the earlier changes. Each row
-    /// has a time in the range of times. Rows are taken in pieces of up to 1,024: a piece whose times are in order
-    /// is shared with the list, and of any other a sorted copy is made. More than 2^62 versions in all are answered
-    /// as want of memory.
+    /// The chunks with rows inserted at a position, which is at least those of the earlier changes. Each row
+    /// has a time in the range of times. Takes the rows in pieces of up to 1,024: shares a piece whose times
+    /// are in order with the list, and copies and sorts any other. Fails as out of memory for more than 2^62
+    /// versions in all.
     pub fn put_shared(&self, rows: &SharedSlice<Row>, pos: u64) -> Result<Chunks, NoMemory>
         requires times { HaveTimes rows.now }
         ensures interval { IfOk result (λ chunks. chunks.interval ≡ self.now.interval) }

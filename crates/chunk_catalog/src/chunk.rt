@@ -70,7 +70,7 @@ impl Chunk {
         self.pile.count()
     }
 
-    /// The position at which the last version died, where none lives on.
+    /// The position of the last delete, if all versions are deleted.
     pub fn died_out(&self) -> Option<u64>
         ensures dead { result ≡ died_out self.now.versions }
     {

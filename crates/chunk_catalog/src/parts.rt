@@ -21,8 +21,8 @@ struct Part {
     rows: SharedSlice<Row>,
 }
 
-/// A tree with rows that are born at a position, each in the chunk that holds its time. Where they stand in
-/// the order of their times, the segments share them with their list.
+/// A tree with rows inserted at a position, each in the chunk that holds its time. Rows in the order of their
+/// times are shared with their list.
 pub fn put_rows(
     alloc: Global,
     tree: &Tree,
@@ -64,7 +64,7 @@ fn sorted_rows(rows: Seq<Row>) -> Result<Vec<Row>, NoMemory>
     Ok(items)
 }
 
-/// A tree with the rows of one chunk, born at a position.
+/// A tree with the rows of one chunk, inserted at a position.
 fn put_part(alloc: Global, tree: &Tree, part: Part, pos: u64) -> Result<Tree, NoMemory>
     requires some { 0 < length part.rows }
     requires countable { length tree.now.0 + length part.rows < 2 ^ 64 }

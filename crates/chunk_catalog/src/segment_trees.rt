@@ -24,8 +24,9 @@ use ts_schema::{NoMemory, Row, Seq, Steps, Test};
 /// Segments that together have at most so many versions are joined in any case.
 const FEW: u64 = 16;
 
-/// No joined segment has more versions. With so many a segment costs a scan little beside its rows. To join larger
-/// ones would copy each row, which they share with the list that came in, and keep where each was born.
+/// No joined segment has more versions. With so many, a scan spends little on a segment beside its rows. To
+/// join larger segments would copy each row, although they share it with the list that came in, and store
+/// where each was inserted.
 const MANY: u64 = 64;
 
 /// Segments in order. Contracts see their versions, and how many levels there are.
@@ -39,8 +40,8 @@ pub struct SegmentTree {
 #[derive(Drop)]
 enum Shape {
     Leaf(Segment),
-    /// The earlier segments, the later ones, how many versions there are, the hull of their times, and
-    /// the position at which the last one died, where none lives on.
+    /// The earlier segments, the later ones, how many versions there are, the hull of their times, and the
+    /// position of the last delete, if all versions are deleted.
     Fork(Arc<SegmentTree>, Arc<SegmentTree>, u64, Option<Hull>, Option<u64>),
 }
 
@@ -63,7 +64,7 @@ impl Model for SegmentTree {
     ghost size_decreases = { λ a h. Prim.grind arith };
 }
 
-/// What a delete made of a pile.
+/// What a delete left of a segment tree.
 #[derive(Drop)]
 pub struct KilledSegmentTree {
     pub pile: SegmentTree,
@@ -72,7 +73,7 @@ pub struct KilledSegmentTree {
 }
 
 impl SegmentTree {
-    /// The pile of one segment, which has a version.
+    /// The segment tree of one segment, which has a version.
     pub fn of(segment: Segment) -> SegmentTree
         requires some { 0 < length segment }
         ensures versions { result.0 ≡ segment }
@@ -105,7 +106,7 @@ impl SegmentTree {
         }
     }
 
-    /// The position at which the last version died, where none lives on.
+    /// The position of the last delete, if all versions are deleted.
     pub fn died_out(&self) -> Option<u64>
         ensures dead { result ≡ died_out self.now.0 }
     {
@@ -142,7 +143,7 @@ impl SegmentTree {
         has_died(self.died_out(), pos) || is_no_later(greatest_time(self.hull()), best)
     }
 
-    /// The same pile again.
+    /// The same segment tree again.
     pub fn copy(&self) -> Result<SegmentTree, NoMemory>
         ensures same { IfOk result (λ copy. copy ≡ self.now) }
     {
@@ -162,7 +163,7 @@ impl SegmentTree {
         }
     }
 
-    /// The pile with one more segment at its end, which has a version.
+    /// The segment tree with one more segment at its end, which has a version.
     pub fn append(&self, alloc: Global, segment: Segment) -> Result<SegmentTree, NoMemory>
         requires some { 0 < length segment }
         requires countable { length self.now.0 + length segment < 2 ^ 64 }
@@ -182,7 +183,7 @@ impl SegmentTree {
         }
     }
 
-    /// The segment of a pile that is one, joined with that of another, where both are small.
+    /// The segment of a tree that is a single one, joined with that of another tree, if both are small.
     fn join_segments(&self, other: &SegmentTree) -> Result<Option<Segment>, NoMemory>
         ensures joined { IfOk result (λ joined. IfSome joined (λ s. s ≡ self.now.0 ++ other.now.0)) }
     {
@@ -192,7 +193,7 @@ impl SegmentTree {
         }
     }
 
-    /// A segment joined with that of a pile that is one, where both are small.
+    /// A segment joined with that of a tree that is a single one, if both are small.
     fn joined_after(&self, first: &Segment) -> Result<Option<Segment>, NoMemory>
         ensures joined { IfOk result (λ joined. IfSome joined (λ s. s ≡ first.now ++ self.now.0)) }
     {
@@ -285,7 +286,7 @@ impl SegmentTree {
     }
 }
 
-/// A pile that a delete left alone.
+/// A segment tree from which a delete took nothing.
 fn unchanged_pile(pile: SegmentTree) -> KilledSegmentTree
     ensures pile { result.pile ≡ pile }
     ensures removed { result.removed ≡ 0 }
@@ -298,7 +299,7 @@ fn unchanged_pile(pile: SegmentTree) -> KilledSegmentTree
     }
 }
 
-/// One pile after another: as one segment where both are small ones.
+/// One segment tree after another: as one segment if both are small segments.
 fn beside(alloc: Global, left: SegmentTree, right: SegmentTree) -> Result<SegmentTree, NoMemory>
     requires even { AreEven left right }
     requires countable { length left.0 + length right.0 < 2 ^ 64 }
@@ -312,7 +313,7 @@ fn beside(alloc: Global, left: SegmentTree, right: SegmentTree) -> Result<Segmen
     }
 }
 
-/// Two piles side by side.
+/// The segment tree of two siblings.
 fn fork(alloc: Global, left: SegmentTree, right: SegmentTree) -> Result<SegmentTree, NoMemory>
     requires even { AreEven left right }
     requires countable { length left.0 + length right.0 < 2 ^ 64 }
@@ -346,7 +347,7 @@ fn is_joined(first: u64, second: u64) -> bool {
     both <= FEW || (both <= MANY && first / 2 <= second)
 }
 
-/// A pile as it became, or the old one where nothing was removed.
+/// A segment tree after a change, or the old one if nothing was removed.
 fn replace_if_changed(
     alloc: Global,
     old: &Arc<SegmentTree>,

@@ -30,8 +30,8 @@ pub struct Tree {
 #[derive(Drop)]
 enum Node {
     Empty,
-    /// The chunks before this one, this one, the chunks after it, the hull of all their starts, how
-    /// many levels there are, and the position at which the last version died, where none lives on.
+    /// The chunks before this one, this one, the chunks after it, the hull of all their starts, how many
+    /// levels there are, and the position of the last delete, if all versions are deleted.
     Fork(Arc<Tree>, Chunk, Arc<Tree>, Hull, u64, Option<u64>),
 }
 
@@ -100,7 +100,7 @@ impl Tree {
         }
     }
 
-    /// The position at which the last version died, where none lives on.
+    /// The position of the last delete, if all versions are deleted.
     fn died_out(&self) -> Option<u64>
         ensures dead { result ≡ died_out (versions_of self.now.0) }
     {

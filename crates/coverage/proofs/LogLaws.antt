@@ -48,7 +48,7 @@ before_next m q (Some p) e l = grind (arith, nat_tests)
 upto_is : (m q : ℕ) → nat_le q m ≡ true → is_above m (Some q) ≡ false
 upto_is m q e = grind (arith, nat_tests)
 
--- an entry after all others goes on rising
+-- a log still rises with an entry after all others
 pub rises_further : (m : ℕ) (p : Option ℕ) (log : List Noted) (hull : Hull) → is_above m p ≡ false → is_upto m log ≡ true → RisesFrom p log → RisesFrom p (log ++ (record { hull = hull; at = suc m } ∷ []))
 rises_further m p [] hull past upto r = (before_next m m p past (omega arith), tt)
 rises_further m p (entry ∷ log) hull past upto r =

@@ -32,7 +32,7 @@ put t = Commit (Insert 0 (record { at = pos t; vals = [] } ∷ []) ∷ [])
 abbrev cut : History
 cut = start ▸ Table (record { name = codes "m"; cols = record { name = codes "time"; must = true } ∷ [] }) ▸ Hyper 0 (record { at = 0; interval = pos 100 }) ▸ View counts ▸ put 15 ▸ Cut 0 (record { lo = pos 10; hi = pos 20 })
 
--- 6 touches the bucket again, 7 cuts it with its neighbours, and 8 touches the one above
+-- 6 touches the bucket again, 7 cuts it with its neighbors, and 8 touches the one above
 abbrev overlapping : History
 overlapping = cut ▸ put 12 ▸ Cut 0 (record { lo = pos 0; hi = pos 30 }) ▸ put 25
 

@@ -1,5 +1,5 @@
-//! Coverage: what is noted beside a history tells exactly what is out of date. These are laws on plain
-//! functions; no code runs.
+//! Coverage: the notes that are kept beside a history say exactly what is out of date. These are laws on
+//! plain functions; no code runs.
 //!
 //! The notes of an aggregate are the threshold and the log of its table, and two partial functions of
 //! its buckets: the position that is pending, and that of the last refresh. `specs/Notes.antt` says

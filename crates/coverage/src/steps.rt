@@ -37,8 +37,8 @@ pub fn same_notes_cover_the_same()
     ensures { SameCover }
 {}
 
-/// Notes that cover an aggregate tell exactly what is pending: the buckets touched after their last
-/// refresh, and those never refreshed.
+/// Notes that cover an aggregate say exactly what is pending: the buckets touched after their last refresh,
+/// and those never refreshed.
 pub fn covering_notes_tell_what_is_pending()
     ensures { CoveredTells }
 {}
@@ -54,7 +54,7 @@ pub fn feeds_keep_coverage()
     ensures { FeedsKeep }
 {}
 
-/// Whether an aggregate shows materialised rows only plays no part in coverage.
+/// Whether an aggregate shows materialized rows only has no effect on coverage.
 pub fn modes_keep_coverage()
     ensures { ModesKeep }
 {}
@@ -65,7 +65,7 @@ pub fn feeds_tell_what_is_noted()
     ensures { FeedsTell }
 {}
 
-/// Notes that cover an aggregate tell exactly what is out of date once all that is logged was fed.
+/// Notes that cover an aggregate say exactly what is out of date after all that is logged was fed.
 pub fn covering_notes_tell_what_is_fed()
     ensures { CoveredTellsFed }
 {}

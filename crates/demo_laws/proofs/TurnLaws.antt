@@ -1,4 +1,4 @@
--- What the lines come to that make what they name, insert or ask.
+-- The effect of the lines that create what they name, insert or query.
 use Rattle.std.proofs.Common.{◌≡◌, ℕ, suc, ◌<◌, [], ◌∷◌, ◌≤ℤ◌, ◌<ℤ◌, sym, refl, subst, arith}
 use Rattle.std.proofs.lemmas.Int.{ints}
 use Rattle.ts_model.specs.declared.events.Event.TheVariants.{Commit}
@@ -29,7 +29,7 @@ definitions_read_nothing = record {
   view = λ p bytes outside. record { after = refl; reads = refl; fault = refl; outside = outside };
 }
 
--- an operation outside a block is a commit of its own
+-- an operation outside a block is a separate commit
 changes_commit : (op : Op) (h : History) → position h < last_position → PerformsAction h (actions.Change op) (h ▸ Commit (op ∷ [])) 0
 changes_commit op h below p bytes outside =
     let Ends : Act Committed → Type 0 = λ act. Passes (ending_as (said_committed p p) (tries_at h act)) h (h ▸ Commit (op ∷ [])) 0 in

@@ -1,4 +1,4 @@
--- What an action of a session outside a block comes to.
+-- The effect of an action of a session outside a block.
 use Rattle.std.specs.Prelude.{◌≡◌, ℕ, zero, suc, false}
 use Rattle.ts_model.specs.History.{History}
 use Rattle.stmt_check.specs.declared.actions.Action.{Action}

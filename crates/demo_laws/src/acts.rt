@@ -1,7 +1,7 @@
 //! Laws of the lines of a demonstration. Each is the clause of a function that does nothing.
 ghost use Rattle.demo_laws.specs.ActLaws.{LinesAct, LinesAreStatements};
 
-/// Each line of a demonstration is the statement that it is meant to be, which nothing refuses.
+/// Each line of a demonstration is the intended statement, and nothing refuses it.
 pub fn lines_are_statements()
     ensures { LinesAreStatements }
 {}

@@ -2,27 +2,27 @@
 ghost use Rattle.demo_laws.specs.ReadLaws.{DefinitionsReadNothing, DemonstrationsReadTheSame};
 ghost use Rattle.demo_laws.specs.ReadLaws.{InsertsReadNothing, QueriesReadARound, RefreshesReadAChunk};
 
-/// What is made looks at no row.
+/// A line that creates a table or an aggregate reads no row.
 pub fn definitions_read_nothing()
     ensures { DefinitionsReadNothing }
 {}
 
-/// An insert of a demonstration looks at no row, over whatever history with room for one more event.
+/// An insert of a demonstration reads no row, on any history with room for one more event.
 pub fn inserts_read_nothing()
     ensures { InsertsReadNothing }
 {}
 
-/// The refresh of a round looks at the rows in the chunk of the times before.
+/// The refresh of a round reads the rows in the chunk of the times before.
 pub fn refreshes_read_a_chunk()
     ensures { RefreshesReadAChunk }
 {}
 
-/// A query looks at the rows of the last round that came in time.
+/// A query reads the rows of the last round that came in time.
 pub fn queries_read_a_round()
     ensures { QueriesReadARound }
 {}
 
-/// Every demonstration looks at 39,600 stored rows, and no reply to it is a FAULT.
+/// Every demonstration reads 39,600 stored rows, and no reply to it is a FAULT.
 pub fn demonstrations_read_the_same()
     ensures { DemonstrationsReadTheSame }
 {}

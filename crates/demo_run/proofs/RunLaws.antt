@@ -1,4 +1,4 @@
--- What a run over an empty store comes to.
+-- The effect of a run on an empty store.
 use Rattle.std.proofs.Common.{◌≡◌, refl, ap, subst, ◌∙◌, inl, ℕ, ◌≤◌, true, List, [], Option, None, Some, length, arith}
 use Rattle.std.specs.Prelude.{IfSome, IsSomeAnd}
 use Rattle.ts_schema.specs.Counts.{raised_by}
@@ -11,7 +11,7 @@ use Rattle.script_run.specs.declared.ends.RunEnd.{RunEnd}
 use Rattle.script_run.specs.declared.ends.RunEnd.TheVariants.{Done, Refused, ReadFault, WriteFault, DiskFault, NoMemory, InputLong}
 use Rattle.demo_run.specs.Runs.{RanLines, is_whole}
 
--- a file with no byte stands for the empty history
+-- a file without a byte represents the empty history
 pub empty_stands : Stands [] start
 empty_stands = record { holds = inl (omega arith, refl); sound = record { allowed = refl; formed = tt } }
 

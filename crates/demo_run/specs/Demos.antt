@@ -8,11 +8,11 @@ use Rattle.script_run.specs.Runs.{has_fault, history_of, reads_of}
 use Rattle.demo_script.specs.Demo.{demo_lines}
 use Rattle.demo_run.specs.Sums.{summary_of}
 
--- the history that the lines of a demonstration make of an empty one
+-- the history that the lines of a demonstration create from an empty one
 abbrev pub history_of_demo : ℕ → History
 history_of_demo number = history_of session_semantics start (demo_lines number)
 
--- how many stored rows their answers and refreshes look at, in a count of 64 bits
+-- how many stored rows their answers and refreshes read, in a count of 64 bits
 abbrev pub reads_of_demo : ℕ → ℕ
 reads_of_demo number = raised_by (reads_of session_semantics start (demo_lines number)) 0
 
@@ -20,6 +20,6 @@ reads_of_demo number = raised_by (reads_of session_semantics start (demo_lines n
 abbrev pub is_refused_demo : ℕ → Bool
 is_refused_demo number = has_fault session_semantics start (demo_lines number)
 
--- the text of what a demonstration comes to
+-- the text of the summary of a demonstration
 abbrev pub demo_summary : ℕ → List ℕ
 demo_summary number = summary_text (summary_of number (history_of_demo number) (reads_of_demo number))

@@ -13,7 +13,7 @@ is_whole Done = true
 is_whole Refused = true
 is_whole other = false
 
--- the lines of a script led from one history to another, and looked at so many stored rows
+-- the lines of a script led from one history to another, and read so many stored rows
 pub record RanLines (h : History) (lines : List (List ℕ)) (read : ℕ) (new : History) : Type 0 where
   pub history : new ≡ history_of session_semantics h lines
   pub reads : read ≡ raised_by (reads_of session_semantics h lines) 0

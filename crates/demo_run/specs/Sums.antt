@@ -1,4 +1,4 @@
--- What a history comes to: its events, the rows of its first table, and the answer of its first aggregate.
+-- The summary of a history: its events, the rows of its first table, and the answer of its first aggregate.
 use Rattle.std.specs.Prelude.{ℕ, ◌-◌, ℤ, pos, List, [], map, length, Option, None, Some, slice_get}
 use Rattle.ts_num.specs.Aggregates.{sum_of}
 use Rattle.ts_num.specs.declared.values.Datum.{Datum}
@@ -31,7 +31,7 @@ all_buckets = Aggregate 0 every_start
 
 -- ---- answers
 
--- a value as a number, 0 where it is no whole one
+-- a value as a number, 0 if it isn't an integer
 abbrev pub number_of : Option Datum → ℤ
 number_of None = pos 0
 number_of (Some Null) = pos 0
@@ -53,7 +53,7 @@ abbrev pub first_start : Option ViewDef → ℤ
 first_start None = pos 0
 first_start (Some def) = first_of def.fold.width
 
--- what a demonstration comes to whose script has led to a history and looked at so many stored rows
+-- the summary of a demonstration whose script has led to a history and read so many stored rows
 abbrev pub summary_of : ℕ → History → ℕ → Summary
 summary_of number h reads = record {
   number = number;

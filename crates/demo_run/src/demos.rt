@@ -14,19 +14,18 @@ use ts_disk::Disk;
 use ts_schema::{NoMemory, Seq};
 use ts_store::Store;
 
-/// What a demonstration came to.
+/// The result of a demonstration.
 #[derive(Drop, Debug)]
 pub struct Demonstration {
     /// The lines of its summary.
     pub text: Seq<u8>,
-    /// How many stored rows the answers and the refreshes of its script looked at. At `u64::MAX` the count
-    /// stands still.
+    /// How many stored rows the answers and the refreshes of its script read. The count stops at `u64::MAX`.
     pub reads: u64,
 }
 
-/// Runs the script of the demonstration with a number over a store in memory that starts empty, and sums
-/// up what the store then holds. Whatever the number, no reply to the script is a FAULT, and it looks at the
-/// same number of stored rows.
+/// Runs the script of the demonstration with a number on a store in memory that starts empty, and summarizes what
+/// the store then contains. For every number, no reply to the script is a FAULT, and the script reads the same
+/// number of stored rows.
 #[tactic(auto, using(crate::proofs::DemoLaws::reads_alike))]
 pub fn demo<R: Threads + Sync>(
     rt: &R,
@@ -44,8 +43,8 @@ pub fn demo<R: Threads + Sync>(
     Ok(Demonstration { text, reads })
 }
 
-/// The summary of a demonstration whose script led to the history of a store and looked at so many stored
-/// rows.
+/// The summary of a demonstration whose script led to the history of a store. `reads` is how many stored rows it
+/// read.
 fn summary_text<R: Threads + Sync, D: Disk>(
     rt: &R,
     alloc: Global,

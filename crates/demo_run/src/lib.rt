@@ -1,8 +1,8 @@
-//! Demonstrations: the script of one is run over a store in memory that starts empty, and what the store
-//! then holds is summed up.
+//! Demonstrations: runs the script of one on a store in memory that starts empty, and summarizes the store's
+//! contents.
 //!
-//! - `runs`: the script over an empty store.
-//! - `sums`: what a history comes to.
+//! - `runs`: the script on an empty store.
+//! - `sums`: the summary of a history.
 //! - `demos`: a demonstration and its summary.
 #![tactic(auto)]
 

@@ -1,4 +1,4 @@
-//! The script over an empty store.
+//! Runs the script on an empty store.
 ghost use Rattle.std.specs.Prelude.{◌≡◌, ◌≢◌, ◌≤◌, None, true, false, length, IfOk, IfSome, IsSomeAnd};
 ghost use Rattle.ts_io.specs.declared.limits.TheConstants.{INPUT_LIMIT};
 ghost use Rattle.ts_model.specs.History.{start};
@@ -53,8 +53,8 @@ fn with_header<D: Disk + Drop>(mut store: Store<D>) -> Result<Store<D>, NoMemory
     }
 }
 
-/// Runs the script of a demonstration over a store that is empty, and tells how many stored rows it looked at.
-/// Its replies go to a sink in memory.
+/// Runs the script of a demonstration on an empty store, and returns how many stored rows it read. Its replies go
+/// to a sink in memory.
 pub(crate) fn run_script<R: Threads + Sync, D: Disk>(
     rt: &R,
     alloc: Global,
@@ -71,7 +71,7 @@ pub(crate) fn run_script<R: Threads + Sync, D: Disk>(
     run_source(rt, alloc, &mut source, &mut sink, store)
 }
 
-/// Runs the script of a source over a store that goes on, and tells how many stored rows it looked at.
+/// Runs the script of a source on a store that hasn't stopped, and returns how many stored rows it read.
 fn run_source<R: Threads + Sync, S: Source, K: Sink, D: Disk>(
     rt: &R,
     alloc: Global,
@@ -93,7 +93,7 @@ fn run_source<R: Threads + Sync, S: Source, K: Sink, D: Disk>(
     Ok(steps.count())
 }
 
-/// Whether a script was run to its end. What is in memory fails for want of it alone.
+/// Whether a script was run to its end. A source and a sink in memory only fail if memory runs out.
 fn to_end(end: RunEnd) -> Result<(), NoMemory>
     requires { end ≢ ends.InputLong }
     ensures { IfOk result (λ _. is_whole end ≡ true) }

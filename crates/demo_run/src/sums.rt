@@ -1,4 +1,4 @@
-//! What a history comes to.
+//! The summary of a history.
 ghost use Rattle.std.specs.Prelude.{◌≡◌, length, IfOk, IsTrue};
 ghost use Rattle.ts_model.specs.Allowed.{all_consistent};
 ghost use Rattle.ts_model.specs.Answers.{answer};
@@ -19,8 +19,8 @@ use ts_schema::{NoMemory, Seq, Steps};
 #[derive(Drop)]
 struct SummaryReads;
 
-/// What a demonstration comes to whose script led to the history of a snapshot and looked at so many
-/// stored rows.
+/// The summary of a demonstration whose script led to the history of a snapshot. `reads` is how many stored rows
+/// it read.
 pub(crate) fn summary_of<R: Threads + Sync, T: Shown>(
     rt: &R,
     alloc: Global,
@@ -53,7 +53,7 @@ fn count_rows<R: Threads + Sync, T: Shown>(rt: &R, alloc: Global, shot: &T) -> R
     shown_rows(rt, alloc, shot)
 }
 
-/// How many rows the first table shows.
+/// How many rows a query of the first table returns.
 fn shown_rows<R: Threads + Sync, T: Shown>(rt: &R, alloc: Global, shot: &T) -> Result<u64, NoMemory>
     ensures { (h : History) → T.stands shot.now h
         → IfOk result (λ count. count ≡ length (answer all_rows h).rows) }
@@ -71,7 +71,7 @@ fn shown_rows<R: Threads + Sync, T: Shown>(rt: &R, alloc: Global, shot: &T) -> R
     }
 }
 
-/// What the first aggregate shows of all its buckets.
+/// The answer of the first aggregate for all its buckets.
 fn last_answer<R: Threads + Sync, T: Shown>(
     rt: &R,
     alloc: Global,
@@ -105,7 +105,7 @@ fn first_start<T: Shown>(shot: &T) -> i64
     }
 }
 
-/// The sum of the last column of rows. For one that takes more than 128 bits there is no room.
+/// The sum of the last column of rows. Out of memory if the sum doesn't fit 128 bits.
 fn total_of(alloc: Global, rows: &ResultRows) -> Result<i128, NoMemory>
     ensures { IfOk result (λ total. total ≡ total_of rows.now) }
 {

@@ -1,8 +1,8 @@
-//! The script of a demonstration: a table with a continuous aggregate over it, 40 rounds in which 20,000
-//! rows are inserted and the aggregate is refreshed and asked, and at last a row that comes late. Its
-//! number gives the values of the rows.
+//! The script of a demonstration: a table with a continuous aggregate, 40 rounds, and a late row. In each round
+//! 20,000 rows are inserted, and the aggregate is refreshed and queried. The number of the demonstration gives the
+//! values of the rows.
 //!
-//! - `lines`: which line stands where.
+//! - `lines`: the line at each place.
 //! - `rows`: the rows that are inserted.
 //! - `texts`: the texts of lines.
 //! - `scripts`: a line by its number, and the whole script.

@@ -1,4 +1,4 @@
-//! Which line stands where.
+//! The line at each place.
 ghost use Rattle.std.specs.Prelude.{◌≡◌, ℕ, ◌<◌, option_map, slice_get, Some, IfSome};
 ghost use Rattle.demo_script.specs.Demo.{demo_lines, line_at, round_lines};
 ghost use Rattle.demo_script.specs.Lines.{text_of, IsInRound};
@@ -6,19 +6,19 @@ ghost use Rattle.demo_script.specs.Lines.{text_of, IsInRound};
 /// A line of the script.
 #[derive(Clone, Copy, Debug, PartialEq, Eq)]
 pub enum Line {
-    /// The table is made.
+    /// Creates the table.
     Table,
-    /// It becomes a hypertable.
+    /// Makes it a hypertable.
     Hypertable,
-    /// The aggregate over it is made.
+    /// Creates the aggregate over it.
     Aggregate,
-    /// A part of a round's rows is inserted.
+    /// Inserts a part of a round's rows.
     Insert { round: u32, part: u32 },
-    /// The aggregate is refreshed over the times of the round before.
+    /// Refreshes the aggregate over the times of the round before.
     Refresh { round: u32 },
-    /// The aggregate is asked.
+    /// Queries the aggregate.
     Answer,
-    /// A row comes where all was refreshed.
+    /// Inserts a row at a time that was already refreshed.
     LateRow,
 }
 

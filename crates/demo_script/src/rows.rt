@@ -8,7 +8,7 @@ use ts_schema::NoMemory;
 /// How many rows a round inserts.
 const ROWS_OF_ROUND: u32 = 500;
 
-/// Appends rows of a round that follow one another, parted by a comma and a space.
+/// Appends consecutive rows of a round, separated by a comma and a space.
 #[tactic(auto, using(crate::proofs::RowLaws::first_row, crate::proofs::RowLaws::next_row))]
 pub(crate) fn put_rows(
     demo: u32,

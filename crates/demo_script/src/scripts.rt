@@ -9,8 +9,8 @@ use crate::texts::put_line;
 use std::alloc::Global;
 use ts_schema::{NoMemory, Seq};
 
-/// The line with a number, counted from 1, of the script of a demonstration. It has no line feed. There
-/// is none exactly where the number is 0 or above 285. The program takes the whole script, by `demo_script`.
+/// The line with a number, counted from 1, of the script of a demonstration, without a line feed. Returns `None`
+/// exactly if the number is 0 or above 285. The program uses the whole script, by `demo_script`.
 pub fn demo_line(alloc: Global, demo: u32, number: u32) -> Result<Option<Seq<u8>>, NoMemory>
     ensures line { IfOk result (λ line. line ≡ line_at (demo_lines demo) number) }
     ensures none { IfOk result (λ line. (line ≡ None) ↔ ((number ≡ 0) ⊎ (285 < number))) }

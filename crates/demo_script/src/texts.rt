@@ -30,7 +30,7 @@ pub(crate) fn put_line(demo: u32, line: Line, out: &mut String) -> Result<(), No
     }
 }
 
-/// Appends the line that makes the table.
+/// Appends the line that creates the table.
 #[tactic(auto, unfolding(crate::specs::Demo::table_line))]
 fn put_table(out: &mut String) -> Result<(), NoMemory>
     ensures { OnOk result (string_bytes out.new ≡ string_bytes out.old ++ table_line) }
@@ -48,7 +48,7 @@ fn put_hypertable(out: &mut String) -> Result<(), NoMemory>
     Ok(())
 }
 
-/// Appends the line that makes the aggregate.
+/// Appends the line that creates the aggregate.
 #[tactic(auto, unfolding(crate::specs::Demo::aggregate_line))]
 fn put_aggregate(out: &mut String) -> Result<(), NoMemory>
     ensures { OnOk result (string_bytes out.new ≡ string_bytes out.old ++ aggregate_line) }
@@ -98,7 +98,7 @@ fn start_of_round_before(end: u32) -> i64
     i64::from(end) - i64::from(TIMES_OF_ROUND)
 }
 
-/// Appends the line that asks the aggregate.
+/// Appends the line that queries the aggregate.
 #[tactic(auto, unfolding(crate::specs::Demo::answer_line))]
 fn put_answer(out: &mut String) -> Result<(), NoMemory>
     ensures { OnOk result (string_bytes out.new ≡ string_bytes out.old ++ answer_line) }
@@ -107,7 +107,7 @@ fn put_answer(out: &mut String) -> Result<(), NoMemory>
     Ok(())
 }
 
-/// Appends the line that inserts a row where all was refreshed.
+/// Appends the line that inserts a row at a time that was already refreshed.
 #[tactic(auto, unfolding(crate::specs::Demo::late_line))]
 fn put_late_row(demo: u32, out: &mut String) -> Result<(), NoMemory>
     ensures { OnOk result (string_bytes out.new ≡ string_bytes out.old ++ late_line demo) }

@@ -69,7 +69,7 @@ event_unnumbered past k l = event_before (begun_by past.base) past.events k l �
     none None = refl
     none (Some image) = refl
 
--- what stands at a place of a list, read through a reference
+-- the item at a place of a list, read through a reference
 pub read_at : {A B : Type 0} (now : B → A) (o : Option B) (xs : List A) (i : ℕ) → is_some o ≡ nat_lt i (length xs) → IfSome o (λ x. now x ≡ get_or xs i (now x)) → option_map now o ≡ slice_get xs i
 read_at now None xs i there is = sym (slice_get_past xs i (ltb-false i (length xs) (sym there)))
 read_at now (Some x) xs i there is = sym (slice_get_read xs (length xs) i (now x) refl (ltb-true i (length xs) (sym there)) is)

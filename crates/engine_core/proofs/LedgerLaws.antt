@@ -1,4 +1,4 @@
--- What a ledger keeps stands for its history, event by event.
+-- What a ledger keeps represents its history, event by event.
 use Rattle.std.proofs.Common.{◌≡◌, suc, true, List, ap, sym, ◌∙◌, refl, subst}
 use Rattle.std.proofs.lemmas.Bool.{and_from}
 use Rattle.ts_model.specs.declared.events.Event.{Event}

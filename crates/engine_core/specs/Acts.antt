@@ -1,4 +1,4 @@
--- A call that makes an event, whatever the event.
+-- A call that appends an event, of any kind.
 use Rattle.std.specs.Prelude.{Option, Some, None}
 use Rattle.ts_model.specs.declared.events.Event.{Event}
 use Rattle.ts_model.specs.declared.outcomes.Committed.{Committed}
@@ -10,12 +10,12 @@ use Rattle.ts_model.specs.Calls.{Act, refuses, returns, makes, act_of_event}
 use Rattle.event_check.specs.Checks.{call_refusal}
 use Rattle.engine_core.specs.Effects.{effect_of}
 
--- a refusal, or else this
+-- the refusal if there is one, otherwise this
 abbrev pub unless : {A : Type 0} → Option Refusal → Act A → Act A
 unless (Some r) act = refuses r
 unless None act = act
 
--- an event is made, unless the call that makes it is refused; and what it does is answered
+-- the event is appended and its effect answered, unless the call is refused
 abbrev pub making_event : Event → History → Act Committed
 making_event e h = unless (call_refusal h e) (act_of_event h e (effect_of h e))
 

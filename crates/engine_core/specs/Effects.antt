@@ -24,7 +24,7 @@ effect_of h (Commit ops) = commit_result ops h
 effect_of h (Cut v span) = moves_none h
 effect_of h (Built cut snap) = moves_none h
 
--- it was prepared for this history: its event is allowed next, and its state stands for the history with it
+-- it was prepared for this history: its event is allowed next, and its state represents the history with the event
 pub record IsPreparedFor (h : History) (p : PreparedValue) : Type 0 where
   pub allowed : allowed h p.event ≡ true
   pub stands : StandsFor (h ▸ p.event) p.moment.state

@@ -1,4 +1,4 @@
--- What tells which event may come next after a history, without its rows.
+-- What decides which event may come next after a history, without its rows.
 use Rattle.std.specs.Prelude.{◌≡◌, ℕ, true, List, [], ◌∷◌, ◌++◌, map}
 use Rattle.ts_model.specs.declared.events.Event.{Event}
 use Rattle.ts_model.specs.declared.events.Event.TheVariants.{Table, Hyper, View, Mode, Commit, Cut, Built}
@@ -10,7 +10,7 @@ use Rattle.refresh_list.specs.declared.refreshes.Refresh.{Refresh}
 use Rattle.refresh_list.specs.Refreshes.{RefreshesStand, finished_at, newly_cut}
 use Rattle.engine_core.specs.Values.{Past}
 
--- what contracts see of a ledger: what it was told
+-- the value of a ledger in contracts: its image and events
 pub record LedgerValue : Type 0 where
   pub past : Past
 

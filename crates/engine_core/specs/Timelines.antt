@@ -17,7 +17,7 @@ pub record IsMomentOf (h : History) (m : MomentValue) : Type 0 where
 abbrev pub AreMoments : History → ℕ → List MomentValue → Type 0
 AreMoments all start ms = (k : ℕ) (m : MomentValue) → slice_get ms k ≡ Some m → IsMomentOf (prefix all (start + k)) m
 
--- what contracts see of a timeline: what was told, and the first position that is kept
+-- the value of a timeline in contracts: its image and events, and the first position that it keeps
 pub record TimelineValue : Type 0 where
   pub past : Past
   pub start : ℕ
@@ -30,7 +30,7 @@ pub record IsTimeline (past : Past) (start end : ℕ) (ms : List MomentValue) : 
   pub moments : AreMoments (history_of past) start ms
   pub all : start + length ms ≡ suc end
 
--- a state stands for some history after which an event is allowed
+-- a state represents some history after which an event is allowed
 pub record MayFollow (s : StateValue) (e : Event) : Type 0 where
   pub history : History
   pub stands : StandsFor history s

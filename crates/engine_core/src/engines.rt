@@ -33,9 +33,9 @@ use std::thread::Threads;
 use ts_model::{Event, Image, Pending, Refusal, Waiting, Window};
 use ts_schema::{NoMemory, Seq, Steps};
 
-/// The engine: the image that it was made from, where it was, the list of events after it, and the state
-/// that they make, of which each snapshot is one more owner. Contracts see the image and the events, the
-/// oldest first, and for how many more there is room.
+/// The engine: the image that it was made from, if there is one, the list of events after it, and the state
+/// that results, which snapshots share. Contracts see the image, the events, the oldest first, and for how
+/// many more events there is room.
 #[derive(Drop)]
 pub struct Engine {
     base: Option<Image>,
@@ -61,7 +61,7 @@ impl Model for Engine {
         IsStateOf (history_of (record { base = e.base; events = e.events.items })) (arc_value e.state) };
 }
 
-/// What became of the refresh that an event finishes.
+/// Whether the refresh that an event finishes is pending, finished or unknown.
 fn pending_of(state: &State, event: &Event) -> Pending
     ensures { (h : History) → StandsFor h state.now → PendingIs h event.now result }
 {
@@ -76,7 +76,7 @@ fn pending_of(state: &State, event: &Event) -> Pending
     }
 }
 
-/// The position at which a history begins, with an image where there is one.
+/// The position at which a history begins: that of its image, or 0 if it has none.
 pub fn begun_at(base: &Option<Image>) -> u64
     ensures { result ≡ position (begun_by base.now) }
 {
@@ -104,7 +104,7 @@ fn place_after(base: u64, number: u64) -> Option<u64>
     }
 }
 
-/// Takes the memory for the state after an event that is allowed next.
+/// Allocates the memory for the state after an event that is allowed next.
 #[tactic(auto, using(ts_model::proofs::AllowedLaws::consistent_next))]
 fn prepared_for(
     alloc: Global,
@@ -122,7 +122,7 @@ fn prepared_for(
     Ok(Prepared::of(event, moment))
 }
 
-/// Why the call that makes an event is refused.
+/// Why the call that appends an event is refused.
 fn next_call_refusal(state: &State, event: &Event) -> Option<Refusal>
     ensures { (h : History) → StandsFor h state.now → result ≡ call_refusal h event.now }
 {
@@ -162,14 +162,14 @@ impl Engine {
         })
     }
 
-    /// The state that stands for its history.
+    /// The state that represents its history.
     pub(crate) fn state(&self) -> &State
         ensures stands { StandsFor (history_of self.now.past) result.now }
     {
         &self.state
     }
 
-    /// The image that it was made from, where it was.
+    /// The image that it was made from, if there is one.
     pub fn base(&self) -> &Option<Image>
         ensures base { result.now ≡ self.now.past.base }
     {
@@ -190,8 +190,8 @@ impl Engine {
         self.state.position()
     }
 
-    /// The event with this number. The first one has the number after the position at which the history
-    /// begins. It is for callers that ask for a single event; the program goes through all of them.
+    /// The event with this number. The first event has the number after the position at which the history
+    /// begins. It is for callers that need a single event; the program iterates over all of them.
     pub fn event(&self, number: u64) -> Option<&Event>
         ensures event { option_copied result ≡ event_at (history_of self.now.past) number }
     {
@@ -201,8 +201,8 @@ impl Engine {
         }
     }
 
-    /// Whether an event is allowed next, and else why not. It is refused as the call of a store that
-    /// makes such an event is, as `E07`, `E21`, `E19` or `E30`, and else with the number 0.
+    /// Checks whether an event is allowed next. If it isn't, returns the refusal of the store call that
+    /// appends such an event, `E07`, `E21`, `E19` or `E30`, or otherwise a refusal with the number 0.
     pub fn check(&self, event: &Event) -> Result<(), Refusal>
         ensures allowed { IfOk result (λ _. IsTrue (allowed (history_of self.now.past) event.now)) }
         ensures refused { IfErr result (λ refusal.
@@ -214,8 +214,8 @@ impl Engine {
         }
     }
 
-    /// Whether a sound event is allowed next, and else why the call that makes it is refused: as `check`
-    /// answers of such an event, without a look at its rows.
+    /// Checks whether a sound event is allowed next, without reading its rows. If it isn't, returns the same
+    /// refusal as `check`.
     pub fn check_sound(&self, event: &Event) -> Result<(), Refusal>
         requires sound { IsTrue (sound (history_of self.now.past) event.now) }
         ensures allowed { IfOk result (λ _. IsTrue (allowed (history_of self.now.past) event.now)) }
@@ -228,8 +228,8 @@ impl Engine {
         }
     }
 
-    /// Takes all memory for an event that is allowed next. An event that finishes a refresh needs a
-    /// job of it. The history stays as it is.
+    /// Allocates all memory for an event that is allowed next. An event that finishes a refresh needs its
+    /// job. The history doesn't change.
     #[tactic(auto, using(ts_model::proofs::AllowedLaws::consistent_next))]
     pub fn prepare(&mut self, event: Event, job: Option<Job>) -> Result<Prepared, NoMemory>
         requires allowed { IsTrue (allowed (history_of self.old.past) event) }
@@ -246,7 +246,7 @@ impl Engine {
         Ok(prepared)
     }
 
-    /// Appends the event that was prepared for the present history, for which there is room. It takes
+    /// Appends the event that was prepared for the present history. There must be room for it. It allocates
     /// no memory.
     pub fn install(&mut self, prepared: Prepared)
         requires room { 0 < self.old.room }
@@ -266,7 +266,7 @@ impl Engine {
         Ok(Shot::of(Arc::try_clone(&self.state)?))
     }
 
-    /// The refreshes that were cut and not finished, in order of their cuts.
+    /// The pending refreshes, in order of their cuts.
     pub fn waiting(&self) -> Result<Seq<Waiting>, NoMemory>
         ensures waiting { IfOk result (λ found. found ≡ waiting (history_of self.now.past)) }
     {

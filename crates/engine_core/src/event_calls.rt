@@ -1,4 +1,4 @@
-//! Calls that make one event, on an engine that nobody else changes.
+//! Calls that append one event to an engine that nobody else changes.
 ghost use Rattle.std.specs.Prelude.{◌≡◌, IsSome, IsTrue};
 ghost use Rattle.std.specs.Option.{ForSome};
 ghost use Rattle.ts_bucket.specs.Bucket.{is_time};
@@ -21,7 +21,7 @@ use ts_model::codes::NO_BUCKET;
 use ts_model::{Committed, CutDone, Event, Hyper, Op, Outcome, Refusal, TableDef, ViewDef, Window};
 use ts_schema::Seq;
 
-/// Makes an event that is allowed next, and answers what it does.
+/// Appends an event that is allowed next, and answers its effect.
 fn make_event(engine: &mut Engine, event: Event, job: Option<Job>) -> Outcome<Committed>
     requires allowed { IsTrue (allowed (history_of engine.old.past) event) }
     requires job { JobIsFor (history_of engine.old.past) event job }
@@ -37,7 +37,7 @@ fn make_event(engine: &mut Engine, event: Event, job: Option<Job>) -> Outcome<Co
     }
 }
 
-/// Makes an event, unless its call is refused. The job of a finish is given up on every answer.
+/// Appends an event, unless its call is refused. It consumes the job of a finish, whatever it answers.
 fn make(engine: &mut Engine, event: Event, job: Option<Job>) -> Outcome<Committed>
     requires sound { IsTrue (sound (history_of engine.old.past) event) }
     requires job { JobIsFor (history_of engine.old.past) event job }
@@ -49,7 +49,7 @@ fn make(engine: &mut Engine, event: Event, job: Option<Job>) -> Outcome<Committe
     }
 }
 
-/// The same outcome, with the event's number alone as its answer.
+/// The same outcome, with only the event's number as its answer.
 pub fn number_only(outcome: Outcome<Committed>) -> Outcome<u64>
     ensures { result ≡ outcome_as (λ c. c.pos) outcome }
 {
@@ -111,7 +111,7 @@ pub(crate) fn cut(
     }
 }
 
-/// Makes a table.
+/// Creates a table.
 pub(crate) fn make_table(engine: &mut Engine, def: TableDef) -> Outcome<u64>
     requires { IsTrue (sound (history_of engine.old.past) (Table def)) }
     ensures { EngineDoes (making_table def) engine.old.past result engine.new.past }
@@ -127,7 +127,7 @@ pub(crate) fn make_hyper(engine: &mut Engine, table: u32, hyper: Hyper) -> Outco
     number_only(make(engine, Event::Hyper { table, hyper }, None))
 }
 
-/// Makes an aggregate.
+/// Creates an aggregate.
 pub(crate) fn make_view(engine: &mut Engine, def: ViewDef) -> Outcome<u64>
     requires { IsTrue (sound (history_of engine.old.past) (View def)) }
     ensures { EngineDoes (making_view def) engine.old.past result engine.new.past }

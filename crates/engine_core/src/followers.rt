@@ -1,4 +1,4 @@
-//! What follows a history event by event, as its journal is read.
+//! Followers of a history, event by event, while its journal is read.
 ghost use Rattle.std.specs.Prelude.{◌≡◌, IfOk, IsTrue, OnOk};
 ghost use Rattle.std.specs.Thread.{IsSync};
 ghost use Rattle.ts_model.specs.Allowed.{allowed};
@@ -13,8 +13,8 @@ use std::thread::Threads;
 use ts_model::{Event, Image, Refusal};
 use ts_schema::{NoMemory, Steps};
 
-/// What follows a history event by event, as its journal is read: an engine, which answers questions about
-/// it, or a ledger, which knows what may come next.
+/// Follows a history event by event, while its journal is read: an engine, which answers queries, or a
+/// ledger, which knows what may come next.
 pub trait Follower {
     ghost use Rattle.std.specs.Prelude.{◌≡◌, IfErr, IfOk, IsTrue, OnOk, Some};
     ghost use Rattle.std.specs.Thread.{IsSync};
@@ -24,8 +24,8 @@ pub trait Follower {
     ghost use Rattle.engine_core.specs.Histories.{history_of, past_from, with_event};
     ghost use Rattle.engine_core.specs.Values.{Past};
 
-    /// What it was told: the image that the history begins with, where there is one, and the events after
-    /// it, the oldest first.
+    /// Its history: the image that the history begins with, if there is one, and the events after it, the
+    /// oldest first.
     ghost past: { Self → Past };
 
     /// Begins at the history that begins with this valid image, without events.
@@ -33,13 +33,13 @@ pub trait Follower {
         requires valid { IsTrue (valid image) }
         ensures empty { IfOk result (λ made. past made ≡ past_from (Some image)) };
 
-    /// Whether an event is allowed next, and else why not.
+    /// Checks whether an event is allowed next. If it isn't, returns why.
     fn check_next(&self, event: &Event) -> Result<(), Refusal>
         ensures allowed { IfOk result (λ _. IsTrue (allowed (history_of (past self.now)) event.now)) }
         ensures refused { IfErr result (λ refusal.
             event_refusal (history_of (past self.now)) event.now ≡ Some refusal) };
 
-    /// Lets an event take effect that is allowed next. Where memory runs out nothing is promised of what it was told.
+    /// Applies an event that is allowed next. If memory runs out, nothing is promised about its history.
     fn follow<R: Threads + Sync>(&mut self, rt: &R, event: Event) -> Result<(), NoMemory>
         requires sync { IsSync R.row }
         requires allowed { IsTrue (allowed (history_of (past self.old)) event) }
@@ -67,7 +67,7 @@ fn job_of<R: Threads + Sync>(
     }
 }
 
-/// Lets an event take effect at an engine.
+/// Applies an event to an engine.
 fn install<R: Threads + Sync>(rt: &R, engine: &mut Engine, event: Event) -> Result<(), NoMemory>
     requires sync { IsSync R.row }
     requires allowed { IsTrue (allowed (history_of engine.old.past) event) }

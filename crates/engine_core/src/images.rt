@@ -1,4 +1,4 @@
-//! What the image of an engine's history is made of.
+//! The parts of the image of an engine's history.
 
 use crate::engines::Engine;
 use base_image::Imaged;

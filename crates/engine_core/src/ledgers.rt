@@ -20,10 +20,9 @@ use std::marker::Model;
 use ts_model::{Event, Image, Pending, Refusal, Roster, Waiting};
 use ts_schema::{NoMemory, Seq};
 
-/// A history with what tells which event may come next: its tables and aggregates, and its refreshes. It
-/// keeps nothing of what the events make of the rows, so that an event costs little more than its own
-/// memory. Contracts see what it was told: the image that the history begins with, where there is one, and
-/// the events after it, the oldest first.
+/// A history with what decides which event may come next: its tables and aggregates, and its refreshes. It
+/// keeps nothing of the rows, so an event costs little more than its own memory. Contracts see the image
+/// that the history begins with, if there is one, and the events after it, the oldest first.
 #[derive(Drop)]
 pub struct Ledger {
     base: Option<Image>,
@@ -44,7 +43,7 @@ impl Model for Ledger {
         IsLedgerOf (history_of (record { base = l.base; events = l.events.items })) l.roster l.refreshes };
 }
 
-/// What became of the refresh that an event finishes.
+/// Whether the refresh that an event finishes is pending, finished or unknown.
 fn pending_of(refreshes: &Refreshes, event: &Event) -> Pending
     ensures { (h : History) → RefreshesStand h refreshes.now → PendingIs h event.now result }
 {
@@ -76,7 +75,7 @@ fn refreshes_after(before: &Refreshes, number: u64, event: &Event) -> Result<Ref
     }
 }
 
-/// Lets an event change a roster. Where it changes none, the roster isn't copied.
+/// Applies an event to a roster. If the event changes none, the roster isn't copied.
 fn change(roster: &mut Roster, event: &Event) -> Result<(), NoMemory>
     ensures changed { OnOk result (roster.new ≡ roster_after roster.old event.now) }
     ensures kept { OnErr result (roster.new ≡ roster.old) }
@@ -124,7 +123,7 @@ impl Ledger {
         })
     }
 
-    /// The image that the history begins with, where there is one.
+    /// The image that the history begins with, if there is one.
     pub fn base(&self) -> &Option<Image>
         ensures base { result.now ≡ self.now.past.base }
     {
@@ -153,14 +152,14 @@ impl Ledger {
         &self.roster
     }
 
-    /// The refreshes that were cut and not finished, in order of their cuts.
+    /// The pending refreshes, in order of their cuts.
     pub fn waiting(&self) -> Result<Seq<Waiting>, NoMemory>
         ensures waiting { IfOk result (λ found. found ≡ waiting (history_of self.now.past)) }
     {
         self.refreshes.waiting()
     }
 
-    /// Whether an event is allowed next, and else why not, as `Engine::check` answers.
+    /// Checks whether an event is allowed next, like `Engine::check`.
     pub fn check(&self, event: &Event) -> Result<(), Refusal>
         ensures allowed { IfOk result (λ _. IsTrue (allowed (history_of self.now.past) event.now)) }
         ensures refused { IfErr result (λ refusal.
@@ -181,7 +180,7 @@ impl Ledger {
         refusal_of(&self.roster, pending, end, begun_at(&self.base), event)
     }
 
-    /// Appends an event that is allowed next. Where there is no memory the history stays as it is.
+    /// Appends an event that is allowed next. If memory runs out, the history doesn't change.
     pub fn append(&mut self, event: Event) -> Result<(), NoMemory>
         requires allowed { IsTrue (allowed (history_of self.old.past) event) }
         ensures past { OnOk result (self.new.past ≡ with_event self.old.past event) }

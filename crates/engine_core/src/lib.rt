@@ -2,11 +2,11 @@
 //! the states of a history at its positions.
 //!
 //! - `engines`, `prepared`, `moments`, `shots`: the engine, and what one more event makes of it.
-//! - `ledgers`: a history without its rows, which tells what may come next.
+//! - `ledgers`: a history without its rows, which knows what may come next.
 //! - `followers`: what follows a history event by event, as its journal is read: an engine or a ledger.
 //! - `event_calls`, `mem_stores`: the calls of a store, and a store in memory.
 //! - `timelines`: the states of a history at its positions.
-//! - `images`: what the image of a history is made of.
+//! - `images`: the parts of the image of a history.
 #![tactic(auto)]
 
 mod engines;

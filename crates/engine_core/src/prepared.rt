@@ -10,7 +10,7 @@ use std::marker::Model;
 use std::sync::Arc;
 use ts_model::{Committed, Event};
 
-/// An event, and what is kept of the history with it.
+/// An event, and the state of the history with it.
 #[derive(Drop)]
 pub struct Prepared {
     event: Event,
@@ -47,7 +47,7 @@ impl Prepared {
         self.event
     }
 
-    /// What the event does: its number, and how many rows it appends and takes away, over all tables.
+    /// What the event does: its number, and how many rows it appends and removes, over all tables.
     pub fn effect(&self) -> Committed
         ensures effect { (h : History) → IsPreparedFor h self.now → result ≡ effect_of h self.now.event }
     {

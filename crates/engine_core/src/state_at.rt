@@ -1,4 +1,4 @@
-//! What is kept of a history at a position.
+//! The state of a history at a position.
 ghost use Rattle.std.specs.Prelude.{◌≡◌, IfOk};
 
 use engine_state::{AfterEvent, State};
@@ -15,7 +15,7 @@ pub(crate) struct StateAt {
     pub state: Arc<State>,
     /// How many rows were appended.
     pub inserted: u64,
-    /// How many rows were taken away.
+    /// How many rows were removed.
     pub removed: u64,
 }
 
@@ -33,7 +33,7 @@ impl Model for StateAt {
 }
 
 impl StateAt {
-    /// What is kept of a state that an event led to.
+    /// The state that an event led to, with its counts.
     pub(crate) fn of(alloc: Global, moved: AfterEvent<State>) -> Result<StateAt, NoMemory>
         ensures moment { IfOk result (λ moment. moment ≡ record {
           state = moved.made;

@@ -27,8 +27,8 @@ use std::thread::Threads;
 use ts_model::{Committed, Event, Image, Pending, Roster, Window};
 use ts_schema::{NoMemory, Steps};
 
-/// The states of a history at each position from one on. States share what the events between them left
-/// alone. Contracts see the history's image and events, and the first position that is kept.
+/// The states of a history at each position from one on. They share what the events between them left alone.
+/// Contracts see the history's image and events, and the first position that is kept.
 #[derive(Drop)]
 pub struct Timeline<'a> {
     base: &'a Option<Image>,
@@ -52,7 +52,7 @@ impl<'a> Model for Timeline<'a> {
         IsTimeline (record { base = t.base.now; events = t.events.now }) t.start t.end t.moments.items };
 }
 
-/// What is kept of the history that begins with an image, where there is one, without events.
+/// The state of the history that begins with an image, if there is one, without events.
 fn initial_state<L>(
     alloc: Global,
     base: &Option<Image>,
@@ -90,7 +90,7 @@ fn job_of<R: Threads + Sync>(rt: &R, state: &State, event: &Event) -> Result<Opt
     }
 }
 
-/// What is kept after one more event, which is allowed next.
+/// The state after one more event, which is allowed next.
 fn next<R: Threads + Sync>(
     rt: &R,
     alloc: Global,
@@ -108,7 +108,7 @@ fn next<R: Threads + Sync>(
     Ok(moment)
 }
 
-/// Keeps a moment, where its position is to be kept.
+/// Keeps a state, if its position must be kept.
 fn keep(moments: &mut Vec<StateAt>, moment: StateAt, kept: bool) -> Result<(), NoMemory>
     ensures kept { IfOk result (λ _.
         moments.new.items ≡ cond kept (moments.old.items ++ moment ∷ []) moments.old.items) }
@@ -119,8 +119,8 @@ fn keep(moments: &mut Vec<StateAt>, moment: StateAt, kept: bool) -> Result<(), N
     Ok(())
 }
 
-/// The position at which a history ends that begins with an image, where there is one, and goes on with
-/// these events, each of which was allowed after those before it.
+/// The position at which a history ends that begins with an image, if there is one, and continues with these
+/// events, each of which was allowed after those before it.
 pub fn end_of(base: &Option<Image>, events: &[Event]) -> u64
     requires allowed { IsTrue (all_allowed (history_of (record { base = base.now; events = events.now }))) }
     ensures end { result ≡ position (history_of (record { base = base.now; events = events.now })) }
@@ -129,9 +129,9 @@ pub fn end_of(base: &Option<Image>, events: &[Event]) -> u64
 }
 
 impl<'a> Timeline<'a> {
-    /// The states of the history that begins with an image, where there is one, and goes on with these
-    /// events, each of which was allowed after those before it. They are kept from the position `start`
-    /// on. Steps are counted by `State::from_image` alone, where there is an image.
+    /// The states of the history that begins with an image, if there is one, and continues with these
+    /// events, each of which was allowed after those before it. They are kept from the position `start` on.
+    /// Only `State::from_image` counts steps, if there is an image.
     pub fn of<R: Threads + Sync, L>(
         rt: &R,
         alloc: Global,
@@ -174,7 +174,7 @@ impl<'a> Timeline<'a> {
         self.end
     }
 
-    /// What is kept of a position.
+    /// The state at a position, with its counts.
     fn moment(&self, position: u64) -> &StateAt
         requires low { self.now.start ≤ position }
         requires high { position ≤ position_of (history_of self.now.past) }
@@ -201,7 +201,7 @@ impl<'a> Timeline<'a> {
         self.moment(position).state.roster()
     }
 
-    /// What had become of the refresh with a number at a position.
+    /// Whether the refresh with a number was pending, finished or unknown at a position.
     pub fn pending(&self, position: u64, cut: u64) -> Pending
         requires low { self.now.start ≤ position }
         requires high { position ≤ position_of (history_of self.now.past) }
@@ -239,8 +239,8 @@ impl<'a> Timeline<'a> {
         self.events.get((position - begun_at(self.base)) as usize)
     }
 
-    /// What the event after a position did: its number, and how many rows it appended and took away, over
-    /// all tables.
+    /// What the event after a position did: its number, and how many rows it appended and removed, over all
+    /// tables.
     pub fn effect_after(&self, position: u64) -> Committed
         requires low { self.now.start ≤ position }
         requires high { position < position_of (history_of self.now.past) }

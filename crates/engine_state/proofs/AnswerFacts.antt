@@ -1,4 +1,4 @@
--- What a state that stands for a history tells of a hypertable at the history's position.
+-- What a state that represents a history says about a hypertable at the history's position.
 use Rattle.std.proofs.Common.{◌≡◌, ℕ, Bool, true, ◌&&◌, List, [], length, map, filter, pos, ◌-ℤ◌, ◌+ℤ◌, int_le, int_lt, nat_lt, Option, Some, None, Result, Ok, Err, IfOk, sym, refl, ap, ◌∙◌, subst, arith}
 use Rattle.std.specs.Prelude.{IsSome, is_some, option_and_then}
 use Rattle.std.specs.List.{list_all, slice_get}

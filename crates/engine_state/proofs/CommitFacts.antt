@@ -1,4 +1,4 @@
--- What a state that stands for a history tells of a commit that may come next.
+-- What a state that represents a history says about a commit that may come next.
 use Rattle.std.proofs.Common.{◌≡◌, ℕ, suc, ◌+◌, ◌^◌, ◌≤◌, true, false, ◌&&◌, nat_lt, List, [], ◌∷◌, length, Option, Some, None, sym, refl, ap, ◌∙◌, subst, arith}
 use Rattle.std.specs.List.{list_all, slice_get}
 use Rattle.std.proofs.lemmas.Bool.{true≢false, and_parts, and_from}

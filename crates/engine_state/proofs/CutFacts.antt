@@ -1,4 +1,4 @@
--- What a state that stands for a history tells of a new hypertable and of a cut that may come next.
+-- What a state that represents a history says about a new hypertable and about a cut that may come next.
 use Rattle.std.proofs.Common.{◌≡◌, ℕ, zero, suc, ◌<◌, true, false, ◌&&◌, ◌==◌, nat_lt, List, [], ◌∷◌, length, get_or, pos, int_lt, int_le, Option, Some, None, sym, refl, ap, ◌∙◌, subst, arith}
 use Rattle.std.specs.Prelude.{IsSome}
 use Rattle.std.specs.List.{AllByRecursion, slice_get}

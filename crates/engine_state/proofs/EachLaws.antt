@@ -1,4 +1,4 @@
--- Lists that go together place by place: one more item in both, one item changed, what stands at a place.
+-- Lists related place by place: appending an item to both, changing one item, reading the items at a place.
 use Rattle.std.proofs.Common.{◌≡◌, ℕ, zero, suc, ◌+◌, ◌<◌, ◌≤◌, List, [], ◌∷◌, ◌++◌, length, set, Some, sym, refl, ap, ◌∙◌, subst, arith}
 use Rattle.std.specs.List.{slice_get}
 use Rattle.ts_model.specs.Roster.{change_at}
@@ -26,7 +26,7 @@ module _ {A B : Type 0} where
   each_pushed R i (x ∷ xs) [] a b e r = absurd e
   each_pushed R i (x ∷ xs) (y ∷ ys) a b e r = (e.0, each_pushed R (suc i) xs ys a b e.1 (subst (λ n. R n a b) (let n : i + suc (length xs) ≡ suc i + length xs = omega arith in n) r))
 
-  -- what stands at a place of the first list has what stands at that place of the second
+  -- an item of the first list is related to the item at the same place of the second
   pub each_from : (R : ℕ → A → B → Type 0) (i t : ℕ) (xs : List A) (ys : List B) (a : A) → EachFrom R i xs ys → slice_get xs t ≡ Some a → (b : B) × (slice_get ys t ≡ Some b) × R (i + t) a b
   each_from R i t [] [] a e is = absurd (cc)
   each_from R i t [] (y ∷ ys) a e is = absurd e
@@ -140,7 +140,7 @@ module _ {A B : Type 0} where
   pub each_joined : {C : Type 0} (P : ℕ → A → B → Type 0) (Q : ℕ → B → C → Type 0) (R : ℕ → A → C → Type 0) (xs : List A) (ys : List B) (zs : List C) → ((j : ℕ) (a : A) (b : B) (c : C) → P j a b → Q j b c → R j a c) → Each P xs ys → Each Q ys zs → Each R xs zs
   each_joined P Q R xs ys zs f p q = each_through P Q R 0 xs ys zs f p q
 
--- each item of the first list stands at its place
+-- the same relation, which also says that each item of the first list is at its place
 append_one : {A : Type 0} (ws : List A) (x : A) (xs : List A) → (ws ++ (x ∷ [])) ++ xs ≡ ws ++ (x ∷ xs)
 append_one [] x xs = refl
 append_one (w ∷ ws) x xs = ap (λ zs. w ∷ zs) (append_one ws x xs)

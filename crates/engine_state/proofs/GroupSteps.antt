@@ -1,4 +1,4 @@
--- What each event does to the materialised groups of an aggregate.
+-- What each event does to the materialized groups of an aggregate.
 use Rattle.std.proofs.Common.{◌≡◌, ℕ, ◌≤◌, max, Bool, true, false, not, ◌&&◌, ◌||◌, cond, List, [], ◌∷◌, map, filter, ℤ, ◌+ℤ◌, ◌<ℤ◌, int_lt, pos, Option, Some, None, sym, refl, ap, ◌∙◌, subst, arith}
 use Rattle.std.specs.List.{list_all, list_any, flat_map}
 use Rattle.std.specs.List.Sorted.{IsStrictlySortedBy}
@@ -107,7 +107,7 @@ nothing_in_order : AreInOrder []
 unfolding IsStrictlySortedBy
 nothing_in_order = tt
 
--- before an aggregate is there, nothing is materialised
+-- before an aggregate exists, nothing is materialized
 pub groups_begin : (n : ℕ) (def : ViewDef) (h : History) (mark : Option ℤ) → all_consistent h ≡ true → view_of (roster h) n ≡ None → GroupsStand n def h mark []
 groups_begin n def h mark ok none = record {
   in_order = nothing_in_order;
@@ -241,7 +241,7 @@ later_upto snap None e = refl
 later_upto snap (Some s) e = let l : s ≤ snap = ltb-false snap s e in let m : max s snap ≡ snap = omega arith in ap Some m
 
 module _ (n : ℕ) (def : ViewDef) (h : History) (cut snap : ℕ) (span : Span) (spans : List Span) (groups : List Group) (top : Option ℤ) (ok : all_consistent h ≡ true) (width : IsWidth def.fold.width) (f : Fits n def h cut snap span spans groups top) where
-  -- a bucket of the span that isn't folded anew still has the groups that it had at the snapshot
+  -- a bucket of the span that isn't recomputed still has the groups that it had at the snapshot
   untouched_since : (b : ℤ) (r : ℕ) (o : Option ℕ) → is_before r o ≡ false → is_above r (last_touch_at n def h snap b) ≡ false → is_above snap o ≡ false → groups_left n def h b o ≡ groups_at n def h snap b
   untouched_since b r None before not_touched upto = absurd (true≢false before)
   untouched_since b r (Some s) before not_touched upto =

@@ -1,4 +1,4 @@
--- What the image of a history is made of, taken of a state that stands for it.
+-- The parts of a history's image, read from a state that represents the history.
 use Rattle.std.proofs.Common.{◌≡◌, ℕ, suc, zero, ◌+◌, ◌<◌, Bool, true, false, ◌&&◌, ◌||◌, cond, List, [], ◌∷◌, ◌++◌, map, filter, take, length, get_or, add-one, ℤ, pos, ◌≤ℤ◌, ◌<ℤ◌, Option, Some, None, Result, Ok, Err, IfOk, sym, refl, ap, ◌∙◌, subst, arith}
 use Rattle.std.specs.Prelude.{is_none, is_some, IsSome}
 use Rattle.std.specs.List.{AllByRecursion, list_all}

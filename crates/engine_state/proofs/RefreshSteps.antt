@@ -1,4 +1,4 @@
--- What a new aggregate, a cut and a finish do to a state that stands for a history.
+-- What a new aggregate, a cut and a finish do to a state that represents a history.
 use Rattle.std.proofs.Common.{◌≡◌, ℕ, suc, zero, ◌+◌, ◌<◌, Bool, true, false, not, ◌==◌, cond, List, [], ◌∷◌, ◌++◌, length, map, set, ℤ, Option, Some, None, sym, refl, ap, ◌∙◌, subst, arith}
 use Rattle.std.specs.List.{slice_get}
 use Rattle.std.specs.Option.{option_and_then}

@@ -302,7 +302,7 @@ folded_buckets fold xs b wide bucket =
     ap (of_bucket b) (order_plays_no_part fold xs (in_order xs) wide (sym (in_order-twice xs)))
     ∙ groups_of_one_bucket fold (in_order xs) b wide bucket
 
--- what is made of the groups of an image, and of those made anew of its rows
+-- the groups of an aggregate, combined from those of an image and those recomputed from its rows
 module _ (i : Image) (n : ℕ) (def : ViewDef) (v : SavedView) (anew : List Group) (of : IsKeptOf i n def v anew) where
   parts : KeptParts i.pos def v
   parts = kept_parts i n def v of.ok of.there of.kept_is

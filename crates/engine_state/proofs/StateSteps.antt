@@ -1,4 +1,4 @@
--- What each event does to a state that stands for a history.
+-- What each event does to a state that represents a history.
 use Rattle.std.proofs.Common.{◌≡◌, ℕ, suc, zero, Bool, true, false, List, [], ◌∷◌, ◌++◌, set, Option, Some, None, sym, refl, ap, ◌∙◌, subst}
 use Rattle.std.specs.Prelude.{is_none, unwrap_or}
 use Rattle.std.specs.List.{slice_get}
@@ -182,7 +182,7 @@ state_there tables t table e = by_state (slice_get tables t) refl e
     by_state None at e = absurd (cc)
     by_state (Some o) at e = at ∙ ap Some e
 
--- what a state that is there stands for
+-- a table that has a state is a hypertable, and the state is its own
 pub stands_there : (h : History) (infos : List TableInfo) (tables : List (Option TableValue)) (t : ℕ) (table : TableValue) → Each (TableAt h) infos tables → table_at tables t ≡ Some table → (hyper : HyperInfo) × TableStands h t hyper table
 stands_there h infos tables t table s e =
     let found = each_of (TableAt h) t infos tables (Some table) s (state_there tables t table e) in

@@ -170,7 +170,7 @@ greater_none : (x : Option ℤ) → greater x None ≡ x
 greater_none None = refl
 greater_none (Some m) = refl
 
--- of its own refresh
+-- the aggregate after its own refresh finished
 pub view_finished : (n : ℕ) (def : ViewDef) (h : History) (cut snap : ℕ) (span : Span) (spans : List Span) (groups : List Group) (top : Option ℤ) (log : TableLog) (old new : ViewValue) (renewed : List Span) (put : List Group) → all_consistent h ≡ true → view_of (roster h) n ≡ Some def → Fits n def h cut snap span spans groups top → new.table ≡ old.table → new.log.width ≡ old.log.width → ((b : ℤ) → pending_at new.log b ≡ cond (in_span span b) (above snap (pending_at old.log b)) (pending_at old.log b)) → ((b : ℤ) → last_at new.log b ≡ cond (in_span span b) (later (last_at old.log b) (Some snap)) (last_at old.log b)) → new.mark ≡ greater old.mark top → AreRenewed n def h snap spans groups renewed put → AreReplaced renewed put old.groups new.groups → ViewStands h n def log old → ViewStands (h ▸ Built cut snap) n def log new
 view_finished n def h cut snap span spans groups top log old new renewed put ok there f table width pending refreshed mark renews replaces s = record {
   table = table ∙ s.table;

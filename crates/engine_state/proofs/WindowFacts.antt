@@ -1,4 +1,4 @@
--- What a state that stands for a history tells of the window of a refresh.
+-- What a state that represents a history says about the window of a refresh.
 use Rattle.std.proofs.Common.{◌≡◌, ◌∙◌, ◌<◌, ℕ, length, get_or, true, List, [], ◌∷◌, ℤ, Option, Some, None, sym, refl, ap, subst, arith}
 use Rattle.std.specs.Prelude.{IfSome, IsSome, IsTrue}
 use Rattle.std.specs.Int.{int_max}

@@ -9,13 +9,13 @@ use Rattle.refresh_build.specs.declared.jobs.Job.{Job}
 use Rattle.refresh_build.specs.Fitting.{JobIsFor}
 use Rattle.engine_state.specs.Stands.{StateValue, StandsFor}
 
--- how many rows an event appends and takes away, over all tables
+-- how many rows an event appends and removes, over all tables
 abbrev pub CountsAre : History → Event → ℕ → ℕ → Type 0
 CountsAre h (Commit ops) inserted removed =
     (inserted ≡ (commit_result ops h).inserted) × (removed ≡ (commit_result ops h).removed)
 CountsAre h e inserted removed = (inserted ≡ 0) × (removed ≡ 0)
 
--- an event may come next, with this job, after some history that the state stands for
+-- the state represents some history after which the event may come next, with this job
 pub record IsNext (s : StateValue) (e : Event) (job : Option Job) : Type 0 where
   pub history : History
   pub stands : StandsFor history s

@@ -1,4 +1,4 @@
--- The rows of a table, as a state has them, and spans that part them.
+-- The rows of a table in a state, and spans that split them.
 use Rattle.std.specs.Prelude.{◌≡◌, ℕ, List, [], ◌∷◌, ℤ, ◌≤ℤ◌, Option, Some, None}
 use Rattle.ts_bucket.specs.declared.spans.Span.{Span}
 use Rattle.ts_schema.specs.declared.rows.Row.{Row}
@@ -7,7 +7,7 @@ use Rattle.engine_state.specs.Scans.{seen_rows}
 use Rattle.engine_state.specs.Stands.{StateValue}
 use Rattle.engine_state.specs.Tables.{TableValue, table_at}
 
--- the rows that a position sees, in order. A table that has no state has none
+-- the rows that are visible at a position, in order. A table that has no state has none
 abbrev pub rows_held : ℕ → Option TableValue → List Row
 rows_held p None = []
 rows_held p (Some table) = in_order (seen_rows p table)

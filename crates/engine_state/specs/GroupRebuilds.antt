@@ -1,4 +1,4 @@
--- The rows of an image that the groups of its aggregates are made of anew, and how many are read for it.
+-- The rows of an image from which the groups of its aggregates are recomputed, and how many rows that reads.
 use Rattle.std.specs.Prelude.{◌≡◌, ℕ, ◌+◌, Bool, true, false, ◌||◌, ◌&&◌, not, cond, ◌==◌, List, [], ◌∷◌, ◌++◌, length, Option, Some, None}
 use Rattle.ts_schema.specs.declared.rows.Row.{Row}
 use Rattle.partial_agg.specs.declared.groups.Group.{Group}
@@ -17,7 +17,7 @@ use Rattle.engine_state.specs.declared.group_rebuilds.GroupRebuild.{GroupRebuild
 
 -- ---- how many rows are read
 
--- of an operation: those that it inserts, where its table passes a test
+-- of an operation: the rows that it inserts, if its table passes a test
 abbrev pub op_reads : (ℕ → Bool) → Op → ℕ
 op_reads test (Insert t new) = cond (test t) (length new) 0
 op_reads test (Delete t tests) = 0
@@ -45,18 +45,18 @@ feeds t (def ∷ defs) (v ∷ vs) = (was_refreshed v && t == def.table) || feeds
 abbrev pub rows_refolded : Image → ℕ
 rows_refolded i = events_read (λ t. feeds t (image_roster i).views i.views) i.rows
 
--- ---- groups in the making
+-- ---- groups under construction
 
 -- these rows are of table t
 abbrev pub rows_of : ℕ → List Row → ℕ → List Row
 rows_of t rows u = cond (t == u) rows []
 
--- they can take in more rows: they are of some that were taken in
+-- more rows can be added to them: some rows were added so far
 abbrev pub CanTake : Option GroupRebuild → Type 0
 CanTake None = Unit {0}
 CanTake (Some r) = (rows : List Row) × HasTaken r.plan rows r.folding
 
--- they have taken in more rows, which are those of their table
+-- the rows of their table were added to them
 pub record TakesMore (rows : ℕ → List Row) (old new : GroupRebuild) : Type 0 where
   pub table_is : new.table ≡ old.table
   pub plan_is : new.plan ≡ old.plan
@@ -81,7 +81,7 @@ pub record Refolds (rows : ℕ → List Row) (def : ViewDef) (r : GroupRebuild) 
   pub plan_is : r.plan ≡ def.fold
   pub taken : HasTaken r.plan (rows def.table) r.folding
 
--- an aggregate has groups in the making exactly where it was refreshed
+-- an aggregate has groups under construction exactly if it was refreshed
 abbrev pub IsRefoldOf : (ℕ → List Row) → ViewDef → SavedView → Option GroupRebuild → Type 0
 IsRefoldOf rows def kept None = was_refreshed kept ≡ false
 IsRefoldOf rows def kept (Some r) = (was_refreshed kept ≡ true) × Refolds rows def r
@@ -89,14 +89,14 @@ IsRefoldOf rows def kept (Some r) = (was_refreshed kept ≡ true) × Refolds row
 abbrev pub AreRefolds : Image → (ℕ → List Row) → ℕ → ViewDef → Option GroupRebuild → Type 0
 AreRefolds i rows n def r = IsRefoldOf rows def (saved_view n i) r
 
--- ---- groups that were made
+-- ---- finished groups
 
--- they are those in the making
+-- they are the groups of all rows that were added
 abbrev pub Makes : Option GroupRebuild → List Group → Type 0
 Makes None groups = groups ≡ []
 Makes (Some r) groups = (rows : List Row) → HasTaken r.plan rows r.folding → groups ≡ groups_of r.plan rows
 
--- they are those of all rows that an image holds of the table of an aggregate, where that was refreshed
+-- if an aggregate was refreshed, they are the groups of all rows that an image holds of its table; otherwise none
 abbrev pub IsRefolded : Image → ViewDef → SavedView → List Group → Type 0
 IsRefolded i def kept groups =
     groups ≡ cond (was_refreshed kept) (groups_of def.fold (appended_over def.table i.rows)) []

@@ -1,4 +1,4 @@
--- The materialised groups of an aggregate beside a history.
+-- The materialized groups of an aggregate, compared with a history.
 use Rattle.std.specs.Prelude.{◌≡◌, ℕ, Bool, true, not, ◌&&◌, cond, List, ℤ, Option}
 use Rattle.std.specs.List.{list_all}
 use Rattle.ts_bucket.specs.Bucket.{is_bucket}
@@ -30,14 +30,14 @@ pub record GroupsStand (n : ℕ) (def : ViewDef) (h : History) (mark : Option �
 abbrev pub is_renewed : List Span → ℕ → Option ℕ → ℤ → Bool
 is_renewed spans snap last b = lies_in spans b && not (is_above snap last)
 
--- groups in place of those of spans
+-- the groups in these spans are replaced by others
 pub record AreReplaced (spans : List Span) (put old new : List Group) : Type 0 where
   pub in_order : AreInOrder new
   pub exact : (b : ℤ) → of_bucket b new ≡ cond (lies_in spans b) (of_bucket b put) (of_bucket b old)
   pub all : (test : Group → Bool) → list_all test put ≡ true → list_all test old ≡ true → list_all test new ≡ true
 
--- what a finish with a snapshot puts in: the groups of its job at the buckets that the snapshot isn't older than,
--- which these spans hold
+-- what a finish with a snapshot writes: the groups of its job in the buckets that the snapshot isn't older than, which
+-- lie in these spans
 pub record AreRenewed (n : ℕ) (def : ViewDef) (h : History) (snap : ℕ) (spans : List Span) (groups : List Group)
     (renewed : List Span) (put : List Group) : Type 0 where
   pub spans_are : (b : ℤ) → is_bucket def.fold.width b ≡ true → lies_in renewed b ≡ is_renewed spans snap (last n h b) b

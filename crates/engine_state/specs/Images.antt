@@ -1,4 +1,4 @@
--- What an image keeps, beside what a state is made of.
+-- What an image keeps of the parts of a state.
 use Rattle.std.specs.Prelude.{map}
 use Rattle.span_map.specs.declared.pieces.Piece.{Piece}
 use Rattle.partial_agg.specs.Summaries.{Summary}

@@ -1,7 +1,7 @@
--- Lists that go together place by place.
+-- Lists related place by place.
 use Rattle.std.specs.Prelude.{ℕ, suc, List, [], ◌∷◌}
 
--- two lists are xs long, and from place i on this holds of each place and what stands there in both
+-- two lists have the same length, and from place i on each place and the two items there are related
 abbrev pub EachFrom : {A B : Type 0} → (ℕ → A → B → Type 0) → ℕ → List A → List B → Type 0
 EachFrom R i [] [] = Unit {0}
 EachFrom R i [] (b ∷ ys) = ⊥

@@ -1,4 +1,4 @@
--- What the parts of a state become by one more event, at each history that they stand for.
+-- What the parts of a state become after one more event, for each history that they represent.
 use Rattle.std.specs.Prelude.{◌≡◌, ℕ, Bool, true, ℤ, Option, IfSome}
 use Rattle.ts_model.specs.declared.events.Event.{Event}
 use Rattle.ts_model.specs.declared.events.Event.TheVariants.{Table, Mode, Built}
@@ -13,8 +13,8 @@ use Rattle.refresh_build.specs.Fitting.{JobFits, JobIsFor}
 use Rattle.engine_state.specs.Stands.{StateValue, StandsFor}
 use Rattle.engine_state.specs.Afters.{CountsAre}
 
--- whatever history a state stands for, where the event is consistent with it, the new one stands for the history with
--- the event
+-- for each history that a state represents and with which the event is consistent, the new state represents the
+-- history with the event
 abbrev pub StepsTo : StateValue → Event → StateValue → Type 0
 StepsTo s e new = (h : History) → StandsFor h s → consistent h e ≡ true → StandsFor (h ▸ e) new
 
@@ -35,11 +35,11 @@ FinishesTo s job new =
     (h : History) → StandsFor h s → consistent h (Built job.cut job.snap) ≡ true → JobFits h job
     → StandsFor (h ▸ Built job.cut job.snap) new
 
--- and the event appends and takes away so many rows
+-- and the event appends and removes so many rows
 abbrev pub Counts : StateValue → Event → ℕ → ℕ → Type 0
 Counts s e inserted removed = (h : History) → StandsFor h s → consistent h e ≡ true → CountsAre h e inserted removed
 
--- whatever history a state stands for, a refresh of an aggregate with this window covers these buckets
+-- for each history that a state represents, a refresh of an aggregate with this window covers these buckets
 abbrev pub WindowIs : StateValue → ℕ → Option ℤ → Option ℤ → Window → Type 0
 WindowIs s view lo hi found =
     (h : History) → StandsFor h s → IfSome (view_of s.roster view) (λ def. found ≡ window view def h lo hi)

@@ -1,4 +1,4 @@
--- What is made of an image.
+-- The state of a history that begins with an image.
 use Rattle.std.specs.Prelude.{◌≡◌, ℕ, true, List, [], ℤ, Option, Some, None}
 use Rattle.ts_schema.specs.declared.rows.Row.{Row}
 use Rattle.seg_rows.specs.Versions.{rows_of}

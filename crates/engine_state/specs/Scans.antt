@@ -1,4 +1,4 @@
--- What a position sees of a hypertable.
+-- The rows of a hypertable that are visible at a position.
 use Rattle.std.specs.Prelude.{ℕ, List, filter}
 use Rattle.ts_bucket.specs.Spans.{in_span}
 use Rattle.ts_bucket.specs.declared.spans.Span.{Span}

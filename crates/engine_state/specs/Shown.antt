@@ -57,15 +57,15 @@ pub record IsRefreshOf (h : History) (cut : ℕ) (refresh : Refresh) : Type 0 wh
   pub span_is : span_of_cut refresh.view h cut ≡ Some refresh.span
   pub view_is : IsSome (view_of (roster h) refresh.view)
 
--- an answer shows the groups that an aggregate has of the buckets asked for, with those of the rows at or above its
+-- an answer shows the groups that an aggregate has of the requested buckets, with those of the rows at or above its
 -- mark, and names the buckets below its mark that are out of date
 pub record IsShown (def : ViewDef) (view : ViewValue) (entries : List Entry) (starts : Span) (rows : List Row)
     (found : Answer) : Type 0 where
   pub rows_are : found.rows ≡ union_rows def (within starts view.groups) view.mark starts (in_order rows)
   pub stale_are : AreRanges def.fold.width starts (is_stale_with view.log entries view.mark) found.stale
 
--- the stored rows in chunks that meet a bucket asked for at or above a mark, and none where it shows materialised
--- rows only
+-- how many stored rows are in chunks that meet a requested bucket at or above a mark, or 0 if the aggregate shows only
+-- materialized rows
 abbrev pub view_reads : ViewDef → Option ℤ → Span → TableValue → ℕ
 view_reads def mark starts table =
     cond def.only 0

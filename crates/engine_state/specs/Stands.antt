@@ -1,4 +1,4 @@
--- The engine stands for a history.
+-- When a state represents a history.
 use Rattle.std.specs.Prelude.{◌≡◌, ℕ, true, List, Option, Some, None}
 use Rattle.ts_model.specs.declared.rosters.Roster.{Roster}
 use Rattle.ts_model.specs.declared.tables.TableInfo.{TableInfo}
@@ -20,7 +20,7 @@ pub record StateValue : Type 0 where
   pub views : List ViewValue
   pub refreshes : List Refresh
 
--- the state of an aggregate stands, where its table is there
+-- the state of an aggregate is right, and its table exists
 abbrev pub ViewIs : History → ℕ → ViewDef → Option TableValue → ViewValue → Type 0
 ViewIs h n def None view = ⊥
 ViewIs h n def (Some table) view = ViewStands h n def table.log view
@@ -32,8 +32,8 @@ TableAt h t info table = TableIs h t info.hyper table
 abbrev pub ViewAt : History → List (Option TableValue) → ℕ → ViewDef → ViewValue → Type 0
 ViewAt h tables n def view = ViewIs h n def (table_at tables def.table) view
 
--- a state stands for a history, which is a consistent one. (A field hides the word of its name in those after it, so
--- two names come last.)
+-- a state represents a history, which is consistent. (A field's name hides the definition of that name in later
+-- fields, so two fields come last.)
 pub record StandsFor (h : History) (s : StateValue) : Type 0 where
   pub consistent : all_consistent h ≡ true
   -- each table of the roster has the state of that number, and so has each aggregate
@@ -43,7 +43,7 @@ pub record StandsFor (h : History) (s : StateValue) : Type 0 where
   pub position : s.position ≡ position h
   pub roster : s.roster ≡ roster h
 
--- a state stands for some history
+-- a state represents some history
 pub record Stands (s : StateValue) : Type 0 where
   pub history : History
   pub stands : StandsFor history s

@@ -51,7 +51,7 @@ abbrev pub AsksIf : List Op → ℕ → ℕ → Option TableValue → Type 0
 AsksIf ops pos t None = Unit {0}
 AsksIf ops pos t (Some table) = TableAsks ops pos t table
 
--- how many rows they append to a hypertable, and how many they take away
+-- how many rows they append to a hypertable, and how many they remove
 abbrev pub appended_to : List Op → ℕ → Option TableValue → ℕ
 appended_to ops t None = 0
 appended_to ops t (Some table) = length (all_appended t ops)

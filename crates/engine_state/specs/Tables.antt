@@ -1,4 +1,4 @@
--- A hypertable's state beside a history.
+-- A hypertable's state, compared with a history.
 use Rattle.std.specs.Prelude.{◌≡◌, ℕ, List, Option, Some, None}
 use Rattle.std.specs.List.{slice_get}
 use Rattle.std.specs.Option.{option_and_then}
@@ -25,7 +25,7 @@ pub record TableStands (h : History) (t : ℕ) (hyper : Hyper) (table : TableVal
   pub interval : table.rows.interval ≡ hyper.interval
   pub log : LogStands h table.log
 
--- a hypertable has a state that stands, and another table has none
+-- a hypertable has its state, and another table has none
 abbrev pub TableIs : History → ℕ → Option Hyper → Option TableValue → Type 0
 TableIs h t None None = Unit {0}
 TableIs h t None (Some table) = ⊥

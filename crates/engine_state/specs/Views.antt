@@ -1,4 +1,4 @@
--- An aggregate's state beside a history.
+-- An aggregate's state, compared with a history.
 use Rattle.std.specs.Prelude.{◌≡◌, ℕ, List, ℤ, Option}
 use Rattle.inval_log.specs.Logs.{LogValue as TableLog}
 use Rattle.mat_log.specs.Logs.{LogValue as ViewLog}
@@ -10,8 +10,8 @@ use Rattle.coverage.specs.Coverage.{IsCovered}
 use Rattle.engine_state.specs.Groups.{GroupsStand}
 use Rattle.engine_state.specs.Notes.{notes_in}
 
--- what contracts see of it: the number of its table, what is pending and was refreshed, its materialised groups, and
--- its watermark
+-- its value in contracts: the number of its table, what is pending and was refreshed, its materialized groups, and its
+-- watermark
 pub record ViewValue : Type 0 where
   pub table : ℕ
   pub log : ViewLog

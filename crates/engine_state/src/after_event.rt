@@ -1,21 +1,21 @@
-//! What events and operations make, and the rows that they move.
+//! The results of events and operations, and the rows that they move.
 ghost use Rattle.std.specs.Prelude.{◌≡◌};
 
-/// What an event, or operations, made of something, and how many rows they moved.
+/// The result of an event or of operations, and how many rows they appended and removed.
 #[derive(Drop)]
 pub struct AfterEvent<T> {
-    /// What they made of it.
+    /// The result.
     pub made: T,
     /// How many rows they appended.
     pub inserted: u64,
-    /// How many rows they took away.
+    /// How many rows they removed.
     pub removed: u64,
 }
 
 impl<T> AfterEvent<T> {
     ghost use Rattle.std.specs.Prelude.{◌≡◌};
 
-    /// What an event made that moves no row.
+    /// The result of an event that moves no row.
     pub(crate) fn still(made: T) -> AfterEvent<T>
         ensures made { result.made ≡ made }
         ensures inserted { result.inserted ≡ 0 }

@@ -35,8 +35,8 @@ use ts_bucket::Span;
 use ts_model::{Answer, Fold, Query, ResultRows, ViewDef};
 use ts_schema::{NoMemory, Seq, Steps, Test};
 
-/// The rows of a hypertable that pass every test, with all their columns, where the time column is at
-/// place `at`. Those whose times show that they don't pass are looked at, and not taken.
+/// The rows of a hypertable that match every test, with all their columns; `at` is the place of the time
+/// column. Rows whose times rule them out are read but not copied.
 fn filter_rows<L>(
     alloc: Global,
     rows: &TableAt<'_>,
@@ -59,7 +59,7 @@ fn filter_rows<L>(
     passing_rows(alloc, &timed, table, at, tests, steps)
 }
 
-/// What a grouping over a hypertable shows.
+/// The result rows of a grouping over a hypertable.
 fn group_rows<R: Threads + Sync, L>(
     rt: &R,
     alloc: Global,
@@ -78,7 +78,7 @@ fn group_rows<R: Threads + Sync, L>(
     folded_rows(rt, alloc, rows, table, fold, steps)
 }
 
-/// What an aggregate shows of the buckets asked for, by its materialised groups of them and its mark.
+/// What an aggregate shows of the requested buckets, given their materialized groups and its watermark.
 fn aggregate_rows<R: Threads + Sync, L>(
     rt: &R,
     alloc: Global,
@@ -176,7 +176,7 @@ fn view_answer<R: Threads + Sync, L>(
 }
 
 impl StateParts {
-    /// The rows of a hypertable that pass every test.
+    /// The rows of a hypertable that match every test.
     fn rows_shown<L>(
         &self,
         alloc: Global,
@@ -196,7 +196,7 @@ impl StateParts {
         rows_answer(alloc, &rows, table, at, tests, steps)
     }
 
-    /// What a grouping over a hypertable shows.
+    /// The answer to a grouping over a hypertable.
     fn buckets_shown<R: Threads + Sync, L>(
         &self,
         rt: &R,
@@ -216,7 +216,7 @@ impl StateParts {
         buckets_answer(rt, alloc, &rows, table, fold, steps)
     }
 
-    /// What an aggregate shows of the buckets asked for.
+    /// What an aggregate shows of the requested buckets.
     fn view_shown<R: Threads + Sync, L>(
         &self,
         rt: &R,
@@ -236,7 +236,7 @@ impl StateParts {
         view_answer(rt, alloc, &seen.rows, seen.def, seen.state, starts, steps)
     }
 
-    /// What the query shows. It counts one step for each stored row that it looks at.
+    /// The answer to a query. It counts one step for each stored row that it reads.
     pub(crate) fn answer<R: Threads + Sync, L>(
         &self,
         rt: &R,
@@ -258,7 +258,7 @@ impl StateParts {
 }
 
 impl State {
-    /// What the query shows. It counts one step for each stored row that it looks at.
+    /// The answer to a query. It counts one step for each stored row that it reads.
     pub fn answer<R: Threads + Sync, L>(
         &self,
         rt: &R,

@@ -14,10 +14,10 @@ use std::alloc::Global;
 use ts_bucket::Span;
 use ts_schema::{NoMemory, Row, Seq, Steps};
 
-/// A span is parted to this depth at most: each cut goes down the tree of chunks, which has fewer levels.
+/// How deep a span is split at most: each cut goes down the tree of chunks, which has fewer levels.
 const MOST_CUTS: u32 = 64;
 
-/// Appends a span, or its parts one after another, where its rows are many.
+/// Appends a span, or its parts in order if it has many rows.
 fn push_parts(rows: &Table, span: Span, cuts: u32, into: &mut Seq<Span>) -> Result<(), NoMemory>
     ensures { (lo : ℤ) → AreChained lo span.lo into.old → OnOk result (AreChained lo span.hi into.new) }
 {
@@ -37,7 +37,7 @@ fn push_parts(rows: &Table, span: Span, cuts: u32, into: &mut Seq<Span>) -> Resu
     }
 }
 
-/// All times, as spans of which each meets few rows of a table, or one chunk.
+/// All times, split into spans that each meet few rows of a table, or one chunk.
 fn all_parts(alloc: Global, rows: &Table) -> Result<Seq<Span>, NoMemory>
     ensures { IfOk result (AreChained min_time (max_time +ℤ pos 1)) }
 {
@@ -47,7 +47,7 @@ fn all_parts(alloc: Global, rows: &Table) -> Result<Seq<Span>, NoMemory>
 }
 
 impl StateParts {
-    /// Spans whose rows, one span after another, are those of a table.
+    /// Spans in order whose rows together are those of a table.
     pub(crate) fn spans(&self, alloc: Global, table: u32) -> Result<Seq<Span>, NoMemory>
         requires stands { Stands self.now }
         ensures spans { IfOk result (λ spans. span_rows (state_rows self.now table) spans ≡ state_rows self.now table) }

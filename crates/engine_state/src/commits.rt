@@ -1,4 +1,4 @@
-//! What the operations of a commit make of all hypertables.
+//! What the operations of a commit do to all hypertables.
 ghost use Rattle.std.specs.Prelude.{◌≡◌, ◌+◌, ◌≤◌, ◌^◌, length, IfOk};
 ghost use Rattle.std.specs.List.{list_any};
 ghost use Rattle.ts_model.specs.Effect.{all_appended, all_taken};
@@ -57,7 +57,7 @@ fn table_after(
     })
 }
 
-/// The state of a table after operations, where it is a hypertable.
+/// The state of a tableafter operations, if it is a hypertable.
 fn after_ops_if(
     alloc: Global,
     table: &Option<TableState>,
@@ -87,8 +87,8 @@ fn after_ops_if(
     }
 }
 
-/// The sum of two counts of rows. One past its type's end is answered as want of memory, which that
-/// many rows would be.
+/// The sum of two counts of rows. A sum over 64 bits is reported as out of memory: so many rows wouldn't
+/// fit.
 fn sum(a: u64, b: u64) -> Result<u64, NoMemory>
     ensures { IfOk result (λ n. n ≡ a + b) }
 {

@@ -1,4 +1,4 @@
-//! What a finish makes of its aggregate.
+//! What a finish does to its aggregate.
 ghost use Rattle.std.specs.Prelude.{IfOk};
 ghost use Rattle.ts_bucket.specs.WholeSpans.{IsWholeSpan};
 ghost use Rattle.mat_rows.specs.Replacing.{AreSpans, SpansRise};
@@ -13,7 +13,7 @@ use ts_bucket::Span;
 use ts_num::greater;
 use ts_schema::{NoMemory, Seq};
 
-/// Materialised groups with new ones in place of those of some ranges of buckets.
+/// The materialized groups, with those in some ranges of buckets replaced by new ones.
 fn replace_ranges(old: &MatRows, ranges: &Seq<Span>, groups: &MatRows) -> Result<MatRows, NoMemory>
     requires sizes { AreSpans ranges.now }
     requires rising { SpansRise ranges.now }

@@ -1,4 +1,4 @@
-//! The groups of the aggregates of an image, made anew of the rows that it holds. The rows of a table are
+//! The groups of the aggregates of an image, recomputed from the rows that it holds. The rows of a table are
 //! read once, however many aggregates are over it.
 ghost use Rattle.std.specs.Prelude.{◌≡◌, [], ◌∷◌, cond, length, true, IfOk, OnOk, Some};
 ghost use Rattle.std.specs.List.{AllByRecursion, AllZip, list_all, list_any};
@@ -17,10 +17,10 @@ use std::collections::VecDeque;
 use ts_model::{Event, Fold, Image, Op, Roster, SavedView, ViewDef};
 use ts_schema::{NoMemory, Row, Seq, Steps};
 
-/// So many rows are taken in by each aggregate before the next ones are read.
+/// Each aggregate adds this many rows before the next ones are read.
 const PIECE: usize = 1024;
 
-/// The groups of a refreshed aggregate in the making.
+/// The groups of a refreshed aggregate, under construction.
 #[derive(Drop)]
 struct GroupRebuild {
     /// The number of its table.
@@ -30,7 +30,7 @@ struct GroupRebuild {
 }
 
 impl GroupRebuild {
-    /// Takes in rows of a table, where they are of this one.
+    /// Adds rows of a table, if it is the table of the aggregate.
     fn take(&mut self, alloc: Global, table: u32, rows: &[Row]) -> Result<(), NoMemory>
         requires times { AreTimes rows.now }
         requires before { CanTake (Some self.old) }
@@ -43,7 +43,7 @@ impl GroupRebuild {
     }
 }
 
-/// The groups of an aggregate in the making, where it was refreshed.
+/// Begins the groups of an aggregate, if it was refreshed.
 fn begin_refold(
     alloc: Global,
     def: &ViewDef,
@@ -80,7 +80,7 @@ fn begin_all(
     Ok(made)
 }
 
-/// Takes in rows of a table, where there are groups in the making.
+/// Adds rows of a table to the groups under construction, if there are any.
 fn take_if(
     alloc: Global,
     refold: &mut Option<GroupRebuild>,
@@ -174,7 +174,7 @@ fn is_over(refold: &Option<GroupRebuild>, table: u32) -> bool
     }
 }
 
-/// Reads rows of a table, where a refreshed aggregate is over it.
+/// Reads rows of a table, if a refreshed aggregate is over it.
 fn take_insert<L>(
     alloc: Global,
     refolds: &mut [Option<GroupRebuild>],
@@ -194,7 +194,7 @@ fn take_insert<L>(
     Ok(())
 }
 
-/// Reads the rows that an operation inserts, where a refreshed aggregate is over their table.
+/// Reads the rows that an operation inserts, if a refreshed aggregate is over their table.
 fn take_op<L>(
     alloc: Global,
     refolds: &mut [Option<GroupRebuild>],
@@ -262,7 +262,7 @@ fn take_events<L>(
     }
 }
 
-/// The groups of an aggregate, where it was refreshed.
+/// The groups of an aggregate, if it was refreshed.
 fn finish_refold(alloc: Global, refold: Option<GroupRebuild>) -> Result<MatRows, NoMemory>
     requires before { CanTake refold }
     ensures { IfOk result (Makes refold) }
@@ -290,8 +290,8 @@ fn finish_all(alloc: Global, refolds: Vec<Option<GroupRebuild>>) -> Result<Seq<M
     Ok(made)
 }
 
-/// For each aggregate of an image that was refreshed its groups of all rows of its table. It counts one step
-/// for each row of a table over which there is such an aggregate.
+/// For each aggregate of an image that was refreshed, its groups of all rows of its table. It counts one
+/// step for each row of a table over which there is such an aggregate.
 pub(crate) fn refold_all<L>(
     alloc: Global,
     roster: &Roster,

@@ -19,7 +19,7 @@ use std::sync::Arc;
 use ts_model::{Event, Image, Roster};
 use ts_schema::{NoMemory, Seq, Steps};
 
-/// The roster that these events make.
+/// The roster that these events result in.
 pub fn roster_from_image(alloc: Global, events: &[Event]) -> Result<Roster, NoMemory>
     ensures { IfOk result (λ made. made ≡ roster_over no_relations events.now) }
 {

@@ -98,7 +98,7 @@ fn end_if(counts: bool, lasts: &[SavedLast]) -> Option<i64>
     if counts { last_end(lasts) } else { None }
 }
 
-/// The end of the span of a refresh that waits, where it is of an aggregate over a table.
+/// The end of the span of a pending refresh, if it is of an aggregate over a table.
 fn waiting_over(table: u32, roster: &Roster, waiting: &Waiting) -> Option<i64>
     ensures { result ≡ cond (is_over table (view_of roster.now waiting.now.view)) (Some waiting.now.span.hi) None }
 {
@@ -119,7 +119,7 @@ fn waiting_end(table: u32, roster: &Roster, waiting: &[Waiting]) -> Option<i64>
     end
 }
 
-/// The empty log with a threshold, where there is one.
+/// The empty log with a threshold, if there is one.
 fn empty_log(alloc: Global, threshold: Option<i64>) -> InvalLog
     ensures threshold { result.threshold ≡ number_of threshold }
     ensures entries { result.entries ≡ [] }
@@ -131,7 +131,7 @@ fn empty_log(alloc: Global, threshold: Option<i64>) -> InvalLog
     log
 }
 
-/// The state of a table of the history that begins with an image, where it is a hypertable.
+/// The state of a table of the history that begins with an image, if it is a hypertable.
 fn table_from_image(
     alloc: Global,
     table: u32,

@@ -1,4 +1,4 @@
-//! What the image of a history is made of, as a state gives it.
+//! The parts of a history's image, read from a state.
 ghost use Rattle.std.specs.Prelude.{◌≡◌, ◌∷◌, [], map, IfOk, IsSome, Some};
 ghost use Rattle.ts_model.specs.declared.views.ViewDef.{ViewDef};
 ghost use Rattle.ts_model.specs.History.{History, position};
@@ -110,7 +110,7 @@ impl StateParts {
         }
     }
 
-    /// The last refreshes of an aggregate, as ranges that are as long as can be.
+    /// The last refreshes of an aggregate, as maximal ranges.
     fn lasts(&self, alloc: Global, view: u32) -> Result<Seq<SavedLast>, NoMemory>
         requires stands { Stands self.now }
         requires view { IsSome (view_of self.now.roster view) }
@@ -122,8 +122,7 @@ impl StateParts {
         saved_lasts(alloc, pieces.items())
     }
 
-    /// The buckets of an aggregate that were touched after their last refresh, as ranges that are as long
-    /// as can be.
+    /// The buckets of an aggregate that were touched after their last refresh, as maximal ranges.
     fn dirty(&self, view: u32) -> Result<Seq<Span>, NoMemory>
         requires stands { Stands self.now }
         requires view { IsSome (view_of self.now.roster view) }

@@ -22,7 +22,7 @@ use std::thread::Threads;
 use ts_schema::{NoMemory, Steps};
 
 impl StateParts {
-    /// The refresh with this number, to be made of the rows of a position.
+    /// The refresh with this number, to be computed from the rows of a position.
     fn refresh(&self, cut: u64, snap: u64) -> Refresh
         requires waits { IsTrue (is_waiting (pending_in self.now.refreshes cut)) }
         ensures snap { result.snap ≡ snap }
@@ -62,7 +62,7 @@ impl StateParts {
         )
     }
 
-    /// The job of a finish that was read from a journal: the refresh is made again of the rows that its
+    /// The job of a finish that was read from a journal: the refresh is recomputed from the rows that its
     /// snapshot saw.
     fn rebuild<R: Threads + Sync>(
         &self,
@@ -98,8 +98,8 @@ impl StateParts {
 }
 
 impl State {
-    /// A job for the refresh with this number, which waits, from the rows of this state. It makes anew
-    /// the buckets that are out of date, and counts one step for each stored row that it looks at.
+    /// A job for the pending refresh with this number, from the rows of this state. It recomputes the
+    /// buckets that are out of date, and counts one step for each stored row that it reads.
     pub fn start_job<R: Threads + Sync, L>(
         &self,
         rt: &R,
@@ -115,8 +115,8 @@ impl State {
         self.parts.start_job(rt, self.alloc, cut, steps)
     }
 
-    /// The job of the finish of a refresh with this snapshot, which may come next, as a journal tells
-    /// it. It makes anew the buckets that are out of date, and those that were refreshed at a later
+    /// The job of a finish that a journal contains and that may come next, by the number and the snapshot of
+    /// its refresh. It recomputes the buckets that are out of date, and those that were refreshed at a later
     /// snapshot.
     pub fn rebuild<R: Threads + Sync>(&self, rt: &R, cut: u64, snap: u64) -> Result<Job, NoMemory>
         requires sync { IsSync R.row }

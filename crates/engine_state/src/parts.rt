@@ -1,4 +1,4 @@
-//! What a state is made of.
+//! The parts of a state.
 ghost use Rattle.std.specs.Prelude.{◌≡◌, [], suc, option_copied, IfOk, IsSome, Some};
 ghost use Rattle.std.specs.Arc.{arc_value};
 ghost use Rattle.ts_model.specs.Roster.{no_relations, roster_after};
@@ -14,14 +14,14 @@ use std::sync::Arc;
 use ts_model::{Event, Roster};
 use ts_schema::{NoMemory, Seq};
 
-/// The parts of a state. Contracts see what they see of a state.
+/// The parts of a state. They have the same value in contracts as the state.
 #[derive(Drop)]
 pub(crate) struct StateParts {
     /// The position of the history.
     pub position: u64,
     /// Its tables and aggregates.
     pub roster: Arc<Roster>,
-    /// For each table its state, where it is a hypertable.
+    /// For each table its state, if it is a hypertable.
     pub tables: Seq<Option<TableState>>,
     /// For each aggregate its state.
     pub views: Seq<ViewState>,
@@ -45,7 +45,7 @@ impl Model for StateParts {
 }
 
 impl StateParts {
-    /// The parts of the state of no event.
+    /// The parts of the state of the empty history.
     pub(crate) fn none(alloc: Global) -> Result<StateParts, NoMemory>
         ensures position { IfOk result (λ parts. parts.position ≡ 0) }
         ensures roster { IfOk result (λ parts. parts.roster ≡ no_relations) }
@@ -66,8 +66,8 @@ impl StateParts {
         })
     }
 
-    /// The number of the next event. One past its type's end is answered as want of memory, which
-    /// that many events would be.
+    /// The number of the next event. A number over 64 bits is reported as out of memory: so many events
+    /// wouldn't fit.
     pub(crate) fn next_position(&self) -> Result<u64, NoMemory>
         ensures next { IfOk result (λ next. next ≡ suc self.now.position) }
     {
@@ -77,7 +77,7 @@ impl StateParts {
         }
     }
 
-    /// The same roster again. It is a count.
+    /// Another owner of the same roster. It only increments a reference count.
     pub(crate) fn same_roster(&self) -> Result<Arc<Roster>, NoMemory>
         ensures same { IfOk result (λ roster. arc_value roster ≡ self.now.roster) }
     {
@@ -113,7 +113,7 @@ impl StateParts {
         }
     }
 
-    /// The state of the table with this number, where it is a hypertable.
+    /// The state of the table with this number, if it is a hypertable.
     pub(crate) fn table_if(&self, number: u32) -> Option<&TableState>
         ensures table { option_copied result ≡ table_at self.now.tables number }
     {

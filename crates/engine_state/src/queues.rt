@@ -1,4 +1,4 @@
-//! Answers of queries with a queue of operations on top.
+//! Answers to queries with a queue of operations on top.
 ghost use Rattle.std.specs.Prelude.{◌≡◌, IfOk, IsTrue, None};
 ghost use Rattle.std.specs.Thread.{IsSync};
 ghost use Rattle.ts_schema.specs.Counts.{Ticks};
@@ -19,7 +19,7 @@ use ts_model::{Answer, Op, Query};
 use ts_schema::{NoMemory, Seq, Steps};
 
 impl StateParts {
-    /// What the query shows after a commit of these operations.
+    /// The answer to a query after a commit of these operations.
     fn answer_after<R: Threads + Sync, L>(
         &self,
         rt: &R,
@@ -40,7 +40,7 @@ impl StateParts {
         step.made.answer(rt, alloc, query, steps)
     }
 
-    /// What the query shows with a queue of operations on top, which may be empty.
+    /// The answer to a query with a queue of operations on top, which may be empty.
     fn answer_with<R: Threads + Sync, L>(
         &self,
         rt: &R,
@@ -66,9 +66,9 @@ impl StateParts {
 }
 
 impl State {
-    /// What the query would show directly after one commit of these operations, and with none of them
-    /// what it shows. The state itself stays as it was. It counts one step for each stored row that it
-    /// looks at, those of the operations among them.
+    /// The answer that a query would get right after a commit of these operations, or gets now if there are
+    /// none. The state itself doesn't change. It counts one step for each stored row that it reads,
+    /// including those of the operations.
     pub fn answer_with<R: Threads + Sync, L>(
         &self,
         rt: &R,

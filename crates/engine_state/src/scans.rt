@@ -18,7 +18,7 @@ use ts_bucket::Span;
 use ts_model::{Hyper, RowsAt, ViewDef};
 use ts_schema::{NoMemory, Row, Seq, Steps};
 
-/// A hypertable at a position. It is the one that a scan goes over, whatever number is named.
+/// A hypertable at a position. A scan reads this one, whatever number it is given.
 #[derive(Clone, Copy)]
 pub(crate) struct TableAt<'a> {
     /// Its state.
@@ -43,8 +43,8 @@ impl RowsAt for TableAt<'_> {
     }
 }
 
-/// The rows of a hypertable at a position whose times lie in a span. A scan looks at other rows, too, but
-/// takes none of them.
+/// The rows of a hypertable at a position whose times lie in a span. A scan reads other rows, too, but
+/// copies none of them.
 #[derive(Clone, Copy)]
 pub(crate) struct RowsInSpan<'a> {
     /// The hypertable.

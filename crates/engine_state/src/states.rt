@@ -17,7 +17,7 @@ use std::marker::Model;
 use ts_model::{Event, Pending, Roster, Waiting, Window};
 use ts_schema::{NoMemory, Seq};
 
-/// The state of an engine: what it keeps of a history. It stands for a consistent history.
+/// The state of an engine: what it keeps of a consistent history, which it represents.
 #[derive(Drop)]
 pub struct State {
     pub(crate) alloc: Global,
@@ -59,14 +59,14 @@ impl State {
         &self.parts.roster
     }
 
-    /// What became of the refresh with this number.
+    /// Whether the refresh with this number is pending, finished or unknown.
     pub fn pending(&self, cut: u64) -> Pending
         ensures pending { (h : History) → StandsFor h self.now → result ≡ pending h cut }
     {
         self.parts.refreshes.pending(cut)
     }
 
-    /// The refreshes that were cut and not finished, in order of their cuts.
+    /// The pending refreshes, in order of their cuts.
     pub fn waiting(&self) -> Result<Seq<Waiting>, NoMemory>
         ensures waiting { (h : History) → StandsFor h self.now → IfOk result (λ found. found ≡ waiting h) }
     {
@@ -74,8 +74,8 @@ impl State {
     }
 
     /// The buckets that a refresh of an aggregate covers whose window is from `lo` on and below `hi`. A
-    /// missing start is that of the first bucket, and a missing end the greater of the aggregate's
-    /// watermark and the end of the last bucket with a row.
+    /// missing start means the first bucket. A missing end means the aggregate's watermark or the end of the
+    /// last bucket with a row, whichever is greater.
     pub fn window(&self, view: u32, lo: Option<i64>, hi: Option<i64>) -> Window
         requires view { IsSome (view_of self.now.roster view) }
         requires low { ForSome lo (λ t. IsTrue (is_time t)) }
@@ -85,9 +85,9 @@ impl State {
         self.parts.window(view, lo, hi)
     }
 
-    /// The state after an event that is consistent with the history. One that finishes a refresh comes
-    /// with a job of it. The state itself stays as it was, and the two share what the event leaves alone. Rows
-    /// are counted over all tables.
+    /// The state after an event that is consistent with the history. An event that finishes a refresh needs
+    /// its job. The state itself doesn't change, and the two share what the event leaves alone. Rows are
+    /// counted over all tables.
     pub fn after(&self, event: &Event, job: Option<Job>) -> Result<AfterEvent<State>, NoMemory>
         requires next { IsNext self.now event.now job }
         ensures stands { IfOk result (λ after. GoesTo self.now event.now job after.made) }

@@ -1,4 +1,4 @@
-//! What each event makes of the parts of a state.
+//! What each event does to the parts of a state.
 ghost use Rattle.std.specs.Prelude.{◌≡◌, IfOk, None, Some};
 ghost use Rattle.ts_model.specs.declared.events.Event.TheVariants.{Built, Commit, Cut, Hyper as HyperMade, View};
 ghost use Rattle.engine_state.specs.Afters.{IsNext};
@@ -63,7 +63,7 @@ impl StateParts {
         self.with_roster(alloc, event)
     }
 
-    /// What operations made of the parts.
+    /// The parts after operations.
     pub(crate) fn with_ops(
         &self,
         alloc: Global,
@@ -129,8 +129,7 @@ impl StateParts {
         })
     }
 
-    /// What an event that may come next made of the parts. One that finishes a refresh comes with a
-    /// job of it.
+    /// The parts after an event that may come next. An event that finishes a refresh needs its job.
     pub(crate) fn after(
         &self,
         alloc: Global,

@@ -23,7 +23,7 @@ pub struct TableState {
     parts: Arc<TableParts>,
 }
 
-/// What is shared.
+/// The shared parts.
 #[derive(Drop)]
 struct TableParts {
     rows: Table,
@@ -38,7 +38,7 @@ impl Model for TableState {
     ghost view = { λ t. record { rows = t.parts.value.rows; log = t.parts.value.log } };
 }
 
-/// The log after the hull of a commit was noted, where it has one.
+/// The log after the hull of a commit was noted, if it has one.
 fn log_with_hull(log: &InvalLog, hull: Option<Hull>, pos: u64) -> Result<InvalLog, NoMemory>
     ensures threshold { IfOk result (λ new. new.threshold ≡ log.now.threshold) }
     ensures entries { IfOk result (λ new. noted_in new.entries
@@ -62,7 +62,7 @@ fn with_entry(log: &InvalLog, hull: Hull, pos: u64) -> Result<InvalLog, NoMemory
     new.share()
 }
 
-/// The empty log whose threshold is that of a log, or `hi` where that is higher.
+/// The empty log whose threshold is that of a log, or `hi` if that is higher.
 fn log_after_cut(alloc: Global, log: &InvalLog, hi: i64) -> InvalLog
     ensures threshold { result.threshold ≡ int_max log.now.threshold hi }
     ensures entries { result.entries ≡ [] }
@@ -103,7 +103,7 @@ impl TableState {
         })
     }
 
-    /// The same state again. It is a count.
+    /// Another owner of the same state. It only increments a reference count.
     pub fn copy(&self) -> Result<TableState, NoMemory>
         ensures same { IfOk result (λ copy. copy ≡ self.now) }
     {

@@ -1,4 +1,4 @@
-//! Aggregates: what is pending and was refreshed, the materialised groups, and the watermark.
+//! Aggregates: what is pending and was refreshed, the materialized groups, and the watermark.
 ghost use Rattle.std.specs.Prelude.{◌≡◌, ℤ, [], cond, IfOk, None, Some};
 ghost use Rattle.ts_bucket.specs.Spans.{in_span};
 ghost use Rattle.ts_bucket.specs.WholeSpans.{whole_span};
@@ -21,7 +21,7 @@ pub struct ViewState {
     parts: Arc<ViewParts>,
 }
 
-/// What is shared.
+/// The shared parts.
 #[derive(Drop)]
 struct ViewParts {
     table: u32,
@@ -54,8 +54,8 @@ impl Clone for ViewState {
 }
 
 impl ViewState {
-    /// An aggregate over a table, made by the event with this number: every bucket is pending there, and
-    /// nothing is materialised.
+    /// A new aggregate over a table, created by the event with the number `made`: every bucket is pending at
+    /// that position, and nothing is materialized.
     pub(crate) fn new(
         alloc: Global,
         table: u32,
@@ -97,7 +97,7 @@ impl ViewState {
         })
     }
 
-    /// The same state again. It is a count.
+    /// Another owner of the same state. It only increments a reference count.
     pub fn copy(&self) -> Result<ViewState, NoMemory>
         ensures same { IfOk result (λ copy. copy ≡ self.now) }
     {
@@ -120,7 +120,7 @@ impl ViewState {
         &self.parts.log
     }
 
-    /// Its materialised groups.
+    /// Its materialized groups.
     pub fn groups(&self) -> &MatRows
         ensures groups { result.now ≡ self.now.groups }
     {

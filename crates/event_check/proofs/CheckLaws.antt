@@ -1,4 +1,4 @@
--- What is told by a roster, a few numbers and what became of a refresh is so of the history that they are of.
+-- What a roster, a few numbers and the outcome of a refresh say is true of the history that they come from.
 use Rattle.std.proofs.Common.{◌≡◌, ℕ, suc, Bool, true, false, ◌&&◌, cond, nat_lt, length, Option, Some, None, sym, refl, ap, ◌∙◌}
 use Rattle.std.specs.Prelude.{is_some, is_none, unwrap_or, not}
 use Rattle.ts_model.specs.declared.events.Event.{Event}

@@ -77,11 +77,11 @@ fn finish_refusal(pending: Pending, position: u64) -> Option<Refusal>
     }
 }
 
-/// Why the call of a store that makes this event is refused at a history with this roster and position, if
-/// it is: as `E07`, `E21`, `E19` or `E30`. The rows and the tests of an event aren't looked at.
+/// Why a store refuses the call that appends this event at a history with this roster and position, if it
+/// does: as `E07`, `E21`, `E19` or `E30`. Doesn't check the rows and the tests of an event.
 ///
-/// `pending` is what became of the refresh that the event finishes. At an event that finishes none it
-/// plays no part.
+/// `pending` is the outcome of the refresh that the event finishes. It has no effect for an event that
+/// finishes none.
 pub fn call_refusal(
     roster: &Roster,
     pending: Pending,
@@ -200,12 +200,12 @@ fn unsound_refusal(sound: bool, position: u64) -> Option<Refusal>
     }
 }
 
-/// Why an event isn't allowed next at a history with this roster and position, which begins at `base`.
-/// It is refused as the call of a store that makes such an event is, as `E07`, `E21`, `E19` or `E30`, and
-/// else with the number 0.
+/// Why an event isn't allowed next at a history with this roster and position, which begins at `base`. The
+/// refusal is that of the store's call that appends such an event, as `E07`, `E21`, `E19` or `E30`, and
+/// otherwise has the number 0.
 ///
-/// `pending` is what became of the refresh that the event finishes. At an event that finishes none it
-/// plays no part.
+/// `pending` is the outcome of the refresh that the event finishes. It has no effect for an event that
+/// finishes none.
 pub fn refusal_of(
     roster: &Roster,
     pending: Pending,

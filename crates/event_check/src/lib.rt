@@ -1,5 +1,5 @@
-//! Whether an event may come next, and why not; the buckets that a refresh covers; and the bytes that an event
-//! takes. Each is told from the roster, a few numbers, and what became of one refresh.
+//! Whether an event may come next, and why not; the buckets that a refresh covers; and the bytes that an
+//! event takes. All of this follows from the roster, a few numbers, and the outcome of one refresh.
 #![tactic(auto)]
 
 mod bytes;

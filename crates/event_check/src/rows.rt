@@ -36,7 +36,7 @@ fn value_at(vals: &Values, place: usize) -> Option<Option<i64>>
     }
 }
 
-/// Whether no value stands at a place or behind it.
+/// Whether there is no value at a place or after it.
 #[inline(always)]
 fn none_from(vals: &Values, place: usize) -> bool
     ensures { result ≡ values_fit [] (drop place vals.now) }

@@ -1,4 +1,4 @@
--- A byte that stands for something is read exactly.
+-- A byte that is a code is read exactly.
 use Rattle.std.proofs.Common.{◌≡◌, ℕ, ◌≤◌, Bool, true, false, cond, eqb, List, [], ◌∷◌, ◌++◌, length, Option, Some, None, Ok, Err, refl, sym, ap, ◌∙◌, arith}
 use Rattle.std.proofs.lemmas.Bool.{eqb-true}
 use Rattle.ts_num.specs.declared.values.Fun.{Fun}

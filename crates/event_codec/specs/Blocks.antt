@@ -1,4 +1,4 @@
--- Rows whose values stand apart from their times.
+-- Rows whose values are stored apart from their times.
 use Rattle.std.specs.Prelude.{List, [], ◌∷◌, ℤ, Option, Result, Ok, Err}
 use Rattle.ts_schema.specs.declared.rows.Row.{Row}
 

@@ -1,4 +1,4 @@
--- The bytes that stand for kinds, comparisons, functions and flags.
+-- The bytes that are codes of kinds, comparisons, functions and flags.
 use Rattle.std.specs.Prelude.{ℕ, Bool, true, false}
 use Rattle.ts_num.specs.declared.values.Fun.{Fun}
 use Rattle.ts_num.specs.declared.values.Fun.TheVariants.{CountAll, Count, Sum, Min, Max, Avg}

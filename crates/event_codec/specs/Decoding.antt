@@ -1,4 +1,4 @@
--- What is decoded.
+-- Decoding.
 use Rattle.std.specs.Prelude.{◌≡◌, ℕ, List, ◌++◌}
 use Rattle.ts_model.specs.declared.events.Event.{Event}
 use Rattle.event_codec.specs.declared.events.Decoded.{Decoded}
@@ -6,7 +6,7 @@ use Rattle.event_codec.specs.declared.events.Decoded.TheVariants as decoded
 use Rattle.event_codec.specs.Formed.{IsFormed}
 use Rattle.event_codec.specs.Spelling as spelling
 
--- the bytes of some event begin with a front
+-- the bytes of some event begin with these
 pub record BeginsEvent (front : List ℕ) : Type 0 where
   pub event : Event
   pub formed : IsFormed event

@@ -1,4 +1,4 @@
--- What has a spelling: events all of whose parts are in the range of their fields.
+-- What can be encoded: events all of whose parts are in the range of their fields.
 use Rattle.std.specs.Prelude.{ℕ, ◌<◌, ◌≤◌, ◌^◌, ◌-◌, ℤ, pos, ◌+ℤ◌, ◌-ℤ◌, ◌≤ℤ◌, List, length, Option, IfSome, IsTrue, if◌then◌else◌}
 use Rattle.std.specs.List.{AllByRecursion}
 use Rattle.ts_bucket.specs.WholeSpans.{least, greatest}
@@ -60,7 +60,7 @@ pub record IsRow (r : Row) : Type 0 where
   pub time : Within min_time max_time r.at
   pub values : Few IsValue r.vals
 
--- the number of a test is 0 where it is a test on NULL
+-- the number of a test is 0 if it is a test on NULL
 abbrev pub least_number : Cmp → ℤ
 least_number cmp = if is_null_test cmp then pos 0 else least
 
@@ -71,7 +71,7 @@ pub record IsTest (t : Test) : Type 0 where
   pub column : IsFour t.col
   pub number : Within (least_number t.cmp) (most_number t.cmp) t.num
 
--- the column of an aggregate is 0 where it is `count(*)`
+-- the column of an aggregate is 0 if it is `count(*)`
 abbrev pub most_column : Fun → ℕ
 most_column fun = if is_count_all fun then 0 else 2 ^ 32 - 1
 
@@ -86,7 +86,7 @@ pub record IsStep (w : Width) : Type 0 where
   pub step : Within (pos 1) max_step w.step
   pub shift : Within (pos 0) (w.step -ℤ pos 1) w.shift
 
--- a span that holds something
+-- a span that isn't empty
 pub record IsSpan (s : Span) : Type 0 where
   pub lo : Within least (greatest -ℤ pos 1) s.lo
   pub hi : Within (s.lo +ℤ pos 1) greatest s.hi

@@ -12,12 +12,12 @@ use Rattle.event_codec.specs.Spelling as spelling
 abbrev pub BytesAreCounted : Type 0
 BytesAreCounted = (e : Event) → length (spelling.event e) ≡ event_bytes e
 
--- no event's bytes begin another's: where they do, it is the same event and nothing comes after
+-- no event's bytes begin another's: if they do, it is the same event and nothing follows
 abbrev pub NoneBeginsAnother : Type 0
 NoneBeginsAnother =
     (d e : Event) (more : List ℕ) → IsFormed d → IsFormed e → spelling.event e ≡ spelling.event d ++ more
     → (d ≡ e) × (more ≡ [])
 
--- each sound event of a consistent history whose position has 64 bits has a spelling
+-- each sound event of a consistent history whose position has 64 bits can be encoded
 abbrev pub SoundAreFormed : Type 0
 SoundAreFormed = (h : History) (e : Event) → all_consistent h ≡ true → position h < 2 ^ 64 → sound h e ≡ true → IsFormed e

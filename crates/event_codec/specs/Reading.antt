@@ -1,5 +1,5 @@
--- Reading from left to right: what stands in front and the bytes after it; or, where nothing of the kind stands in
--- front, the bytes after the longest front that begins one.
+-- Reading from left to right: what is in front and the bytes after it; or, if nothing of the kind is in front, the
+-- bytes after the longest prefix that begins one.
 use Rattle.std.specs.Prelude.{◌≡◌, ℕ, zero, suc, ◌+◌, ◌-◌, ◌*◌, ◌/◌, ◌%◌, ◌^◌, nat_lt, nat_le, ◌==◌, ℤ, pos, negsuc, ◌+ℤ◌, ◌-ℤ◌, ◌≤ℤ◌, int_le, unsigned_abs, Bool, true, false, ◌&&◌, if◌then◌else◌, List, [], ◌∷◌, Result, Ok, Err, Option, Some, None}
 use Rattle.ts_bucket.specs.WholeSpans.{least, greatest}
 use Rattle.ts_bucket.specs.Bucket.{max_step, max_time, min_time}
@@ -46,23 +46,23 @@ abbrev pub Matches :
 Matches view end (Ok x) read = read ≡ Ok (view x)
 Matches view end (Err y) read = read ≡ Err (end y)
 
--- where a reading fails, these bytes are left
+-- if a reading fails, these bytes are left
 abbrev pub StopsAt : {A : Type 0} → Result (A × List ℕ) (List ℕ) → List ℕ → Type 0
 StopsAt (Ok x) left = Unit {0}
 StopsAt (Err end) left = left ≡ end
 
--- ---- how readings are put together
+-- ---- combining readings
 
--- one after the other
+-- one reading after another
 abbrev pub go_on : {A B : Type 0} → Result (A × List ℕ) (List ℕ) → (A → Reads B) → Result (B × List ℕ) (List ℕ)
 go_on (Ok x) q = q x.0 x.1
 go_on (Err left) q = Err left
 
--- nothing stands for it
+-- a value that takes no bytes
 abbrev pub gives : {A : Type 0} → A → Reads A
 gives a bytes = Ok (a, bytes)
 
--- one, and another that may rest on it
+-- one reading, and another that may depend on its value
 abbrev pub pair : {A B : Type 0} → Reads A → (A → Reads B) → Reads (A × B)
 pair p q bytes = go_on (p bytes) (λ a left. go_on (q a left) (λ b end. Ok ((a, b), end)))
 
@@ -160,7 +160,7 @@ few_of p = counted_list any_byte p
 abbrev pub many_of : {A : Type 0} → Reads A → Reads (List A)
 many_of p = counted_list any_four p
 
--- ---- a byte that stands for something
+-- ---- a byte that is a code
 
 -- the one of these that has this code
 abbrev pub with_code : {A : Type 0} → (A → ℕ) → List A → ℕ → Option A
@@ -172,7 +172,7 @@ abbrev pub read_as : {A : Type 0} → Option A → List ℕ → List ℕ → Res
 read_as None here left = Err here
 read_as (Some a) here left = Ok (a, left)
 
--- what the first byte stands for
+-- the value whose code is the first byte
 abbrev pub coded_byte : {A : Type 0} → (ℕ → Option A) → Reads A
 coded_byte find [] = Err []
 coded_byte find (b ∷ bytes) = read_as (find b) (b ∷ bytes) bytes

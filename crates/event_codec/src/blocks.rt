@@ -1,4 +1,4 @@
-//! Rows as they are read, whose values come to stand in blocks.
+//! Rows as they are read, with their values in blocks.
 ghost use Rattle.std.specs.Prelude.{◌≡◌, ◌∷◌, ◌++◌, [], IfOk, IfSome, OnOk, Ok, drop, length};
 ghost use Rattle.cell_rows.specs.Parts.{AreParts, parts};
 ghost use Rattle.event_codec.specs.Blocks.{seen_as, timed_rows};
@@ -13,19 +13,19 @@ use std::sync::Arc;
 use ts_bucket::{MAX_TIME, MIN_TIME};
 use ts_schema::{NoMemory, Row, Seq, SharedSlice, ValueBlock, Values};
 
-/// Where a row has the count of its values, behind its time.
+/// The place of the count of a row's values, after its time.
 const COUNT_AT: usize = 8;
 
 /// No block has the values of more rows.
 const MANY: u32 = 1024;
 
-/// How many of so many rows these bytes can hold.
+/// How many of `count` rows these bytes can hold at most.
 fn most_rows(count: u32, bytes: &[u8]) -> usize {
     (count as usize).min(bytes.len() / (COUNT_AT + 1))
 }
 
-/// How many values so many rows have, where each has as many as the first one in front of these bytes; or
-/// fewer, where no more can be there.
+/// How many values so many rows have, if each has as many as the first row of these bytes, or fewer, if the
+/// bytes can't hold so many.
 fn most_values(rows: usize, bytes: &[u8]) -> usize {
     let each = bytes.get(COUNT_AT).copied().unwrap_or(0);
     rows.saturating_mul(usize::from(each)).min(bytes.len())
@@ -54,8 +54,8 @@ fn push_row(
     Ok(())
 }
 
-/// Appends the rows of these times, whose values end at these places of a list. They share the list from
-/// here on.
+/// Appends the rows with these times, whose values end at these places of a list. From here on the rows share
+/// the list.
 fn push_rows(
     into: &mut Vec<Row>,
     alloc: Global,
@@ -76,7 +76,7 @@ fn push_rows(
     Ok(())
 }
 
-/// The value in front, and the bytes after it. It may miss one that stands there.
+/// The value in front, and the bytes after it. It may miss one that is there.
 #[inline(always)]
 fn value_in_front(bytes: &[u8]) -> Option<(Option<i64>, &[u8])>
     ensures { IfSome result (λ x. value_at bytes.now ≡ Ok (x.0, x.1.now)) }
@@ -107,7 +107,7 @@ impl Reader<'_> {
         <Option<i64> as Field>::read(self)
     }
 
-    /// So many values, put behind others.
+    /// Appends `count` values to others.
     fn values_into(&mut self, count: u32, into: &mut ValueBlock) -> Result<(), ReadError>
         ensures read { let vals = drop (length into.old) into.new in
             Gives (seen_as (λ _. vals) result) (items count value_at self.old) self.new }
@@ -119,7 +119,7 @@ impl Reader<'_> {
         Ok(())
     }
 
-    /// The values of a row behind their count, put behind others.
+    /// Appends the values of a row, which follow their count, to others.
     fn few_into(&mut self, into: &mut ValueBlock) -> Result<(), ReadError>
         ensures read { let vals = drop (length into.old) into.new in
             Gives (seen_as (λ _. vals) result) (few_of value_at self.old) self.new }
@@ -129,7 +129,7 @@ impl Reader<'_> {
         self.values_into(u32::from(count), into)
     }
 
-    /// The time of a row, with its values put behind others.
+    /// Reads the time of a row, and appends its values to others.
     #[tactic(auto, unfolding(crate::specs::Reading::row_at))]
     pub(crate) fn row_into(&mut self, into: &mut ValueBlock) -> Result<i64, ReadError>
         ensures read { let vals = drop (length into.old) into.new in
@@ -141,7 +141,7 @@ impl Reader<'_> {
         Ok(at)
     }
 
-    /// So many rows, put behind others. They share a block of values.
+    /// Appends `count` rows to others. They share a block of values.
     fn piece_into(&mut self, count: u32, into: &mut Vec<Row>) -> Result<(), ReadError>
         ensures { let all = read_map (λ rows. into.old.items ++ rows) (items count row_at) self.old in
             Gives (seen_as (λ _. into.new.items) result) all self.new }

@@ -1,4 +1,4 @@
-//! The bytes that stand for kinds, comparisons, functions and flags.
+//! The bytes that are codes of kinds, comparisons, functions and flags.
 ghost use Rattle.std.specs.Prelude.{◌≡◌, ℕ, Option};
 ghost use Rattle.event_codec.specs.Codes.{flag_code, cmp_code, fun_code};
 ghost use Rattle.event_codec.specs.Reading.{flag_of, cmp_of, fun_of, kind_of, op_kind_of};
@@ -7,12 +7,12 @@ use crate::kinds::{Kind, OpKind};
 use ts_num::Fun;
 use ts_schema::Cmp;
 
-/// What one byte stands for.
+/// A value whose code is one byte.
 pub trait Coded: Copy {
-    /// What a byte stands for.
+    /// The value whose code a byte is, if there is one.
     ghost meaning: { ℕ → Option Self };
 
-    /// What this byte stands for, if it stands for something.
+    /// The value whose code is this byte, if there is one.
     fn of_code(byte: u8) -> Option<Self>
         ensures { result ≡ meaning byte };
 }
@@ -92,7 +92,7 @@ impl Coded for OpKind {
     }
 }
 
-/// The byte that stands for a flag.
+/// The code of a flag.
 pub fn flag_byte(flag: bool) -> u8
     ensures { result ≡ flag_code flag }
 {
@@ -102,7 +102,7 @@ pub fn flag_byte(flag: bool) -> u8
     }
 }
 
-/// The byte that stands for a comparison.
+/// The code of a comparison.
 pub fn cmp_byte(cmp: Cmp) -> u8
     ensures { result ≡ cmp_code cmp }
 {
@@ -118,7 +118,7 @@ pub fn cmp_byte(cmp: Cmp) -> u8
     }
 }
 
-/// The byte that stands for a function.
+/// The code of a function.
 pub fn fun_byte(fun: Fun) -> u8
     ensures { result ≡ fun_code fun }
 {

@@ -9,8 +9,7 @@ use ts_schema::NoMemory;
 pub enum ReadError {
     /// Memory ran out.
     Memory,
-    /// What stands in front is not what is to be read. The reader stands after the longest front that
-    /// begins it.
+    /// The bytes in front aren't what is to be read. The reader is after the longest prefix that begins it.
     Bad,
 }
 

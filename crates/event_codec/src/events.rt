@@ -1,4 +1,4 @@
-//! Events: their bytes, and what bytes say.
+//! Events: encoding and decoding.
 ghost use Rattle.std.specs.Prelude.{◌≡◌, ◌≤◌, ◌++◌, ℕ, IfOk, OnErr, OnOk, length, take};
 ghost use Rattle.ts_model.specs.declared.events.Event.{Event};
 ghost use Rattle.event_codec.specs.Formed.{IsFormed};
@@ -115,19 +115,19 @@ impl Reader<'_> {
     }
 }
 
-/// What bytes say.
+/// The outcome of decoding an event.
 #[derive(Drop, Debug, PartialEq, Eq)]
 pub enum Decoded {
-    /// They are the bytes of this event.
+    /// The bytes are those of this event.
     Event(Event),
-    /// They are the bytes of no event. The number is the length of the longest prefix of them that is a
-    /// prefix of some event's bytes.
+    /// The bytes are those of no event. The number is the length of their longest prefix that is a prefix of some
+    /// event's bytes.
     BadEvent(u64),
     /// Memory ran out.
     NoMemory,
 }
 
-/// Appends the bytes of an event. Where memory runs out, the buffer is as before.
+/// Appends the bytes of an event. If memory runs out, the buffer is as before.
 #[tactic(auto, using(crate::proofs::GrowthLaws::front_kept))]
 pub fn put_event_bytes(event: &Event, out: &mut Vec<u8>) -> Result<(), NoMemory>
     requires formed { IsFormed event.now }
@@ -144,7 +144,7 @@ pub fn put_event_bytes(event: &Event, out: &mut Vec<u8>) -> Result<(), NoMemory>
     }
 }
 
-/// The bytes of an event, as a list of their own. The program appends them to a frame, by `put_event_bytes`.
+/// Returns the bytes of an event in a new list. The program appends them to a frame, by `put_event_bytes`.
 pub fn encode(alloc: Global, event: &Event) -> Result<Seq<u8>, NoMemory>
     requires formed { IsFormed event.now }
     ensures bytes { IfOk result (λ bytes. bytes ≡ spelling.event event.now) }
@@ -154,8 +154,8 @@ pub fn encode(alloc: Global, event: &Event) -> Result<Seq<u8>, NoMemory>
     Ok(Seq::of(bytes))
 }
 
-/// The event whose bytes these are; or, where they are the bytes of no event, the length of the longest
-/// prefix of them that is a prefix of some event's bytes.
+/// Decodes an event from exactly these bytes. If they are those of no event, the answer has the length of
+/// their longest prefix that is a prefix of some event's bytes.
 #[tactic(auto, using(crate::proofs::Decodings::is_formed, crate::proofs::Decodings::is_spelled, crate::proofs::Decodings::is_no_event, crate::proofs::Decodings::is_within, crate::proofs::Decodings::is_begun, crate::proofs::Decodings::is_longest))]
 pub fn decode(alloc: Global, bytes: &[u8]) -> Decoded
     ensures formed { IfEvent result IsFormed }

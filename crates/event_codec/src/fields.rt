@@ -11,7 +11,7 @@ use crate::numbers::put_four;
 use crate::reader::Reader;
 use ts_schema::{NoMemory, Seq};
 
-/// What stands in the bytes of an event.
+/// A part of the bytes of an event.
 pub trait Field {
     /// Its bytes.
     ghost spelling: { Self → List ℕ };
@@ -19,10 +19,10 @@ pub trait Field {
     /// Whether it is in range.
     ghost fits: { Self → Type 0 };
 
-    /// What the bytes in front say.
+    /// The reading of its bytes from the front.
     ghost reading: { Reads Self };
 
-    /// Appends its bytes. Where memory runs out the buffer may have grown, and what stood in it stays.
+    /// Appends its bytes. If memory runs out, the buffer may have grown, and what was in it stays.
     fn put(&self, out: &mut Vec<u8>) -> Result<(), NoMemory>
         requires fits { fits self.now }
         ensures put { OnOk result (out.new.items ≡ out.old.items ++ spelling self.now) }
@@ -33,7 +33,7 @@ pub trait Field {
         ensures read { Gives result (reading reader.old) reader.new };
 }
 
-/// Appends items one after the other.
+/// Appends items in order.
 #[tactic(auto, using(crate::proofs::GrowthLaws::grows_by, crate::proofs::GrowthLaws::grows_not, crate::proofs::GrowthLaws::grows_on))]
 pub fn put_items<T: Field>(items: &[T], out: &mut Vec<u8>) -> Result<(), NoMemory>
     requires fit { AllByRecursion T.fits items.now }
@@ -87,7 +87,7 @@ pub fn put_many_items<T: Field>(items: &[T], out: &mut Vec<u8>) -> Result<(), No
 }
 
 impl Reader<'_> {
-    /// Reads so many items.
+    /// Reads `count` items.
     fn items<T: Field + Drop>(&mut self, count: u32) -> Result<Seq<T>, ReadError>
         ensures { Gives result (items count T.reading self.old) self.new }
     {
@@ -98,7 +98,7 @@ impl Reader<'_> {
         Ok(items)
     }
 
-    /// Reads a count of one byte and so many items.
+    /// Reads a count of one byte and as many items.
     pub fn few<T: Field + Drop>(&mut self) -> Result<Seq<T>, ReadError>
         ensures { Gives result (few_of T.reading self.old) self.new }
     {
@@ -106,7 +106,7 @@ impl Reader<'_> {
         self.items(count as u32)
     }
 
-    /// Reads a count of four bytes and so many items.
+    /// Reads a count of four bytes and as many items.
     pub fn many<T: Field + Drop>(&mut self) -> Result<Seq<T>, ReadError>
         ensures { Gives result (many_of T.reading self.old) self.new }
     {

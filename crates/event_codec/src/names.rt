@@ -39,15 +39,15 @@ fn may_begin(byte: u8) -> bool
     matches!(byte, b'a'..=b'z' | b'_')
 }
 
-/// Whether a name may go on with this byte.
+/// Whether a name may continue with this byte.
 fn may_go_on(byte: u8) -> bool
     ensures { result ≡ is_tail byte }
 {
     matches!(byte, b'a'..=b'z' | b'_' | b'0'..=b'9')
 }
 
-/// What is left after `count` bytes with which a name may go on; or, where there are fewer in front,
-/// after those.
+/// What is left after `count` bytes with which a name may continue; or, if there are fewer in front, after
+/// those.
 #[tactic(auto, using(crate::proofs::NameLaws::no_tail, crate::proofs::NameLaws::tails_end, crate::proofs::NameLaws::not_tail, crate::proofs::NameLaws::tail_then, crate::proofs::NameLaws::tail_fails))]
 fn after_tails(bytes: &[u8], count: usize) -> Result<&[u8], &[u8]>
     ensures { Matches (λ rest. (take count bytes.now, rest.now)) (λ left. left.now) result
@@ -65,8 +65,8 @@ fn after_tails(bytes: &[u8], count: usize) -> Result<&[u8], &[u8]>
     after_tails(rest, count - 1)
 }
 
-/// What is left after a name of `len` bytes; or, where none is in front, after the longest front that
-/// begins one.
+/// What is left after a name of `len` bytes; or, if none is in front, after the longest prefix that begins
+/// one.
 #[tactic(auto, using(crate::proofs::NameLaws::nothing_there, crate::proofs::NameLaws::no_head, crate::proofs::NameLaws::head_then, crate::proofs::NameLaws::head_fails))]
 fn after_name(bytes: &[u8], len: u8) -> Result<&[u8], &[u8]>
     requires { IsTrue (is_name_length len) }
@@ -82,7 +82,7 @@ fn after_name(bytes: &[u8], len: u8) -> Result<&[u8], &[u8]>
 }
 
 impl Reader<'_> {
-    /// The length of a name.
+    /// Reads the length of a name.
     fn name_length(&mut self) -> Result<u8, ReadError>
         ensures read { Gives result (byte_where is_name_length self.old) self.new }
         ensures length { IfOk result (λ len. IsTrue (is_name_length len)) }
@@ -97,7 +97,7 @@ impl Reader<'_> {
         Ok(*byte)
     }
 
-    /// A name.
+    /// Reads a name.
     #[tactic(auto, using(crate::proofs::NameLaws::text_is_name, crate::proofs::NameLaws::text_fits), unfolding(crate::specs::Reading::name_at))]
     pub fn name(&mut self) -> Result<Name, ReadError>
         ensures { Gives result (name_at self.old) self.new }

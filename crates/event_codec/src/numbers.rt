@@ -67,8 +67,8 @@ fn most_left(most: i128, low: u8) -> i128
     (most - low as i128) >> 8
 }
 
-/// What is left after the longest front that begins the bytes of some number from `least` to `most`,
-/// where the bytes in front aren't `count` bytes of such a number.
+/// What is left after the longest prefix that begins the bytes of some number from `least` to `most`, if the
+/// bytes in front aren't `count` bytes of such a number.
 fn after_begun(bytes: &[u8], count: usize, least: i128, most: i128) -> &[u8]
     requires least { IsNear least }
     requires most { IsNear most }
@@ -88,29 +88,29 @@ fn after_begun(bytes: &[u8], count: usize, least: i128, most: i128) -> &[u8]
     after_begun(rest, count - 1, least, most)
 }
 
-/// What is left where the bytes in front aren't a number of four bytes, at most `most`.
+/// What is left if the bytes in front aren't a number of four bytes, at most `most`.
 fn after_four(bytes: &[u8], most: u32) -> &[u8]
     ensures { StopsAt (four_upto most bytes.now) result.now }
 {
     after_begun(bytes, 4, 0, most as i128)
 }
 
-/// What is left where the bytes in front aren't a number of eight bytes.
+/// What is left if the bytes in front aren't a number of eight bytes.
 fn after_eight(bytes: &[u8]) -> &[u8]
     ensures { StopsAt (any_eight bytes.now) result.now }
 {
     after_begun(bytes, 8, 0, u64::MAX as i128)
 }
 
-/// What is left where the bytes in front aren't a signed number from `least` to `most`.
+/// What is left if the bytes in front aren't a signed number from `least` to `most`.
 fn after_between(bytes: &[u8], least: i64, most: i64) -> &[u8]
     ensures { StopsAt (between least most bytes.now) result.now }
 {
     after_begun(bytes, 8, least as i128, most as i128)
 }
 
-/// A number of four bytes, at most `most`, and the bytes after it; or the bytes after the longest front
-/// that begins one.
+/// Returns a number of four bytes, at most `most`, and the bytes after it; or the bytes after the longest
+/// prefix that begins one.
 #[tactic(auto, using(crate::proofs::Fronts::four_is_read, crate::proofs::Fronts::four_above, crate::proofs::Fronts::four_short))]
 pub fn read_four(bytes: &[u8], most: u32) -> Result<(u32, &[u8]), &[u8]>
     ensures { Matches (λ x. (x.0, x.1.now)) (λ left. left.now) result (four_upto most bytes.now) }
@@ -124,7 +124,8 @@ pub fn read_four(bytes: &[u8], most: u32) -> Result<(u32, &[u8]), &[u8]>
     Ok((number, rest))
 }
 
-/// A number of eight bytes, and the bytes after it; or the bytes after the longest front that begins one.
+/// Returns a number of eight bytes, and the bytes after it; or the bytes after the longest prefix that begins
+/// one.
 #[tactic(auto, using(crate::proofs::Fronts::eight_is_read, crate::proofs::Fronts::eight_short))]
 pub fn read_eight(bytes: &[u8]) -> Result<(u64, &[u8]), &[u8]>
     ensures { Matches (λ x. (x.0, x.1.now)) (λ left. left.now) result (any_eight bytes.now) }
@@ -135,8 +136,8 @@ pub fn read_eight(bytes: &[u8]) -> Result<(u64, &[u8]), &[u8]>
     Ok((number, rest))
 }
 
-/// A signed number from `least` to `most`, and the bytes after it; or the bytes after the longest front
-/// that begins one.
+/// Returns a signed number from `least` to `most`, and the bytes after it; or the bytes after the longest
+/// prefix that begins one.
 pub fn read_between(bytes: &[u8], least: i64, most: i64) -> Result<(i64, &[u8]), &[u8]>
     requires { least ≤ℤ most }
     ensures read { Matches (λ x. (x.0, x.1.now)) (λ left. left.now) result (between least most bytes.now) }

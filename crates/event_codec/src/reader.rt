@@ -9,7 +9,7 @@ use crate::numbers::{read_between, read_eight, read_four};
 use std::alloc::Global;
 use std::marker::Model;
 
-/// A reader that stands before the bytes that it hasn't read. Contracts see these bytes.
+/// A reader, which is before the bytes that it hasn't read. Contracts see these bytes.
 #[derive(Drop)]
 pub struct Reader<'a> {
     alloc: Global,
@@ -32,26 +32,26 @@ impl<'a> Reader<'a> {
         Reader { alloc, left: bytes }
     }
 
-    /// The allocator for what is returned.
+    /// Returns the allocator for values that are read.
     pub fn alloc(&self) -> Global {
         self.alloc
     }
 
-    /// The bytes that aren't read.
+    /// Returns the bytes that aren't read.
     pub fn rest(&self) -> &'a [u8]
         ensures { result.now ≡ self.now }
     {
         self.left
     }
 
-    /// Goes on to these bytes.
+    /// Continues at these bytes.
     pub fn pass_to(&mut self, left: &'a [u8])
         ensures { self.new ≡ left.now }
     {
         self.left = left;
     }
 
-    /// A byte.
+    /// Reads a byte.
     pub fn byte(&mut self) -> Result<u8, ReadError>
         ensures { Gives result (any_byte self.old) self.new }
     {
@@ -62,7 +62,7 @@ impl<'a> Reader<'a> {
         Ok(*byte)
     }
 
-    /// A byte that stands for something.
+    /// Reads a byte that is a code.
     pub fn read_coded<T: Coded>(&mut self) -> Result<T, ReadError>
         ensures { Gives result (coded_byte T.meaning self.old) self.new }
     {
@@ -78,7 +78,7 @@ impl<'a> Reader<'a> {
         }
     }
 
-    /// A number of four bytes, at most `most`.
+    /// Reads a number of four bytes, at most `most`.
     pub fn four_upto(&mut self, most: u32) -> Result<u32, ReadError>
         ensures { Gives result (four_upto most self.old) self.new }
     {
@@ -94,14 +94,14 @@ impl<'a> Reader<'a> {
         }
     }
 
-    /// A number of four bytes.
+    /// Reads a number of four bytes.
     pub fn four(&mut self) -> Result<u32, ReadError>
         ensures { Gives result (any_four self.old) self.new }
     {
         self.four_upto(u32::MAX)
     }
 
-    /// A number of eight bytes.
+    /// Reads a number of eight bytes.
     pub fn eight(&mut self) -> Result<u64, ReadError>
         ensures { Gives result (any_eight self.old) self.new }
     {
@@ -117,7 +117,7 @@ impl<'a> Reader<'a> {
         }
     }
 
-    /// A signed number of eight bytes, from `least` to `most`.
+    /// Reads a signed number of eight bytes, from `least` to `most`.
     pub fn between(&mut self, least: i64, most: i64) -> Result<i64, ReadError>
         requires { least ≤ℤ most }
         ensures read { Gives result (between least most self.old) self.new }
@@ -135,7 +135,7 @@ impl<'a> Reader<'a> {
         }
     }
 
-    /// A signed number of eight bytes.
+    /// Reads a signed number of eight bytes.
     pub fn word(&mut self) -> Result<i64, ReadError>
         ensures { Gives result (any_word self.old) self.new }
     {

@@ -1,4 +1,4 @@
--- The events that the replies to the lines of a script tell of.
+-- The events that the replies to the lines of a script name.
 use Rattle.std.proofs.Common.{◌≡◌, ◌∙◌, ℕ, zero, suc, ◌+◌, ◌≤◌, ◌<◌, Bool, true, false, cond, nat_lt, List, [], ◌∷◌, ◌++◌, append-nil, append_assoc, length, take, Option, Some, None, IfSome, refl, sym, ap, subst, inl, inr, arith}
 use Rattle.std.specs.Prelude.{is_some}
 use Rattle.std.specs.List.{AllByRecursion}
@@ -62,7 +62,7 @@ told_both g h k ms ns t u =
           ∙ ap (numbers_above (position g)) (sym both);
     }
 
--- ---- a procedure over a store that is alone and goes on
+-- ---- a procedure on a store that has no other user and hasn't stopped
 
 record Went {A : Type 0} (d : Procedure A) (old : State) : Type 0 where
   new : State
@@ -178,7 +178,7 @@ module _ {P : Type 0} (within : P → Block) (semantics : Semantics P) (reply : 
           | false ↦ tells_kind n line (line_kind line)
         ]
 
--- ---- each line goes on from where the script is
+-- ---- each line continues the history of the script
 
 module _ {P : Type 0} (semantics : Semantics P) where
   after_begins : {A : Type 0} (d : Procedure A) (h : History) → Begins h (history_after d h)

@@ -1,4 +1,4 @@
-//! Laws of the events that replies tell of. Each is the clause of a function that does nothing.
+//! Laws of the events that replies name. Each is the clause of a function that does nothing.
 ghost use Rattle.event_laws.specs.Events.{RepliesAreWritten, ScriptsTellTheirEvents};
 ghost use Rattle.policy_jobs.specs.Laws.{policy_sessions};
 
@@ -6,8 +6,8 @@ use policy_jobs::PolicySession;
 use ts_model::Shown;
 use ts_sessions::{Actor, Session};
 
-/// The history that a script leaves, if it is allowed, is the opening one and then the events that its replies name,
-/// each once and in order. A line without a session makes none.
+/// The history after a script, if it is allowed, is the opening one and then the events that its replies name, each
+/// once and in order. A line without a session makes none.
 pub fn scripts_tell_their_events<T: Shown + Drop>()
 where
     T::Job: Drop,

@@ -1,9 +1,9 @@
-//! The events that the replies to a script tell of: the history that a script leaves is the opening one and then those
-//! events, and no other. This is a law on definitions; no code runs.
+//! The events that the replies to a script name: the history after a script is the opening one and then those events,
+//! and no others. This is a law on definitions; no code runs.
 //!
-//! `specs/Events.antt` has the law, whatever lines mean; it holds of sessions with policies, which are those of the
-//! program. What a script does stands in `specs/Script.antt` of `ts_sessions`, and which events a reply names in its
-//! `specs/Made.antt`.
+//! `specs/Events.antt` has the law for any meaning of lines; it is proved for sessions with policies, which are those
+//! of the program. `specs/Script.antt` of `ts_sessions` defines what a script does, and `specs/Made.antt` there which
+//! events a reply names.
 #![tactic(auto)]
 
 pub mod laws;

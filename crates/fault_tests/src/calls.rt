@@ -14,7 +14,7 @@ use ts_top::{Status, run_words};
 /// No input has as many bytes.
 pub(crate) const ALL: usize = 65_536;
 
-/// How a call ended, what it printed, how many stored rows it looked at, and the disk that it left.
+/// How a call ended, what it printed, how many stored rows it read, and the disk that it left.
 #[derive(Drop)]
 pub(crate) struct CallRecord {
     pub(crate) status: Status,
@@ -28,7 +28,7 @@ pub(crate) fn sound_disk(alloc: Global, bytes: &[u8]) -> Result<FailDisk, Fail> 
     Ok(FailDisk::stop_after(alloc, bytes.to_vec(alloc)?, u64::MAX))
 }
 
-/// A call over this disk. Its source and its sink move at most `most` bytes a call, and the read and the write
+/// Makes a call on this disk. Its source and its sink move at most `most` bytes a call, and the read and the write
 /// with these numbers fail, counted from 1.
 pub(crate) fn call<R: Threads + Wait + Sync + AllocGlobal>(
     rt: &R,
@@ -63,7 +63,7 @@ pub(crate) fn lines(alloc: Global, from: usize, to: usize) -> Result<Vec<u8>, Fa
     Ok(lines)
 }
 
-/// The replies to the statements from number `from` on that make no event behind the first `events`.
+/// The replies to the statements from number `from` on that create no event after the first `events`.
 pub(crate) fn replies(alloc: Global, from: usize, events: usize) -> Result<Vec<u8>, Fail> {
     let mut text = Vec::new(alloc);
     for (_, reply, position) in SCRIPT.iter().skip(from) {

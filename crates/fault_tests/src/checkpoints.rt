@@ -1,5 +1,5 @@
-//! A checkpoint over a sink that fails, and over a disk that fails or stops. What it leaves stands for the
-//! history as before, or for its image, and both go on alike.
+//! A checkpoint with a sink that fails, and on a disk that fails or stops. The journal that it leaves represents
+//! the history as before, or its image. Later calls continue from both alike.
 use crate::calls::{ALL, CallRecord, call, lines, sound_disk};
 use crate::script::SCRIPT;
 use std::sync::Wait;
@@ -8,7 +8,7 @@ use std::thread::Threads;
 use ts_disk::{Disk, DiskCall, FailDisk};
 use ts_top::Status;
 
-/// How many of the script's statements are run before, which make ten events.
+/// How many of the script's statements run before the checkpoint. They create ten events.
 const FIRST: usize = 10;
 
 const SAVED: &[u8] = b"CHECKPOINT @10 bytes 477\n";
@@ -17,8 +17,8 @@ const NOTHING: &[u8] = b"NOTHING @10\n";
 
 const CHECK: &[u8] = b"HISTORY @10\n";
 
-/// The images of a disk that are looked at: with none or all of the writes since the last sync, with one of
-/// them, and with half of the last one.
+/// The crash images that are checked: with none or all of the writes since the last sync, with one of them, and
+/// with half of the last one.
 const PICKS: [u64; 8] = [0, 1, 2, 3, 1 << 63, 1 << 63 | 1, 1 << 63 | 2, 1 << 63 | 3];
 
 /// The journal of the first statements.
@@ -29,7 +29,7 @@ fn journal<R: Threads + Wait + Sync + AllocGlobal>(rt: &R) -> Result<Vec<u8>, Fa
     Ok(ran.disk.inner().bytes().to_vec(rt.alloc())?)
 }
 
-/// A checkpoint over a disk, with a statement as its input, which it doesn't read.
+/// Runs a checkpoint on a disk. Its input is a statement, which it doesn't read.
 fn checkpoint<R: Threads + Wait + Sync + AllocGlobal>(
     rt: &R,
     disk: FailDisk,
@@ -38,8 +38,8 @@ fn checkpoint<R: Threads + Wait + Sync + AllocGlobal>(
     call(rt, "checkpoint", &input, ALL, (0, 0), disk)
 }
 
-/// Whether a journal with these bytes has the ten events or their image, answers the query behind them, goes
-/// on with what is behind that, and can be saved.
+/// Whether a journal with these bytes has the ten events or their image, answers the query after them, continues
+/// with the statements after that, and can be saved.
 fn goes_on<R: Threads + Wait + Sync + AllocGlobal>(rt: &R, bytes: &[u8]) -> Result<bool, Fail> {
     let check = call(
         rt,
@@ -67,8 +67,8 @@ fn goes_on<R: Threads + Wait + Sync + AllocGlobal>(rt: &R, bytes: &[u8]) -> Resu
     Ok(check.text.as_slice() == CHECK && ran.text == want && saved)
 }
 
-/// How many calls of a kind a checkpoint makes: it asks for the length once, and raises the version, writes
-/// its frame and opens the frame's gate by a write and a sync each.
+/// How many calls of a kind a checkpoint makes. It asks for the length once. It raises the version, writes its
+/// frame and writes the frame's commit byte by a write and a sync each.
 const SERIES: [(DiskCall, u64); 3] = [
     (DiskCall::Len, 1),
     (DiskCall::Write, 3),

@@ -1,5 +1,5 @@
-//! A run over a disk that fails. A header takes a write and a sync. An event takes two of both: its frame is
-//! written behind the closed gate that ends the journal, and once it is synced that gate is opened.
+//! A run on a disk that fails. A header takes a write and a sync. An event takes two of both: one pair for its
+//! frame, whose commit byte isn't set yet, and one pair to set the commit byte.
 use crate::calls::{ALL, CallRecord, call, lines, replies, sound_disk, stands_for};
 use crate::script::SCRIPT;
 use std::sync::Wait;
@@ -11,8 +11,8 @@ use ts_top::Status;
 /// How many events were acknowledged before a call of the disk failed, and how many a read gives then.
 type Counts = (usize, usize);
 
-/// Runs the statements from number `first` on over a disk. False where it ends otherwise, prints anything but
-/// the replies up to the last acknowledged event, or leaves other events.
+/// Runs the statements from number `first` on, on a disk. Returns false if the run ends otherwise, prints anything
+/// but the replies up to the last acknowledged event, or leaves other events.
 fn runs_to<R: Threads + Wait + Sync + AllocGlobal>(
     rt: &R,
     first: usize,
@@ -27,12 +27,12 @@ fn runs_to<R: Threads + Wait + Sync + AllocGlobal>(
     Ok((ran.status == status && ran.text == text && kept, ran))
 }
 
-/// A kind of call, how many statements were run before over the disk, with how many events, how many calls of
-/// the kind the header takes, and how many the run makes in all.
+/// A kind of call, how many statements ran on the disk before, with how many events, how many calls of the kind
+/// the header takes, and how many the run makes in all.
 type Series = (DiskCall, usize, usize, u64, u64);
 
-/// A header and twelve events over an empty disk, and the last five of them over the journal of seven. Nothing
-/// is read of an empty disk.
+/// A header and twelve events on an empty disk, and the last five of them on the journal of seven. No byte of an
+/// empty disk is read.
 const SERIES: [Series; 8] = [
     (DiskCall::Len, 0, 0, 0, 1),
     (DiskCall::Read, 0, 0, 0, 0),
@@ -44,8 +44,8 @@ const SERIES: [Series; 8] = [
     (DiskCall::Sync, 6, 7, 0, 10),
 ];
 
-/// What stands where this call fails, by its number behind the header. At the second sync of an event its gate
-/// was opened.
+/// The events that are left if this call fails, by its number after the header's calls. At the second sync of an
+/// event its commit byte was written.
 fn counts_at(kind: DiskCall, before: usize, nth: u64) -> Counts {
     let done = before.saturating_add(nth.saturating_sub(1) as usize / 2);
     match kind {
@@ -86,12 +86,12 @@ fn each_call_of_the_disk_fails_in_turn(rt: HostRuntime) -> Result<(), Fail> {
     Ok(())
 }
 
-/// The images of a disk that are looked at: with none or all of the writes since the last sync, with one of
-/// them, and with half of the last one.
+/// The crash images that are checked: with none or all of the writes since the last sync, with one of them, and
+/// with half of the last one.
 const PICKS: [u64; 8] = [0, 1, 2, 3, 1 << 63, 1 << 63 | 1, 1 << 63 | 2, 1 << 63 | 3];
 
-/// Whether each image of a disk stands for so many events. Where a gate was opened since the last sync, the
-/// images that keep that write have one more.
+/// Whether each crash image of a disk represents so many events. If a commit byte was written since the last sync,
+/// the images that keep that write have one event more.
 fn images_stand<R: Threads + Wait + Sync + AllocGlobal>(
     rt: &R,
     disk: &FailDisk,

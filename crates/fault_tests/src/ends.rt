@@ -40,7 +40,7 @@ fn each_read_fails_in_turn(rt: HostRuntime) -> Result<(), Fail> {
         nth = nth.saturating_add(1);
         whole = whole.saturating_add(piece.iter().filter(|byte| **byte == b'\n').count());
     }
-    // One more read tells the end of the source.
+    // One more read reports the end of the source.
     assert!(rt; ends_after(&rt, &input, nth, Status::ReadFault, whole)?);
     assert!(rt; ends_after(&rt, &input, nth.saturating_add(1), Status::Done, whole)?);
     assert_eq!(rt; (nth, whole), (105, SCRIPT.len()));
@@ -59,7 +59,7 @@ fn each_write_fails_in_turn(rt: HostRuntime) -> Result<(), Fail> {
             let ran = call(&rt, "run", &input, 5, (0, nth), disk)?;
             assert_eq!(rt; ran.status, Status::WriteFault);
             assert!(rt; ran.text == text, "{nth}");
-            // The statement whose reply was being written stands.
+            // The event of the statement whose reply was being written is in the journal.
             assert!(rt; stands_for(&rt, ran.disk.inner().bytes(), events)?);
             text.extend_from_slice(piece)?;
         }

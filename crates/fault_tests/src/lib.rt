@@ -1,12 +1,12 @@
-//! Tests of the top call under faults of its source, its sink and its disk, by the public calls alone. What has
-//! to come out is worked out by hand. They stand in a crate without any other code, since a crate with tests is
+//! Tests of the top call under faults of its source, its sink and its disk, by public calls only. The expected
+//! results were worked out manually. The tests are in a crate without other code, since a crate with tests is
 //! proved twice.
 //!
 //! - `script`: a script with its replies and its events.
-//! - `calls`: how calls are made and looked at.
+//! - `calls`: makes calls and checks their results.
 //! - `ends`: a read or a write that fails.
 //! - `disks`: a call of the disk that fails, a disk that stops, and what a crash leaves of it.
-//! - `reads`: how many stored rows a run looks at, which no reply tells.
+//! - `reads`: how many stored rows a run reads, which no reply reports.
 //! - `checkpoints`: a checkpoint whose sink or disk fails.
 //! - `ticks`: a tick whose disk fails.
 //! - `stops`: a disk that fails under one session of a parallel run.

@@ -1,11 +1,11 @@
-//! How many stored rows runs look at, worked out by hand.
+//! How many stored rows runs read, worked out manually.
 use crate::calls::{ALL, call, sound_disk};
 use std::test::Fail;
 use ts_top::Status;
 
-/// Scripts one after the other over one journal, and how many stored rows each looks at: a refresh those
-/// in chunks that meet a range which is out of date, a query of an aggregate those in chunks that meet a
-/// bucket from the watermark on.
+/// Scripts in order on one journal, and how many stored rows each reads. A refresh reads those in chunks that
+/// overlap a range that is out of date. A query of an aggregate reads those in chunks that overlap a bucket from
+/// the watermark on.
 const READS: [(&[u8], u64); 9] = [
     (
         b"a: CREATE TABLE m (time BIGINT NOT NULL, dev BIGINT, v BIGINT)

@@ -1,4 +1,4 @@
-//! A parallel run whose disk fails at an event of one session: the store stands still for the other ones.
+//! A parallel run whose disk fails at an event of one session: the store has stopped for the other sessions.
 use crate::calls::{ALL, call};
 use std::test::Fail;
 use ts_disk::{DiskCall, FailDisk};

@@ -1,4 +1,4 @@
-//! A tick whose disk fails at the first event of what it runs.
+//! A tick whose disk fails at the first event of its statements.
 use crate::calls::{ALL, call};
 use std::test::Fail;
 use ts_disk::{DiskCall, FailDisk};
@@ -26,8 +26,8 @@ p: FAULT E24 stopped @4
 p: FAULT E24 stopped @4
 ";
 
-// The header takes a sync and each event two, so the tenth is the first of the fifth event. A run writes nothing of
-// the line that met the fault; in a parallel run each due statement has a reply.
+// The header takes a sync and each event two, so the tenth is the first of the fifth event. A run writes no part
+// of the reply to the line that met the fault; in a parallel run each due statement has a reply.
 #[test]
 fn a_tick_meets_a_disk_that_fails(rt: HostRuntime) -> Result<(), Fail> {
     for (word, tick) in [("run", b"".as_slice()), ("par", TICK)] {

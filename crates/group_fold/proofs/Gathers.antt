@@ -181,7 +181,7 @@ takes_merged fold row old new at was now place was_is is start keys parts room =
       few = omega (arith, ap total_rows is, counted-set old at now was 1 place.within count);
     }
 
--- the same, where the group that takes it in stands for the one that was there
+-- the same, if the group with the row is at the place of the one that was there
 pub takes_grown : (fold : Fold) (row : Row) (old new : List Group) (at : ℕ) → IsAt (row_group fold row) old at → new ≡ set old at (group_with_row fold row (get_or old at (row_group fold row))) → HasRoom 1 fold old → Takes fold row old new
 takes_grown fold row old new at place is room =
     let was = get_or old at (row_group fold row) in
@@ -277,7 +277,7 @@ unfolding IsStrictlySortedBy
 ordered_already [] h = refl
 ordered_already (g ∷ gs) h = ap (with_group g) (ordered_already gs h.1) ∙ with_group-front g gs h.0
 
--- in front of groups in order stands one that is before the first of them
+-- groups in order, with one in front that is before the first of them
 pub in_front : (g h : Group) (gs : List Group) → group_cmp g h ≡ Less → AreInOrder (h ∷ gs) → AreInOrder (g ∷ h ∷ gs)
 unfolding IsStrictlySortedBy
 in_front g h gs less sorted = ((less, all_above group_cmp group_cmp_total g h gs less sorted.0), sorted)

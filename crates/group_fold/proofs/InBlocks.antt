@@ -217,7 +217,7 @@ shown_put n old new heads at h parts g many keeps put stand start keys is =
     ap (λ s. with s h.keys (parts_at n new h.place)) start ∙ (ap (λ ks. with g.start ks (parts_at n new h.place)) keys ∙ ap (λ ps. with g.start g.keys ps) are) in
     shown-insert n new heads at h ∙ (ap (λ gs. insert gs at (shown_group n new h)) (shown_kept n old new heads keeps stand.within) ∙ ap (insert (shown_groups n old heads) at) made)
 
--- where a head was put in, or not for want of memory
+-- whether a head was put in, or memory ran out
 pub stand_tried : {X E : Type 0} (result : Result X E) (n : ℕ) (blocks : List (List Summary)) (old new : List Head) (at : ℕ) (h : Head) → OnOk result (new ≡ insert old at h) → OnErr result (new ≡ old) → StandIn n blocks (insert old at h) → StandIn n blocks old → StandIn n blocks new
 stand_tried (Ok x) n blocks old new at h put kept with without = subst (StandIn n blocks) (sym put) with
 stand_tried (Err x) n blocks old new at h put kept with without = subst (StandIn n blocks) (sym kept) without

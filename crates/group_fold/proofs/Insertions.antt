@@ -1,4 +1,4 @@
--- A group put in its place: where it comes to stand, and that the order in which groups are put in plays no part.
+-- A group put in its place: where it ends up, and that the order in which groups are put in has no effect.
 use Rattle.std.proofs.Common.{◌≡◌, List, [], ◌∷◌, ◌++◌, sym, refl, ap, ◌∙◌}
 use Rattle.std.specs.List.{AllByRecursion}
 use Rattle.std.specs.Ordering.{ordering_reverse}
@@ -52,7 +52,7 @@ at_equal g x xs e = rw e refl
 pub at_greater : (g x : Group) (xs : List Group) → group_cmp g x ≡ Greater → with_group g (x ∷ xs) ≡ x ∷ with_group g xs
 at_greater g x xs e = rw e refl
 
--- ---- where it comes to stand
+-- ---- where a group ends up
 
 pub with_group-front : (g : Group) (xs : List Group) → AllByRecursion (λ x. group_cmp g x ≡ Less) xs → with_group g xs ≡ g ∷ xs
 with_group-front g [] h = refl
@@ -97,7 +97,7 @@ merged_comm g h e =
 
 -- ---- the order in which groups are put in
 
--- a group and one of its own place: put in one by one, or merged first
+-- two groups of one place: put in one by one, or merged first
 pub with_group-twice : (g h : Group) (xs : List Group) → group_cmp g h ≡ Equal → with_group (merge_of g h) xs ≡ with_group g (with_group h xs)
 with_group-twice g h [] e = sym (at_equal g h [] e)
 with_group-twice g h (x ∷ xs) e =

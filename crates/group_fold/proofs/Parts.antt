@@ -43,7 +43,7 @@ module _ {X : Type 0} where
   cut_whole (j ∷ js) [] e = absurd (omega (arith, e))
   cut_whole (j ∷ js) (p ∷ ps) e = let h : length js ≡ length ps = omega (arith, e) in ap (λ xs. j ∷ xs) (cut_whole js ps h)
 
--- what stands at place k, before its turn
+-- what is at place k, before its turn
 pub part_before : (k : ℕ) (ps qs now : List Summary) (d : Summary) → length ps ≡ length qs → now ≡ take k (joined_parts ps qs) ++ drop k ps → k < length ps → get_or now k d ≡ get_or ps k d
 part_before k ps qs now d e is h =
     let many = length-joined_parts ps qs e in

@@ -65,7 +65,7 @@ pub record IsPutAt (parts : List Summary) (old new : List (List Summary)) (p : P
 
 -- ---- one of the groups
 
--- a head of the same bucket and keys as a group stands at a place
+-- a head of the same bucket and keys as a group is at a place
 pub record IsHeadAt (g : Group) (heads : List Head) (at : ℕ) : Type 0 where
   pub within : at < length heads
   pub same : (d : Head) → group_cmp (shown_group 0 [] (slice_index_or heads at d)) g ≡ Equal

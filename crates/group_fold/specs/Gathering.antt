@@ -20,7 +20,7 @@ in_group_order groups = with_groups groups []
 abbrev pub IsStart : WidthValue → ℤ → Type 0
 IsStart w b = IsTrue (is_bucket w b) × (b ≤ℤ max_time)
 
--- a group of the same bucket and keys stands at a place
+-- a group of the same bucket and keys is at a place
 pub record IsAt (g : Group) (groups : List Group) (at : ℕ) : Type 0 where
   pub within : at < length groups
   pub same : (d : Group) → group_cmp (slice_index_or groups at d) g ≡ Equal

@@ -15,7 +15,7 @@ use std::marker::Model;
 use ts_model::Fold;
 use ts_schema::{NoMemory, Row, Seq};
 
-/// A fold in the making. Contracts see its groups so far in some order, and how many rows it has taken in.
+/// A fold under construction. Contracts see its groups so far in some order, and how many rows it has read.
 #[derive(Drop)]
 pub struct FoldBuilder {
     gathered: GroupTable,
@@ -41,8 +41,8 @@ impl FoldBuilder {
         }
     }
 
-    /// Takes these rows in by the plan that it took the others in by. 2^62 rows or more in all are answered as want
-    /// of memory. After want of memory it is of no use.
+    /// Adds these rows, by the plan by which it added the others. Fails as out of memory for 2^62 rows or
+    /// more in all. After a failure the fold can't be used.
     pub fn take(&mut self, alloc: Global, plan: &Fold, rows: &[Row]) -> Result<(), NoMemory>
         requires times { AreTimes rows.now }
         requires before { (before : List RowValue) × HasTaken plan.now before self.old }

@@ -16,26 +16,26 @@ use ts_bucket::{Width, bucket, first};
 use ts_model::Fold;
 use ts_schema::{NoMemory, Row, field, passes};
 
-/// To move so many groups costs as much as to search for one.
+/// To move so many groups costs as much as one search.
 const MOVES_A_SEARCH: usize = 8;
 
 /// So many groups more than there are may be searched for four times before rows count as out of order.
 const FREE_STRAYS: usize = 16;
 
-/// Groups, in order while rows come nearly in order. Nothing rests on what stands here beside the
-/// groups but speed: what a place names is looked at before it is used, and a group may come up twice.
+/// Groups, in order while rows come nearly in order. The other fields only make it fast: each place that they
+/// give is checked before it is used, and a group may occur twice.
 #[derive(Drop)]
 pub(crate) struct GroupTable {
     pub(crate) groups: OpenGroups,
-    /// Where the group of the last row stands.
+    /// The place of the group of the last row.
     last: usize,
     /// How often a group was searched for away from that place, and a part of how many were moved for a
     /// new one.
     strayed: usize,
-    /// Whether rows came too far out of order. From then on new groups stand at the end, and `places` has
-    /// all of them.
+    /// Whether rows came too far out of order. From then on new groups are appended, and `places` has all of
+    /// them.
     is_mixed: bool,
-    /// Where a group may stand, by the print of its bucket and keys.
+    /// Where a group may be, by the hash of its bucket and keys.
     places: HashMap<u64, usize>,
 }
 
@@ -75,8 +75,7 @@ impl GroupTable {
         Ok(())
     }
 
-    /// Takes a row in, whose bucket starts at `start`: into the group of its bucket and keys, or as a group
-    /// of its own.
+    /// Adds a row, whose bucket starts at `start`, to the group of its bucket and keys, or as a new group.
     #[inline(always)]
     fn take_row(
         &mut self,
@@ -101,7 +100,7 @@ impl GroupTable {
         }
     }
 
-    /// Where the group of a row stands, or else where it may be put.
+    /// The place of the group of a row, or otherwise where to insert it.
     #[inline(always)]
     fn find(&self, plan: &Fold, row: &Row, start: i64) -> Result<usize, usize>
         ensures found { IfOk result (IsAt (row_at plan.now start row.now) self.now.groups) }
@@ -154,7 +153,7 @@ impl GroupTable {
         self.groups.put(alloc, at, plan, row, start)
     }
 
-    /// Notes where the groups stand, once rows have strayed too often for the number of groups.
+    /// Stores the places of the groups, once rows have strayed too often for the number of groups.
     #[inline(always)]
     fn note_if_astray(&mut self) -> Result<(), NoMemory>
         ensures { OnOk result (self.new.groups ≡ self.old.groups) }
@@ -170,7 +169,7 @@ impl GroupTable {
         self.note_places()
     }
 
-    /// Notes where the groups stand.
+    /// Stores the places of the groups.
     fn note_places(&mut self) -> Result<(), NoMemory>
         ensures { OnOk result (self.new.groups ≡ self.old.groups) }
     {
@@ -238,7 +237,7 @@ fn print_of_head(head: &Head) -> u64 {
     print
 }
 
-/// A print with one more number.
+/// A hash with one more number.
 fn mix(print: u64, number: Option<i64>) -> u64 {
     let bits = match number {
         None => 0x5851_f42d_4c95_7f2d,

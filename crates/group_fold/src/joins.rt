@@ -1,4 +1,4 @@
-//! Two lists of groups put together.
+//! Two lists of groups, joined.
 ghost use Rattle.std.specs.Prelude.{◌≡◌, ◌+◌, ◌<◌, ◌≤◌, IfOk, OnOk, OnSome, length, take};
 ghost use Rattle.std.specs.VecDeque.{deque_len};
 ghost use Rattle.partial_agg.specs.Groups.{AreInOrder};
@@ -24,8 +24,8 @@ pub fn join_parts(alloc: Global, a: &Seq<Group>, b: &Seq<Group>) -> Result<Seq<G
     Ok(Seq::of(join_lists(alloc, mine, theirs)?))
 }
 
-/// The same of lists that are given up. Groups move from one list to the other, and are not copied. Those
-/// that stand before all of the second list, and those behind all of the first, move all at once.
+/// The same of lists that are given up. Moves groups from one list to the other, and copies none. Moves those
+/// before all of the second list in one step, and likewise those after all of the first.
 pub(crate) fn join_lists(
     alloc: Global,
     a: Vec<Group>,
@@ -51,7 +51,7 @@ pub(crate) fn join_lists(
     Ok(groups)
 }
 
-/// How many groups of a list stand before all of another one.
+/// How many groups of a list are before all of another one.
 fn count_before(groups: &[Group], others: &[Group]) -> usize
     requires mine { AreInOrder groups.now }
     requires theirs { AreInOrder others.now }
@@ -133,7 +133,7 @@ fn merge_firsts(
     }
 }
 
-/// A group that has taken in another of the same bucket and keys. Its partial aggregates are a list of its own,
+/// A group with another one of the same bucket and keys merged in. Its partial aggregates are a new list,
 /// since others share those of both.
 fn merge_groups(alloc: Global, group: Group, other: &Group) -> Result<Group, NoMemory>
     requires { PartsFit group.parts other.now.parts }

@@ -3,13 +3,15 @@
 //!
 //! - `folds`: the groups of a list of rows.
 //! - `fold_builder`: the same of rows that come list after list.
-//! - `group_table`: groups as rows are taken in, in order while rows come nearly in order, and else as they come up.
-//! - `open_groups`: groups that take rows in, `heads` and `blocks`: their buckets and keys, and what they sum up to.
-//! - `near_places`: where the group of a row stands, while rows come nearly in order.
+//! - `group_table`: groups while rows are added, in order if rows come nearly in order, and otherwise as they
+//!   come.
+//! - `open_groups`: groups that rows are added to, `heads` and `blocks`: their buckets and keys, and their
+//!   totals.
+//! - `near_places`: the place of the group of a row, while rows come nearly in order.
 //! - `members`: one row beside the groups: which is its own, and what it adds to it.
 //! - `orders`: groups put in order.
-//! - `joins`: two lists of groups put together.
-//! - `pieces`: the groups of many lists of rows, in as many threads as serve.
+//! - `joins`: two lists of groups, joined.
+//! - `pieces`: the groups of many lists of rows, in as many threads as are useful.
 //! - `scans`: the rows of some spans, in pieces.
 //! - `spans`: the groups of the rows of some spans: one scan for each span, folded in pieces.
 //! - `laws`: groups of some of the rows, and of some of the buckets.

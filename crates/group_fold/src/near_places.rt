@@ -1,4 +1,4 @@
-//! Where the group of a row stands, while groups are in order.
+//! The place of the group of a row, while groups are in order.
 ghost use Rattle.std.specs.Prelude.{◌≤◌, length, IfOk, IfErr};
 ghost use Rattle.group_fold.specs.Grouping.{row_at};
 ghost use Rattle.group_fold.specs.Blocks.{IsHeadAt};
@@ -9,9 +9,9 @@ use std::cmp::Ordering;
 use ts_model::Fold;
 use ts_schema::Row;
 
-/// Where the group of a row stands, or else where it may be put, so that groups in order stay in order.
-/// The group of the row before and the one behind it are looked at first: in each bucket the same keys
-/// come up, mostly in the same order.
+/// The place of the group of a row, or otherwise where to insert it, so that groups in order stay in order.
+/// Checks the group of the row before and the next one first: in each bucket the same keys occur, mostly in
+/// the same order.
 pub(crate) fn place_of(
     heads: &[Head],
     last: usize,

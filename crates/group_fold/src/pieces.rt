@@ -22,12 +22,12 @@ pub(crate) const MOST_ROWS: u64 = 4_611_686_018_427_387_904;
 /// Fewer rows than these are folded in one thread, for which the system isn't asked how many there are.
 const FEW_ROWS: u64 = 8_192;
 
-/// The groups of the rows of all pieces, as `fold` gives them for the pieces joined. 2^62 rows or more are
-/// answered as want of memory.
+/// The groups of the rows of all pieces, as `fold` gives them for the pieces joined. Fails as out of memory
+/// for 2^62 rows or more.
 ///
-/// Fewer than 8,192 rows are folded in the caller's thread. Else the list of pieces is halved, and its halves
-/// again, into at most as many parts as there are processors. Each part is folded in one thread, and the groups
-/// of two halves are put together. Where a thread can't be started, the caller does its work.
+/// Folds fewer than 8,192 rows in the caller's thread. Otherwise halves the list of pieces, and its halves
+/// again, into at most as many parts as there are processors. Folds each part in one thread, and joins the
+/// groups of two halves. If a thread can't be started, the caller does its work.
 pub fn fold_pieces<R: Threads + Sync>(
     rt: &R,
     alloc: Global,
@@ -58,7 +58,7 @@ fn halvings_of<R: Threads + Sync>(rt: &R, rows: u64) -> u32 {
     current_num_threads(rt).ilog2()
 }
 
-/// How many rows the pieces have; a count past 64 bits stands at their end.
+/// How many rows the pieces have, at most 2^64 - 1.
 fn count_rows(pieces: &[SharedSlice<Row>]) -> u64
     ensures { result ≡ min (length (all_rows pieces.now)) (2 ^ 64 - 1) }
 {

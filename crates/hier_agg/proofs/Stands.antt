@@ -1,4 +1,4 @@
--- The cells behind the bucket of an answer's row stand for the row of the upper fold.
+-- The cells after the bucket of an answer's row represent the row of the upper fold.
 use Rattle.std.proofs.Common.{◌≡◌, ℕ, suc, ◌&&◌, List, [], ◌∷◌, map, Option, unwrap_or, ℤ, pos, ◌+ℤ◌, ◌≤ℤ◌, ◌<ℤ◌, true, sym, refl, ap, ◌∙◌, subst}
 use Rattle.std.specs.List.{AllByRecursion}
 use Rattle.ts_num.specs.declared.values.Datum.{Datum}

@@ -131,8 +131,8 @@ RollUpsOfGroupsChooseCells =
 
 -- ---- at every history
 
--- all of a wider bucket is shown up to date: an aggregate that shows materialised rows only has its last number below
--- the watermark
+-- all of a wider bucket is shown up to date: if the aggregate shows only materialized rows, the last number of the
+-- bucket is below the watermark
 abbrev pub IsShownWhole : ℕ → ViewDef → History → Width → ℤ → Type 0
 IsShownWhole n def h w b = def.only ≡ true → is_below ((b +ℤ w.step) -ℤ pos 1) (watermark n def h) ≡ true
 

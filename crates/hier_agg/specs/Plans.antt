@@ -29,11 +29,11 @@ lower_query plan = Aggregate plan.view all_starts
 abbrev pub key_at : Fold → ℕ → ℕ
 key_at lower k = slice_index_or lower.keys k 0
 
--- the number of rows, which stands where no aggregate does
+-- the number of rows, the default for a missing aggregate
 abbrev pub row_count : Agg
 row_count = record { fun = CountAll; col = 0 }
 
--- what a column behind the keys aggregates
+-- what a column after the keys aggregates
 abbrev pub agg_at : Fold → ℕ → Agg
 agg_at lower c = slice_index_or lower.aggs (c - length lower.keys) row_count
 
@@ -48,7 +48,7 @@ is_additive Min = true
 is_additive Max = true
 is_additive Avg = false
 
--- the function that adds up what a function shows; of an average there is none, and the sum stands there
+-- the function that adds up what a function shows; an average has none, and gets the sum as a placeholder
 abbrev pub added_by : Fun → Fun
 added_by CountAll = Sum
 added_by Count = Sum

@@ -18,7 +18,7 @@ use Rattle.hier_agg.specs.Upper.{upper_fold}
 abbrev pub FitsWhereSound : UpperPlan → ViewDef → Type 0
 FitsWhereSound plan def = IsWidth def.fold.width → PlanFits def.fold plan
 
--- the aggregate of a plan that is read stands in the roster, its answer can be asked for, and the plan fits it
+-- the aggregate of a plan that is read is in the roster, it can be queried, and the plan fits it
 pub record PlansFit : Type 0 where
   pub fits :
       (pos : ℕ) (roster : Roster) (stmt : Stmt) (plan : UpperPlan) → upper_read pos roster stmt ≡ Plan plan

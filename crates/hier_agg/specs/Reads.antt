@@ -1,4 +1,4 @@
--- What a statement asks of an aggregate: a plan, or the first refusal, or nothing where it is no roll-up.
+-- What a statement asks of an aggregate: a plan, or the first refusal, or nothing if it is no roll-up.
 use Rattle.std.specs.Prelude.{◌≡◌, ℕ, List, map, slice_index_or, Option, Some, None, unwrap_or, Result, Ok, Err, ⊤}
 use Rattle.ts_schema.specs.declared.conditions.Test.{Test}
 use Rattle.ts_model.specs.declared.outcomes.Refusal.{Refusal}

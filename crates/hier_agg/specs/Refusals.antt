@@ -111,8 +111,8 @@ aggs_refusal pos def count others (a ∷ left) =
 abbrev pub divides_evenly : ℤ → ℤ → Bool
 divides_evenly z step = int_eq (int_rem_euclid z step) (nonneg 0)
 
--- the width and the offset are in range and fit those of the aggregate, with the bucket column between them; an offset
--- that isn't written is 0, and is tried as one that is
+-- the width and the offset are in range and fit those of the aggregate, with the bucket column between them. An offset
+-- that isn't written is checked as 0
 abbrev pub width_refusal : ℕ → ViewDef → NamedFold → Option Refusal
 width_refusal pos def f =
     refusal_if pos bad_width (not (is_step f.step)) ⊳ refusal_if pos bad_width (not (divides_evenly f.step def.fold.width.step))

@@ -1,4 +1,4 @@
--- How the code groups the rows of an answer: by the cells behind their buckets.
+-- How the code groups the rows of an answer: by the cells after their buckets.
 use Rattle.std.specs.Prelude.{ℕ, Bool, List, drop, map}
 use Rattle.ts_num.specs.declared.values.Datum.{Datum}
 use Rattle.ts_bucket.specs.Bucket.{bucket_of}
@@ -12,7 +12,7 @@ use Rattle.hier_agg.specs.declared.plans.UpperPlan.{UpperPlan}
 use Rattle.hier_agg.specs.Plans.{added_by, agg_at}
 use Rattle.hier_agg.specs.Upper.{row_of}
 
--- the cells of a row behind its bucket
+-- the cells of a row after its bucket
 abbrev pub columns_of : List Datum → List Datum
 columns_of cells = drop 1 cells
 

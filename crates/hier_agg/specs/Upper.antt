@@ -20,7 +20,7 @@ abbrev pub row_of : List Datum → Row
 row_of [] = record { at = pos 0; vals = [] }
 row_of (b ∷ cells) = record { at = unwrap_or (value_of b) (pos 0); vals = map value_of cells }
 
--- what adds a column up: in the rows of the answer, column c behind the bucket is the one after c
+-- what adds a column up: in the rows of the answer, column c after the bucket is the one after c
 abbrev pub adds_up : Fold → ℕ → Agg
 adds_up lower c = record { fun = added_by (agg_at lower c).fun; col = suc c }
 

@@ -19,8 +19,9 @@ use ts_model::{Answer, Fold, ResultRows, ViewDef};
 use ts_num::{Datum, Fun};
 use ts_schema::NoMemory;
 
-/// The upper answer, made of the answer of an aggregate over all its buckets. A count over 64 bits, a sum or a
-/// wider bucket over 128, and a stale range that can't be widened in 64 are answered as want of memory.
+/// The upper answer, computed from the answer of an aggregate over all its buckets. A count over 64 bits, a
+/// sum or a wider bucket over 128 bits, and a stale range that can't be widened within 64 bits are reported
+/// as out of memory.
 pub fn answer_upper(
     alloc: Global,
     plan: &UpperPlan,
@@ -37,7 +38,7 @@ pub fn answer_upper(
     Ok(Answer { rows, stale })
 }
 
-/// The rows of the upper answer. For a sum that takes more than 128 bits there is no room.
+/// The rows of the upper answer. A sum over 128 bits is reported as out of memory.
 fn made_rows(
     alloc: Global,
     plan: &UpperPlan,
@@ -71,7 +72,7 @@ fn rolled_rows(
     }
 }
 
-/// For how many result rows there is to be room at first: where the buckets stay as wide, each row may be one.
+/// For how many result rows to reserve room: if the buckets stay as wide, each row may be one.
 fn room_for(plan: &UpperPlan, lower: &Fold, rows: &ResultRows) -> usize {
     if plan.width.step == lower.width.step {
         return rows.len();
@@ -96,7 +97,7 @@ fn gathered_rows(
     }
 }
 
-/// The function that the lower fold has for a column behind its keys.
+/// The function that the lower fold has for a column after its keys.
 pub(crate) fn function_at(lower: &Fold, col: u32) -> Fun
     ensures { result ≡ (agg_at lower.now col).fun }
 {

@@ -34,8 +34,8 @@ pub(crate) fn gather<'a>(
     Ok(gathered)
 }
 
-/// Takes a row in, where its keys pass. `bucket` is that of a row before it, and then its own. For a sum that
-/// takes more than 128 bits there is no room.
+/// Adds a row, if its keys match. `bucket` is that of a row before it, and then its own. A sum over 128 bits
+/// is reported as out of memory.
 #[inline(always)]
 fn take_row<'a>(
     alloc: Global,

@@ -28,12 +28,12 @@ pub fn whole_roll_ups_show_the_lower_answer()
     ensures { WholeRollUpsShowTheLowerAnswer }
 {}
 
-/// The stale ranges of an aggregate's answer are such as a roll-up takes.
+/// The stale ranges of an aggregate's answer are ranges that a roll-up accepts.
 pub fn answers_have_whole_ranges()
     ensures { AnswersHaveWholeRanges }
 {}
 
-/// A wider bucket holds a stale one exactly where there is a stale bucket in it.
+/// A wider bucket holds a stale one exactly if there is a stale bucket in it.
 pub fn stale_buckets_are_held()
     ensures { StaleBucketsAreHeld }
 {}
@@ -63,7 +63,7 @@ pub fn fresh_buckets_show_the_composed_fold()
     ensures { FreshBucketsShowTheComposedFold }
 {}
 
-/// The plan of a roll-up that isn't refused is over an aggregate that is there, can be asked, and fits.
+/// The plan of a roll-up that isn't refused is over an existing aggregate, which can be queried and fits.
 pub fn plans_fit()
     ensures { PlansFit }
 {}

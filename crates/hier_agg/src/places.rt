@@ -6,8 +6,9 @@ use crate::plans::UpperPlan;
 use std::alloc::Global;
 use ts_schema::{NoMemory, Seq};
 
-/// The places of the cells that a plan takes of a row of the lower answer: its bucket, then its keys, then what it
-/// adds up. A column whose number is the greatest of 32 bits has no place, and is answered as want of memory.
+/// The places of the cells that a plan takes of a row of the lower answer: its bucket, then its keys, then
+/// what it adds up. The column with the greatest number of 32 bits has no place, and is reported as out of
+/// memory.
 pub fn chosen_places(alloc: Global, plan: &UpperPlan) -> Result<Seq<u32>, NoMemory>
     ensures places { IfOk result (λ places. places ≡ chosen_places plan.now) }
 {
@@ -18,7 +19,7 @@ pub fn chosen_places(alloc: Global, plan: &UpperPlan) -> Result<Seq<u32>, NoMemo
     Ok(Seq::of(places))
 }
 
-/// Appends the places of columns: each stands behind the bucket.
+/// Appends the places of columns, which come after the bucket.
 fn put_places(cols: &[u32], places: &mut Vec<u32>) -> Result<(), NoMemory>
     ensures { IfOk result (λ _. places.new.items ≡ places.old.items ++ map suc cols.now) }
 {

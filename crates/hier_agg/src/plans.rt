@@ -18,7 +18,7 @@ pub struct UpperPlan {
     pub keys: Seq<u32>,
     /// The columns that are added up, in the order of the statement.
     pub cols: Seq<u32>,
-    /// The tests that the keys of a row have to pass.
+    /// The tests that the keys of a row must match.
     pub tests: Seq<Test>,
 }
 

@@ -24,12 +24,12 @@ pub enum UpperRead {
     Refused(Refusal),
     /// Nothing: it isn't SELECT time_bucket over an aggregate.
     NotUpper,
-    /// There was no memory.
+    /// Out of memory.
     NoMemory,
 }
 
-/// What a statement asks of an aggregate of a roster: the plan of a roll-up, or the first refusal of
-/// its names and values; `pos` is the position looked at.
+/// What a statement asks of an aggregate of a roster: the plan of a roll-up, or the first refusal of its
+/// names and values. `pos` is the read position.
 pub fn read_upper(alloc: Global, stmt: &Stmt, roster: &Roster, pos: u64) -> UpperRead
     requires { IsNumbered roster.now }
     ensures read { IsRead (upper_read pos roster.now stmt.now) result }

@@ -12,7 +12,7 @@ use cell_groups::{RowCells, passes};
 use ts_model::ResultRow;
 use ts_schema::NoMemory;
 
-/// Whether the keys of a row pass. `bucket` is that of a row before it, and then its own, where they do.
+/// Whether the keys of a row match. `bucket` is that of a row before it, and then its own, if they do.
 #[inline(always)]
 pub(crate) fn passes_to(
     plan: &UpperPlan,
@@ -31,7 +31,7 @@ pub(crate) fn passes_to(
     Ok(true)
 }
 
-/// The cells of a row behind its bucket.
+/// The cells of a row after its bucket.
 #[inline(always)]
 pub(crate) fn columns_of(row: ResultRow<'_>) -> RowCells<'_>
     ensures { result ≡ columns_of (row_cells row.entry) }

@@ -1,4 +1,4 @@
-//! A roll-up, as a grouping of the cells behind the bucket of each row.
+//! A roll-up, as a grouping of the cells after the bucket of each row.
 ghost use Rattle.std.specs.Prelude.{◌≡◌, IfOk, map};
 ghost use Rattle.hier_agg.specs.Plans.{added_by};
 ghost use Rattle.hier_agg.specs.Taken.{added_at, shape_of};

@@ -9,8 +9,8 @@ use std::collections::VecDeque;
 use ts_bucket::{Span, Width};
 use ts_schema::{NoMemory, Seq};
 
-/// The maximal ranges of the wider buckets that hold a stale one. For one that takes more than 64 bits
-/// there is no room.
+/// The maximal ranges of the wider buckets that hold a stale one. A range over 64 bits is reported as out of
+/// memory.
 pub(crate) fn widen(alloc: Global, width: &Width, stale: &Seq<Span>) -> Result<Seq<Span>, NoMemory>
     requires { AreApart stale.now }
     ensures ranges { IfOk result (λ found. found ≡ upper_stale width.now stale.now) }
@@ -27,7 +27,7 @@ pub(crate) fn widen(alloc: Global, width: &Width, stale: &Seq<Span>) -> Result<S
     Ok(Seq::of(Vec::from(found)))
 }
 
-/// Puts a range before the others. It takes in the first of them where it reaches that.
+/// Puts a range before the others. It absorbs the first of them if it reaches that.
 fn put_first(found: &mut VecDeque<Span>, range: Span) -> Result<(), NoMemory>
     ensures { OnOk result (found.new.items ≡ with_range range found.old.items) }
 {

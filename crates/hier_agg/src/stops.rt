@@ -13,7 +13,7 @@ use ts_schema::NoMemory;
 pub(crate) enum PlanStop {
     /// This is refused.
     Refused(Refusal),
-    /// There was no memory.
+    /// Out of memory.
     NoMemory,
 }
 

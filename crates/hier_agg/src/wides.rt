@@ -21,8 +21,8 @@ pub(crate) fn no_bucket() -> WideBucket
     WideBucket { start: 0, end: 0 }
 }
 
-/// Goes on to the bucket that holds a number, unless it is the one at hand. For one that takes more than 128
-/// bits there is no room.
+/// Moves to the bucket that holds a number, unless it is the one at hand. A bucket over 128 bits is reported
+/// as out of memory.
 #[inline(always)]
 pub(crate) fn go_to(width: &Width, bucket: &mut WideBucket, t: i128) -> Result<(), NoMemory>
     requires { HoldsItsNumbers width.now bucket.old }
@@ -57,7 +57,7 @@ fn start_of(width: &Width, t: i128) -> Result<i128, NoMemory>
     difference(t, from_shift.rem_euclid(i128::from(width.step)))
 }
 
-/// The difference of two numbers, where there is room for it.
+/// The difference of two numbers, if it fits.
 fn difference(a: i128, b: i128) -> Result<i128, NoMemory>
     ensures { IfOk result (λ d. d ≡ a -ℤ b) }
 {

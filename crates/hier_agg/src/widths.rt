@@ -12,7 +12,7 @@ use ts_catalog::view_column;
 use ts_model::codes::{BAD_WIDTH, NO_COLUMN};
 use ts_model::{Refusal, ViewDef};
 
-/// The width, where it fits that of the aggregate and the column is the bucket column.
+/// The width, if it fits that of the aggregate and the column is the bucket column.
 pub(crate) fn check_width(pos: u64, def: &ViewDef, fold: &NamedFold) -> Result<Width, PlanStop>
     requires { length def.now.names < 2 ^ 32 }
     ensures { Checks (width_refusal pos def.now fold.now) (width_of fold.now) result }

@@ -1,4 +1,4 @@
--- How many rows the saved groups of an image are of.
+-- How many rows the saved groups of an image have.
 use Rattle.std.specs.Prelude.{◌^◌, Bool, nat_lt}
 use Rattle.std.specs.List.{list_all}
 use Rattle.ts_model.specs.declared.images.Image.{Image}
@@ -16,6 +16,6 @@ few_in_group g = list_all few_rows g.parts
 abbrev pub few_in_view : SavedView → Bool
 few_in_view v = list_all few_in_group v.groups
 
--- each saved group is of fewer than 2 ^ 62 rows
+-- each saved group has fewer than 2 ^ 62 rows
 abbrev pub few_in_image : Image → Bool
 few_in_image i = list_all few_in_view i.views

@@ -25,7 +25,7 @@ pub record HasWaiting (w : Waiting) : Type 0 where
   pub view : IsFour w.view
   pub span : HasSpan w.span
 
--- all numbers of an image but those of its events
+-- all numbers of an image except those of its events
 pub record HasFields (i : Image) : Type 0 where
   pub pos : IsEight i.pos
   pub views : AllByRecursion HasSaved i.views

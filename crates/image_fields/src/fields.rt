@@ -147,7 +147,7 @@ fn views_law(views: &[SavedView])
     }
 }
 
-/// The refreshes that wait.
+/// The refreshes that are pending.
 fn waiting_law(waiting: &[Waiting])
     ensures { AllByRecursion HasWaiting waiting.now }
 {
@@ -172,7 +172,7 @@ fn done_law(done: &[Finished])
     }
 }
 
-/// All parts of an image but its events.
+/// All parts of an image except its events.
 fn fields_law(image: &Image)
     ensures { HasFields image.now }
 {
@@ -182,8 +182,8 @@ fn fields_law(image: &Image)
     done_law(image.done.items());
 }
 
-/// An image that is valid with some events as its rows, and has fewer than 2^32 bytes with them, has all its parts
-/// in the range of their fields. It does nothing.
+/// States that an image has all its parts in the range of their fields, if it is valid with some events as
+/// its rows and has fewer than 2^32 bytes with them. Does nothing.
 #[tactic(auto, using(crate::proofs::FormedLaws::formed_with))]
 pub fn image_law(image: &Image)
     ensures formed { (events : List Event) → valid (with_rows events image.now) ≡ true

@@ -1,4 +1,4 @@
-//! Whether the groups of an image are of few rows, as those of a valid one are.
+//! Whether the groups of an image have few rows, as those of a valid one do.
 ghost use Rattle.std.specs.Prelude.{◌≡◌, List, true};
 ghost use Rattle.base_image.specs.Outlines.{with_rows};
 ghost use Rattle.ts_model.specs.declared.events.Event.{Event};
@@ -11,32 +11,32 @@ ghost use Rattle.image_fields.specs.Counts.{few_in_group, few_in_image, few_in_v
 use image_laws::laws::images_are_valid;
 use ts_model::{Image, SavedGroup, SavedView};
 
-/// No group of an image is of so many rows.
+/// No group of an image has this many rows or more.
 const TOO_MANY: u64 = 1 << 62;
 
-/// Whether a group is of fewer rows.
+/// Whether a group has fewer rows.
 fn group_is_few(group: &SavedGroup) -> bool
     ensures { result ≡ few_in_group group.now }
 {
     group.parts.items().iter().all(|sums| sums.count < TOO_MANY)
 }
 
-/// Whether the groups of an aggregate are.
+/// Whether the groups of an aggregate do.
 fn view_is_few(view: &SavedView) -> bool
     ensures { result ≡ few_in_view view.now }
 {
     view.groups.items().iter().all(|group| group_is_few(group))
 }
 
-/// Whether the saved groups of an image count fewer than 2^62 rows each, as those of a valid image do.
+/// Whether each saved group of an image has fewer than 2^62 rows, as those of a valid image do.
 pub fn groups_are_few(image: &Image) -> bool
     ensures { result ≡ few_in_image image.now }
 {
     image.views.items().iter().all(|view| view_is_few(view))
 }
 
-/// The image of an allowed history is valid where its groups are of few rows, also where its own rows stand
-/// elsewhere. It does nothing.
+/// States that the image of an allowed history is valid if its groups have few rows, even if its own rows are
+/// stored elsewhere. Does nothing.
 #[tactic(auto, using(crate::proofs::FewLaws::is_valid_with))]
 pub fn validity_law(_image: &Image)
     ensures { (h : History) (events : List Event) → all_allowed h ≡ true → IsImage h (with_rows events _image.now)

@@ -1,4 +1,4 @@
--- Histories that are alike: what is told of the one, from now on, is told of the other.
+-- Histories that are alike: from now on, both give the same answers.
 use Rattle.std.specs.Prelude.{◌≡◌, ℕ, ◌≤◌, Bool, true, false, ◌&&◌, nat_le, List, [], ◌∷◌, ℤ, Option, Some, None}
 use Rattle.ts_bucket.specs.Bucket.{is_bucket}
 use Rattle.ts_model.specs.declared.events.Event.{Event}
@@ -20,8 +20,8 @@ use Rattle.ts_model.specs.Windows.{window}
 use Rattle.ts_model.specs.Allowed.{all_allowed}
 use Rattle.ts_model.specs.Calls.{making_table, making_hyper, making_view, setting_mode, act_of_commit, act_of_cut, act_of_finish}
 
--- two histories tell the same of an aggregate: its watermark, the last refresh of each bucket, whether the bucket was
--- touched after it, and what it has left in a bucket that was
+-- two histories agree on an aggregate: its watermark, the last refresh of each bucket, whether the bucket was touched
+-- after it, and what it has left in a bucket that was
 pub record AlikeView (n : ℕ) (def : ViewDef) (g h : History) : Type 0 where
   pub marks : watermark n def g ≡ watermark n def h
   pub lasts : (b : ℤ) → is_bucket def.fold.width b ≡ true → last n g b ≡ last n h b
@@ -36,7 +36,7 @@ pub record Alike (g h : History) : Type 0 where
   pub relations : roster g ≡ roster h
   pub stored : (t : ℕ) → rows t g ≡ rows t h
   pub refreshes : (k : ℕ) → pending g k ≡ pending h k
-  -- the span of each refresh that waits
+  -- the span of each pending refresh
   pub spans : (n k : ℕ) → is_waiting (pending g k) ≡ true → span_of_cut n g k ≡ span_of_cut n h k
   pub views : (n : ℕ) (def : ViewDef) → IsOf def (view_of (roster g) n) → AlikeView n def g h
 
@@ -50,7 +50,7 @@ are_from p [] = true
 are_from p (e ∷ es) = is_from p e && are_from p es
 
 -- a history that is alike to one that begins with an image and has no event after it stays alike to it under the same
--- events, and these are allowed after the one exactly where they are allowed after the other and no snapshot is below
+-- events, and these are allowed after the one exactly if they are allowed after the other and no snapshot is below
 -- the image
 pub record AlikeStays : Type 0 where
   pub allowed :
@@ -60,7 +60,7 @@ pub record AlikeStays : Type 0 where
   pub alike :
       (h : History) (i : Image) (es : List Event) → all_allowed h ≡ true → all_allowed (resumed i ▸▸ es) ≡ true
       → Alike h (resumed i) → Alike (h ▸▸ es) (resumed i ▸▸ es)
-  -- so do histories with a queue on top, also where there is no room to commit it
+  -- so do histories with a queue on top, even if there is no room to commit it
   pub queued : (g h : History) (ops : List Op) → all_allowed g ≡ true → all_allowed h ≡ true → Alike g h
       → Alike (with_queue ops g) (with_queue ops h)
 

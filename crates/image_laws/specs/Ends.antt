@@ -8,8 +8,8 @@ use Rattle.ts_model.specs.Calls.{act_of_event, makes, refuses}
 use Rattle.ts_model.specs.History.{History, position}
 use Rattle.ts_model.specs.Numbers.{history_full}
 
--- a call that says this of its event makes it below position 2 ^ 62, and at it is refused as E30, whether the store
--- stands still or not
+-- a call with this answer for its event makes it below position 2 ^ 62, and at that position is refused as E30,
+-- whether or not the store has stopped
 pub record MadeUpToEnd (A : Type 0) : Type 0 where
   pub below : (h : History) (e : Event) (a : A) → position h < 2 ^ 62 → act_of_event h e a ≡ makes e a
   pub full : (h : History) (e : Event) (a : A) → position h ≡ 2 ^ 62

@@ -1,4 +1,4 @@
--- The image of a history: what is saved of it.
+-- The image of a history: what a checkpoint keeps of it.
 use Rattle.std.specs.Prelude.{◌≡◌, ◌≢◌, ℕ, zero, suc, ◌≤◌, ◌^◌, nat_lt, Bool, true, ◌&&◌, cond, List, [], ◌∷◌, ◌++◌, map, length, ℤ, ◌≤ℤ◌, Option, Some, None, is_some}
 use Rattle.std.specs.List.{AllByRecursion, list_all}
 use Rattle.ts_bucket.specs.Bucket.{is_bucket}
@@ -36,7 +36,7 @@ use Rattle.image_laws.specs.Alike.{Alike, are_from}
 
 -- ---- the roster and the rows
 
--- what makes table number t a hypertable, where it is one
+-- the event that makes table number t a hypertable, if it is one
 abbrev pub hyper_events : ℕ → Option HyperInfo → List Event
 hyper_events t None = []
 hyper_events t (Some hyper) = Hyper t hyper ∷ []
@@ -50,7 +50,7 @@ table_events t (info ∷ infos) = Table info.def ∷ (hyper_events t info.hyper 
 abbrev pub roster_events : Roster → List Event
 roster_events r = table_events 0 r.tables ++ map View r.views
 
--- a commit of these rows, where there are some
+-- a commit of these rows, if there are any
 abbrev pub held_events : ℕ → List Row → List Event
 held_events t [] = []
 held_events t (row ∷ rows) = Commit (Insert t (row ∷ rows) ∷ []) ∷ []
@@ -62,7 +62,7 @@ row_events h t (suc n) = held_events t (rows t h) ++ row_events h (suc t) n
 
 -- ---- refreshes
 
--- refresh number k, where it was finished
+-- refresh number k, if it was finished
 abbrev pub finished_as : ℕ → Pending → List FinishedRefresh
 finished_as k (Waiting n) = []
 finished_as k (Finished f) = record { cut = k; built = f } ∷ []
@@ -122,14 +122,14 @@ pub record IsImage (h : History) (i : Image) : Type 0 where
   pub waits : i.waiting ≡ waiting h
   pub done : i.done ≡ finished_upto h (position h)
 
--- each group that a last refresh has left in a bucket touched after it is of fewer than 2 ^ 62 rows
+-- each group that a last refresh has left in a bucket touched after it has fewer than 2 ^ 62 rows
 abbrev pub AreFew : History → Type 0
 AreFew h =
     (n : ℕ) (def : ViewDef) (b : ℤ) → view_of (roster h) n ≡ Some def → is_bucket def.fold.width b ≡ true
     → was_left n def h b ≡ true
     → list_all (λ g. list_all (λ s. nat_lt s.count (2 ^ 62)) g.parts) (groups_left n def h b (last n h b)) ≡ true
 
--- the image of an allowed history is valid, where these groups are of fewer than 2 ^ 62 rows
+-- the image of an allowed history is valid, if these groups have fewer than 2 ^ 62 rows
 abbrev pub ImagesAreValid : Type 0
 ImagesAreValid = (h : History) (i : Image) → all_allowed h ≡ true → AreFew h → IsImage h i → valid i ≡ true
 
@@ -141,8 +141,8 @@ OneImage = (h : History) (i j : Image) → IsImage h i → IsImage h j → i ≡
 abbrev pub ImagesAreAlike : Type 0
 ImagesAreAlike = (h : History) (i : Image) → all_allowed h ≡ true → IsImage h i → Alike h (resumed i)
 
--- what is allowed after the image of a history is what is allowed after the history with no snapshot below the image,
--- and then whatever is asked is answered as over the whole history
+-- events are allowed after the image of a history exactly if they are allowed after the history and no snapshot is
+-- below the image, and then each question has the same answer over both
 pub record CheckpointsKeep : Type 0 where
   pub allowed :
       (h : History) (i : Image) (es : List Event) → all_allowed h ≡ true → IsImage h i → valid i ≡ true

@@ -1,11 +1,10 @@
-//! Laws of saved images. Each is the clause of a function that does nothing.
+//! Laws of checkpoint images. Each is the clause of a function that does nothing.
 ghost use Rattle.image_laws.specs.Alike.{AlikeAnswers, AlikeStays};
 ghost use Rattle.image_laws.specs.Ends.{HistoriesEnd};
 ghost use Rattle.image_laws.specs.Images.{CheckpointsKeep, ImagesAreAlike, ImagesAreValid, OneImage};
 
-/// A history that is alike to one that begins with an image stays alike to it under the same events, which
-/// are allowed after the one exactly where they are allowed after the other, but for a finish with a
-/// snapshot below the image.
+/// A history that is alike to one that begins with an image stays alike to it under the same events. The same
+/// events are allowed after both, except for a finish with a snapshot below the image.
 pub fn alike_histories_stay_alike()
     ensures { AlikeStays }
 {}
@@ -25,8 +24,8 @@ pub fn checkpoints_keep_answers()
     ensures { CheckpointsKeep }
 {}
 
-/// The image of an allowed history is valid, where each group in a bucket touched after its last refresh is
-/// of fewer than 2^62 rows.
+/// The image of an allowed history is valid, if each group in a bucket touched after its last refresh has
+/// fewer than 2^62 rows.
 pub fn images_are_valid()
     ensures { ImagesAreValid }
 {}

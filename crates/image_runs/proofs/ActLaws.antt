@@ -50,7 +50,7 @@ module _ (h : History) (i : Image) (ok : all_allowed h ≡ true) (is : IsImage h
   alike : Alike g k
   alike = twins_alike h i ok is g k t
 
-  -- what the session carries goes on fitting
+  -- what the session carries still fits later
   later : (es : List Event) → PlacesFit i.pos (used + bytes) (k ▸▸ es) p
   later es = places_on i.pos used (used + bytes) k (k ▸▸ es) p (begins_followed k es) (omega arith) (omega (arith, few)) fit
 

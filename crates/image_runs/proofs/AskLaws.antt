@@ -13,7 +13,7 @@ use Rattle.ts_sessions.specs.Step.{answers, in_form, shown_in}
 use Rattle.image_runs.proofs.CallLaws.{SameTurn}
 use Rattle.image_runs.proofs.PlaceLaws.{PlacesFit}
 
--- what is said is told by what is alike, also with a queue on top. How many rows were looked at is not compared
+-- histories that are alike give the same answer, also with a queue on top. How many rows were read is not compared
 pub answers_along : (base used : ℕ) (p : Places) (plan : _) (g k l : History) → Alike g k → all_allowed g ≡ true → all_allowed k ≡ true → PlacesFit base used l p → SameTurn base used l (answers p g plan) (answers p k plan)
 answers_along base used p plan g k l alike ok_g ok_k fit =
     let on_top = alike_stays.queued g k (queue_in p.block) ok_g ok_k alike in

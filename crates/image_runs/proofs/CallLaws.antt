@@ -75,7 +75,7 @@ now_from base k root = record { above = subst (λ b. b ≤ position k) root (bas
 now_held : (base : ℕ) (k : History) (c : ℕ) → base_position k ≡ base → all_allowed k ≡ true → is_known (pending k c) ≡ true → IsHeld base k c (position k)
 now_held base k c root ok known = record { from = now_from base k root; after = (known_bounds k c ok known).1 }
 
--- the same places fit a history that goes on
+-- the same places fit the history with more events
 pub fit_on : (base used : ℕ) (k : History) (es : List Event) (p : Places) → used ≤ longest_input → PlacesFit base used k p → PlacesFit base used (k ▸▸ es) p
 fit_on base used k es p few fit = places_on base used used k (k ▸▸ es) p (begins_followed k es) (omega arith) few fit
 

@@ -1,4 +1,4 @@
--- What a session carries fits a history that begins with an image, and goes on fitting as the history grows.
+-- What a session carries fits a history that begins with an image, and still fits as the history grows.
 use Rattle.std.proofs.Common.{◌≡◌, ℕ, ◌≤◌, true, false, cond, List, [], ◌∷◌, Some, sym, refl, ap, subst, arith}
 use Rattle.std.proofs.lemmas.Bool.{true≢false}
 use Rattle.std.specs.Prelude.{⊤, is_some}

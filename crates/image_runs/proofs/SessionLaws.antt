@@ -26,7 +26,7 @@ module _ {P : Type 0} (Fit : P → Type 0) where
   sessions_with name p [] new f = (new, tt)
   sessions_with name p (s ∷ sessions) new f = elim (same_name s.0 name) as (λ t. AllFit (cond t ((name, p) ∷ sessions) (s ∷ with_places name p sessions))) [ true ↦ (new, f.1) | false ↦ (f.0, sessions_with name p sessions new f.1) ]
 
--- what fits goes on fitting
+-- if each entry that fits one condition fits another, so do all sessions
 pub sessions_on : {P : Type 0} (Fit More : P → Type 0) → ((p : P) → Fit p → More p) → (sessions : List (List ℕ × P)) → AllFit Fit sessions → AllFit More sessions
 sessions_on Fit More on [] f = tt
 sessions_on Fit More on (e ∷ sessions) f = (on e.1 f.0, sessions_on Fit More on sessions f.1)

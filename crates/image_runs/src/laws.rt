@@ -7,14 +7,14 @@ use ts_model::Shown;
 use ts_sessions::{Actor, Session};
 
 /// The same lines over an allowed history and over its image, or over both with the same events after them,
-/// write the same text, and the same events follow, where the lines have at most 2^26 bytes in all. The sessions
+/// write the same text, and the same events follow, if the lines have at most 2^26 bytes in all. The sessions
 /// have no policies.
 pub fn scripts_go_on_from_images()
     ensures { ScriptsGoOn session_semantics }
 {}
 
-/// The same of sessions with policies, as those of the program are: of statements that add them, and of all that
-/// ticks run.
+/// The same for sessions with policies, as those of the program are: for statements that add them, and for
+/// all that ticks run.
 pub fn policy_scripts_go_on_from_images<T: Shown + Drop>()
 where
     T::Job: Drop,

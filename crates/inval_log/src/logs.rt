@@ -30,7 +30,7 @@ impl Model for InvalLog {
 }
 
 impl InvalLog {
-    /// The empty log, whose threshold is below every time. It takes no memory.
+    /// The empty log, whose threshold is below every time. It allocates no memory.
     pub fn new(alloc: Global) -> InvalLog
         ensures threshold { result.threshold ≡ least }
         ensures entries { result.entries ≡ [] }
@@ -55,7 +55,7 @@ impl InvalLog {
         &self.entries
     }
 
-    /// The same log again. It is a count, but for the entries that were noted since the log was last
+    /// A copy of the log, which shares all entries except those that were noted since the log was last
     /// `share`. Its room may differ.
     pub fn copy(&self) -> Result<InvalLog, NoMemory>
         ensures threshold { IfOk result (λ copy. copy.threshold ≡ self.now.threshold) }
@@ -67,9 +67,9 @@ impl InvalLog {
         })
     }
 
-    /// The same log, all of whose entries are shared from here on, so that a copy of it is a count.
-    /// It costs what `BlockList::share` does: a block, and once in a block of new entries the blocks of the last
-    /// shelf and the number of shelves too.
+    /// The same log with all its entries shared, so that a copy of it only increments a reference count. It
+    /// costs what `BlockList::share` does: a block and, once in a block of new entries, the blocks of the
+    /// last inner node and the number of inner nodes.
     pub fn share(&self) -> Result<InvalLog, NoMemory>
         ensures threshold { IfOk result (λ shared. shared.threshold ≡ self.now.threshold) }
         ensures entries { IfOk result (λ shared. shared.entries ≡ self.now.entries) }
@@ -90,8 +90,8 @@ impl InvalLog {
         self.entries.reserve()
     }
 
-    /// Logs the hull of the commit at this position where it begins below the threshold, and says
-    /// whether it does. It takes no memory: there has to be room for the entry, which `reserve` makes.
+    /// Logs the hull of the commit at this position if it begins below the threshold, and returns whether it
+    /// does. It allocates no memory: there must be room for the entry, which `reserve` makes.
     pub fn note(&mut self, hull: Hull, pos: u64) -> bool
         requires { 1 ≤ self.old.room }
         ensures logged { result ≡ begins_below hull self.old.threshold }
@@ -105,7 +105,7 @@ impl InvalLog {
         logged
     }
 
-    /// Moves the threshold up to `hi`, where that is higher.
+    /// Moves the threshold up to `hi`, if that is higher.
     pub fn raise(&mut self, hi: i64)
         ensures threshold { self.new.threshold ≡ int_max self.old.threshold hi }
         ensures entries { self.new.entries ≡ self.old.entries }
@@ -114,7 +114,7 @@ impl InvalLog {
         self.threshold = self.threshold.max(hi);
     }
 
-    /// Empties the log, and gives the entries that it had.
+    /// Empties the log, and returns the entries that it had.
     pub fn drain(&mut self) -> BlockList<Entry>
         ensures drained { result.items ≡ self.old.entries }
         ensures entries { self.new.entries ≡ [] }

@@ -10,7 +10,7 @@ const ONE: [u8; 27] = [
     0x02, 0x04, 0x74, 0x69, 0x6d, 0x65, 0x01, 0x01, 0x76, 0x00, 0x00,
 ];
 
-/// The bytes that `ONE` gets where a second event of 17 bytes is appended.
+/// The bytes that `ONE` gets if a second event of 17 bytes is appended.
 const MORE: [u8; 22] = [
     0x11, 0x00, 0x00, 0x00, 0x02, 0x00, 0x00, 0x00, 0x00, 0x00, 0x00, 0x00, 0x00, 0x64, 0x00, 0x00,
     0x00, 0x00, 0x00, 0x00, 0x00, 0x00,
@@ -23,7 +23,7 @@ struct ReadCounts {
     damaged: Option<u64>,
 }
 
-/// What is found where nothing is damaged.
+/// What is found if nothing is damaged.
 fn sound_journal(payloads: usize) -> ReadCounts {
     ReadCounts {
         payloads,
@@ -31,7 +31,7 @@ fn sound_journal(payloads: usize) -> ReadCounts {
     }
 }
 
-/// What is found where the file is damaged at a place.
+/// What is found if the file is damaged at a place.
 fn damaged_journal(payloads: usize, at: u64) -> ReadCounts {
     ReadCounts {
         payloads,
@@ -108,7 +108,7 @@ fn frame_of(alloc: Global, n: u8) -> Result<Frame, NoMemory> {
     frame(alloc, &Seq::of(vec![in alloc; n; n as usize]?))
 }
 
-/// Ten payloads of nought to nine bytes, appended to a disk, with what each call answered last.
+/// Appends ten payloads of zero to nine bytes to a disk. Returns the disk and the last answer.
 fn append_ten<D: Disk + Drop>(alloc: Global, disk: D) -> Result<(D, Append), NoMemory> {
     let mut journal = match recover(alloc, disk) {
         Recovered::Ready { journal, .. } => journal,
@@ -126,7 +126,7 @@ fn append_ten<D: Disk + Drop>(alloc: Global, disk: D) -> Result<(D, Append), NoM
     Ok((journal.close(), last))
 }
 
-/// Whether each of eight images of a disk stands for some first ones of the ten payloads.
+/// Whether each of eight images of a disk contains a prefix of the ten payloads.
 fn images_are_read(alloc: Global, disk: &MemDisk) -> Result<bool, NoMemory> {
     for pick in 0..4 {
         for half in [0, 1 << 63] {
@@ -203,8 +203,8 @@ fn a_journal_that_stopped_takes_nothing(rt: HostRuntime) -> Result<(), Fail> {
     Ok(())
 }
 
-/// The bytes of two payloads, the second of which begins with the byte 8, in a journal with this byte of a
-/// version.
+/// The bytes of two payloads, the second of which begins with the byte 8, in a journal with this version
+/// byte.
 fn with_base(alloc: Global, mark: u8) -> Result<Vec<u8>, NoMemory> {
     let mut bytes = changed_bytes(alloc, 31, 8)?;
     if let Some(place) = bytes.get_mut(7) {
@@ -228,8 +228,8 @@ fn a_base_is_told_from_other_payloads(rt: HostRuntime) -> Result<(), Fail> {
     Ok(())
 }
 
-/// Appends a payload, raises the version, and appends a base and one payload more; with what the last call
-/// answered.
+/// Appends a payload, raises the version, and appends a base and one more payload. Returns the disk and the
+/// last answer.
 fn append_base<D: Disk + Drop>(alloc: Global, disk: D) -> Result<(D, Append), NoMemory> {
     let mut journal = match recover(alloc, disk) {
         Recovered::Ready { journal, .. } => journal,

@@ -59,7 +59,7 @@ impl Log {
         }
     }
 
-    // Adds an entry. Where the log is shut, or memory runs out, it stays as it was.
+    // Adds an entry. If the log is shut, or memory runs out, it stays as it was.
     fn add(&mut self, entry: u32)
         ensures base { self.new.start ≡ self.old.start }
         ensures shut { self.new.shut ≡ self.old.shut }
@@ -150,7 +150,7 @@ fn append_by_three<R: Threads + Wait + Sync>(
     )
 }
 
-// Whether the entries of the thread that began at `from` all stand there, in its order.
+// Whether all entries of the thread that began at `from` are there, in its order.
 fn has_run(entries: &[u32], from: u32) -> bool {
     let mut next = from;
     for entry in entries {
@@ -217,9 +217,9 @@ fn a_shut_log_stays_as_it_is(rt: HostRuntime) {
     assert!(rt; log.shut == Some(9) && log.entries.as_slice() == [7].as_slice());
 }
 
-// With memory it makes the lock; where `rt try --test --fail-alloc N` refuses any, it hands the value back.
+// With memory it makes the lock. If `rt try --test --fail-alloc N` refuses any, it returns the value.
 #[test]
-fn want_of_memory_hands_the_value_back(rt: HostRuntime) {
+fn out_of_memory_hands_the_value_back(rt: HostRuntime) {
     let log = match TurnLock::new(rt.alloc(), empty_log(rt.alloc(), 9), 1) {
         MadeLock::Made { lock, pass } => lock.close(pass),
         MadeLock::NoMemory(log) => log,

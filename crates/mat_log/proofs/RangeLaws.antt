@@ -366,7 +366,8 @@ pub cut_above : (i : Bool) (snap : ℕ) (v : Option ℕ) → cond i (above snap 
 cut_above true snap v = refl
 cut_above false snap v = refl
 
--- the ranges that a refresh with a snapshot makes anew when it is done again, where the pieces are those of what is pending then near a span and of the last refreshes above the snapshot
+-- the ranges that a repeated refresh with a snapshot recomputes, given the pieces of what is then pending near a span
+-- and of the last refreshes above the snapshot
 pub redone_with_as : {E : Type 0} (log : LogValue) (es : List Entry) (snap : ℕ) (s : SpanValue) (f q a : ℤ → Option ℕ) (pieces : List Piece) (found : Result (List SpanValue) E) → IsInStep log.width (pending_at log) (last_at log) → IsWholeSpan log.width s → s.hi ≤ℤ greatest → ((t : ℤ) → q t ≡ cond (in_span s t) (pending_or_fresh log (filter (λ e. overlaps e.hull s) es) t) None) → ((t : ℤ) → a t ≡ cond (in_span s t) (above snap (last_at log t)) None) → ((t : ℤ) → f t ≡ combined_by Over (q t) (a t)) → ((t : ℤ) → piece_at pieces t ≡ cond (in_span s t) (f t) None) → ArePieces s.lo s.hi pieces → IfOk found (λ ranges. ranges ≡ ranges_joined None pieces) → IfOk found (AreRanges log.width s (is_redone_with log es snap))
 redone_with_as log es snap s f q a pieces found h whole end qs ats fs values rising =
     IfOk-weaker found _ _ (λ ranges e. subst (AreRanges w s (is_redone_with log es snap)) (sym e)

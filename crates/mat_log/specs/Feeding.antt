@@ -45,8 +45,8 @@ is_stale_with log entries mark b = is_below b mark && is_dirty_with log entries 
 abbrev pub is_changed_with : LogValue → List Entry → ℤ → Bool
 is_changed_with log entries b = is_some (last_at log b) && is_some (pending_with log entries b)
 
--- a refresh with a snapshot that is done again later has to make the bucket that starts at b anew: the bucket is
--- dirty, or its last refresh is above the snapshot
+-- a refresh with a snapshot that is repeated later must recompute the bucket that starts at b: the bucket is dirty, or
+-- its last refresh is above the snapshot
 abbrev pub is_redone_with : LogValue → List Entry → ℕ → ℤ → Bool
 is_redone_with log entries snap b = is_dirty_with log entries b || is_refreshed_after log snap b
 

@@ -1,4 +1,4 @@
--- Pieces joined to ranges, one after another.
+-- Pieces joined to ranges, in order.
 use Rattle.std.specs.Prelude.{cond, List, [], ◌∷◌, ◌++◌, Option, Some, None}
 use Rattle.std.specs.Ordering.{int_eq}
 use Rattle.ts_bucket.specs.Spans.{SpanValue}

@@ -26,7 +26,7 @@ pub record AreLasts (w : WidthValue) (f : ℤ → Option ℕ) (pieces : List Pie
   pub rise : PiecesRise pieces
   pub exact : (b : ℤ) → is_bucket w b ≡ true → piece_at pieces b ≡ cond (in_span (whole_span w) b) (f b) None
 
--- ---- pieces that go on with one another
+-- ---- adjacent pieces with the same position
 
 -- a piece begins where another ends, with the same position
 abbrev pub goes_on : Piece → Piece → Bool
@@ -36,7 +36,7 @@ goes_on p q = int_eq p.span.hi q.span.lo && p.pos == q.pos
 abbrev pub longer : Piece → Piece → Piece
 longer p q = record { span = record { lo = p.span.lo; hi = q.span.hi }; pos = p.pos }
 
--- a piece and those after it, where those that go on with one another are one
+-- a piece and those after it, where adjacent pieces with the same position are merged
 abbrev pub pieces_merged : Piece → List Piece → List Piece
 pieces_merged p [] = p ∷ []
 pieces_merged p (q ∷ qs) = cond (goes_on p q) (pieces_merged (longer p q) qs) (p ∷ pieces_merged q qs)

@@ -6,7 +6,7 @@ use Rattle.ts_bucket.specs.Spans.{in_span}
 use Rattle.span_map.specs.Maps.{MapValue, at}
 use Rattle.ts_bucket.specs.WholeSpans.{whole_span, is_below}
 
--- what contracts see of a `MatLog`: the width of its buckets, and its two maps
+-- the value of a `MatLog` in contracts: the width of its buckets, and its two maps
 pub record LogValue : Type 0 where
   pub width : WidthValue
   pub pending : MapValue

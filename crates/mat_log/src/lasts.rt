@@ -24,7 +24,7 @@ pub(crate) fn of_pieces(alloc: Global, pieces: &[Piece]) -> Result<SpanMap, NoMe
     Ok(map)
 }
 
-/// A piece with the next one at its end, where that begins there with the same position.
+/// A piece with the next one at its end, if that begins there with the same position.
 fn join_pieces(piece: &Piece, next: &Piece) -> Option<Piece>
     ensures { result ≡ cond (goes_on piece.now next.now) (Some (longer piece.now next.now)) None }
 {
@@ -41,7 +41,7 @@ fn join_pieces(piece: &Piece, next: &Piece) -> Option<Piece>
     }
 }
 
-/// The last piece after the next one. It is put behind the others where the next doesn't go on with it.
+/// The last piece after the next one. It is appended to the others, unless the next one continues it.
 fn push_or_extend(pieces: &mut Vec<Piece>, last: &Piece, next: &Piece) -> Result<Piece, NoMemory>
     ensures { IfOk result (λ now. (rest : List PieceValue) →
         pieces.new.items ++ pieces_merged now rest ≡ pieces.old.items ++ pieces_merged last.now (next.now ∷ rest)) }
@@ -55,7 +55,7 @@ fn push_or_extend(pieces: &mut Vec<Piece>, last: &Piece, next: &Piece) -> Result
     }
 }
 
-/// A piece and those after it, where those that go on with one another are one.
+/// A piece and those after it, where adjacent pieces with the same position are merged.
 fn merge_all(alloc: Global, first: Piece, rest: &[Piece]) -> Result<Seq<Piece>, NoMemory>
     ensures { IfOk result (λ pieces. pieces ≡ pieces_merged first rest.now) }
 {
@@ -68,7 +68,7 @@ fn merge_all(alloc: Global, first: Piece, rest: &[Piece]) -> Result<Seq<Piece>, 
     Ok(Seq::of(pieces))
 }
 
-/// Pieces of which those that go on with one another are one.
+/// The pieces, where adjacent ones with the same position are merged.
 pub(crate) fn merge_pieces(alloc: Global, pieces: &[Piece]) -> Result<Seq<Piece>, NoMemory>
     ensures { IfOk result (λ found. found ≡ all_merged pieces.now) }
 {

@@ -29,7 +29,7 @@ use std::marker::Model;
 use ts_bucket::{Span, Width, all_buckets, span_touched};
 use ts_schema::{NoMemory, Seq};
 
-/// An entry that is fed by itself costs about as much as so many edges in a sweep over all.
+/// Feeding one entry costs about as much as this many edges in a sweep over all.
 const EDGES_AN_ENTRY: usize = 128;
 
 /// For each bucket of an aggregate, the position that is pending there, if there is one, and the
@@ -54,8 +54,8 @@ impl Model for MatLog {
 }
 
 impl MatLog {
-    /// The log of a new aggregate, which was made by the event with this number: every bucket is
-    /// pending there, and none was refreshed.
+    /// The log of a new aggregate, which the event with the number `made` created: every bucket is pending
+    /// at that position, and none was refreshed.
     pub fn new(alloc: Global, w: Width, made: u64) -> Result<MatLog, NoMemory>
         ensures width { IfOk result (λ log. log.width ≡ w) }
         ensures pending { IfOk result (λ log. (b : ℤ) →
@@ -103,7 +103,7 @@ impl MatLog {
         })
     }
 
-    /// The same log again. It is a count.
+    /// Another owner of the same log. It only increments reference counts.
     pub fn copy(&self) -> Result<MatLog, NoMemory>
         ensures same { IfOk result (λ copy. IsSame self.now copy) }
     {
@@ -115,8 +115,8 @@ impl MatLog {
         })
     }
 
-    /// The log after an entry: the buckets that its hull meets are pending at its position, where they
-    /// weren't refreshed at or after it. It costs the pieces there.
+    /// The log after an entry: the buckets that its hull meets are pending at its position, unless they were
+    /// refreshed at or after it. The cost grows with the pieces there.
     fn with_entry(&self, entry: &Entry) -> Result<MatLog, NoMemory>
         requires within { IsWithin self.now.width entry.now.hull }
         ensures width { IfOk result (λ new. new.width ≡ self.now.width) }
@@ -135,9 +135,9 @@ impl MatLog {
         })
     }
 
-    /// The log after a refresh of a span of whole buckets whose snapshot was taken at this position was
-    /// settled: what was pending up to it is gone, and the last refresh is raised to it. It costs the
-    /// pieces in the span, and shares those elsewhere.
+    /// The log after a refresh of a span of whole buckets finished, with a snapshot at this position: in the
+    /// span nothing up to it is pending, and the last refresh is raised to it. The cost grows with the
+    /// pieces in the span; the others are shared.
     pub fn with_refresh(&self, span: Span, snap: u64) -> Result<MatLog, NoMemory>
         requires whole { IsWholeSpan self.now.width span }
         ensures width { IfOk result (λ new. new.width ≡ self.now.width) }
@@ -161,7 +161,7 @@ impl MatLog {
         self.refreshed.at(b)
     }
 
-    /// The last refreshes, as ranges of buckets with the same position that are as long as can be.
+    /// The last refreshes, as maximal ranges of buckets with the same position.
     pub fn lasts(&self) -> Result<Seq<Piece>, NoMemory>
         ensures lasts { IfOk result (AreLasts self.now.width (last_at self.now)) }
     {
@@ -171,8 +171,8 @@ impl MatLog {
         merge_pieces(self.alloc, pieces.items())
     }
 
-    /// The buckets of a span of whole buckets that have no last refresh or at which something is
-    /// pending, as ranges that are as long as can be.
+    /// The buckets of a span of whole buckets that have no last refresh or at which something is pending, as
+    /// maximal ranges.
     pub fn dirty(&self, span: Span) -> Result<Seq<Span>, NoMemory>
         requires { IsWholeSpan self.now.width span }
         ensures ranges { IfOk result (AreRanges self.now.width span (is_dirty self.now)) }
@@ -182,9 +182,9 @@ impl MatLog {
         join_pieces(self.pending.ranges(span)?)
     }
 
-    /// The dirty buckets below the mark, the end of a bucket that holds a time, that start in a
-    /// span, as ranges that are as long as can be. Below no mark there is none. It is for a log that has been
-    /// fed all entries; the engine asks by `stale_with`, which needs no such log.
+    /// The dirty buckets below the mark that start in a span, as maximal ranges. The mark is the end of a
+    /// bucket that holds a time; without a mark there are none. The log must have been fed all entries. The
+    /// engine calls `stale_with`, which needs no such log.
     pub fn stale(&self, starts: Span, mark: Option<i64>) -> Result<Seq<Span>, NoMemory>
         requires { ForSome mark (IsMark self.now.width) }
         ensures ranges { IfOk result (AreRanges self.now.width starts (is_stale self.now mark)) }
@@ -192,8 +192,8 @@ impl MatLog {
         self.dirty(buckets_below(self.width, starts, mark))
     }
 
-    /// The log after every entry was fed to it, in order. It costs the entries and the pieces where
-    /// they touch, or in place of that, where the entries are many, all pieces of the log.
+    /// The log after every entry was fed to it, in order. The cost grows with the entries and the pieces
+    /// that they touch or, if the entries are many, with all pieces of the log.
     pub fn feed_all(&self, entries: &BlockList<Entry>) -> Result<MatLog, NoMemory>
         requires within { AreWithin entries.now.items self.now }
         ensures fed { IfOk result (IsFed entries.now.items self.now) }
@@ -206,7 +206,7 @@ impl MatLog {
         }
     }
 
-    /// Whether one sweep over all pieces costs less than so many entries one after another.
+    /// Whether one sweep over all pieces costs less than feeding so many entries in order.
     fn is_swept(&self, entries: usize) -> bool {
         let edges = self.pending.size().saturating_add(self.refreshed.size());
         entries > edges / EDGES_AN_ENTRY
@@ -229,7 +229,7 @@ impl MatLog {
         })
     }
 
-    /// The same of any entries, one after another.
+    /// The same for any entries, in order.
     fn fed_in_turn(&self, entries: &[Entry]) -> Result<MatLog, NoMemory>
         requires within { AreWithin entries.now self.now }
         ensures fed { IfOk result (IsFed entries.now self.now) }
@@ -254,8 +254,8 @@ impl MatLog {
         self.pending.within(span)?.combine(&fresh, Rule::Over)
     }
 
-    /// `dirty`, as if the entries had been fed to the log. It costs the entries, the pieces in the
-    /// span and no copy.
+    /// `dirty`, as if the entries had been fed to the log. The cost grows with the entries and the pieces in
+    /// the span; the log isn't copied.
     pub fn dirty_with(&self, entries: &BlockList<Entry>, span: Span) -> Result<Seq<Span>, NoMemory>
         requires whole { IsWholeSpan self.now.width span }
         requires within { AreWithin entries.now.items self.now }
@@ -283,8 +283,8 @@ impl MatLog {
         self.dirty_with(entries, buckets_below(self.width, starts, mark))
     }
 
-    /// The buckets of a span of whole buckets that have a last refresh and at which something is
-    /// pending, as if the entries had been fed to the log, as ranges that are as long as can be.
+    /// The buckets of a span of whole buckets that have a last refresh and at which something is pending, as
+    /// if the entries had been fed to the log, as maximal ranges.
     pub fn changed_with(
         &self,
         entries: &BlockList<Entry>,
@@ -302,9 +302,9 @@ impl MatLog {
         join_pieces(changed.ranges(span)?)
     }
 
-    /// Of these ranges of whole buckets the buckets in a span of whole buckets whose last refresh isn't
-    /// above a snapshot, also those with none, as ranges that are as long as can be: a refresh of the
-    /// span that makes the ranges anew with this snapshot renews them.
+    /// The buckets in a span of whole buckets that are in these ranges of whole buckets and have no last
+    /// refresh above a snapshot, as maximal ranges. A refresh of the span that recomputes the ranges with
+    /// this snapshot renews them.
     pub fn to_renew(&self, span: Span, ranges: &[Span], snap: u64) -> Result<Seq<Span>, NoMemory>
         requires whole { IsWholeSpan self.now.width span }
         requires ranges { AllByRecursion (IsWholeRange self.now.width) ranges.now }
@@ -319,9 +319,9 @@ impl MatLog {
         join_pieces(renewed.ranges(span)?)
     }
 
-    /// The buckets of a span of whole buckets that a refresh with this snapshot, done again, makes
-    /// anew: those that are dirty, as if the entries had been fed to the log, and those whose last
-    /// refresh is above the snapshot, as ranges that are as long as can be.
+    /// The buckets of a span of whole buckets that a repeated refresh with this snapshot recomputes: those
+    /// that are dirty, as if the entries had been fed to the log, and those whose last refresh is above the
+    /// snapshot, as maximal ranges.
     pub fn redone_with(
         &self,
         entries: &BlockList<Entry>,

@@ -40,7 +40,7 @@ fn touches(range: Span, next: Span) -> bool
     range.hi == next.lo
 }
 
-/// Appends the open range where the next piece doesn't go on with it.
+/// Appends the open range, unless the next piece continues it.
 fn close_before(ranges: &mut Vec<Span>, range: &Option<Span>, next: Span) -> Result<(), NoMemory>
     ensures { IfOk result (λ _. ranges.new.items ≡ ranges.old.items ++ closed_by range.now next) }
 {

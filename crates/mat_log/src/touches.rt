@@ -15,7 +15,7 @@ use std::alloc::Global;
 use ts_bucket::{Span, Width, meets, span_touched};
 use ts_schema::NoMemory;
 
-/// So many entries are put into a map one after another; of more, the two halves are combined.
+/// So many entries are written to a map in order; of more, the two halves are combined.
 const FEW: usize = 16;
 
 /// Whether the positions of the entries rise.

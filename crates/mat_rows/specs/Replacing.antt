@@ -25,7 +25,7 @@ PartsAt x groups place = IsPartitionPoint (λ g. int_lt g.start x ≡ true) (λ 
 abbrev pub of_bucket : ℤ → List Group → List Group
 of_bucket b groups = filter (λ g. int_eq g.start b) groups
 
--- the old groups, where the new ones are in place of those that start in one of the spans
+-- the old groups, with those that start in one of the spans replaced by the new ones
 abbrev pub groups_replaced : List SpanValue → List Group → List Group → List Group
 groups_replaced [] new old = old
 groups_replaced (s ∷ ss) new old = below s.lo old ++ (within s new ++ groups_replaced ss new (from_on s.hi old))

@@ -1,4 +1,4 @@
-//! The materialised groups of an aggregate, in shared blocks.
+//! The materialized groups of an aggregate, in shared blocks.
 #![tactic(auto)]
 
 mod making;

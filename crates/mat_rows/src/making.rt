@@ -1,4 +1,4 @@
-//! Lists of groups in the making.
+//! Lists of groups under construction.
 
 ghost use Rattle.std.specs.Prelude.{◌≡◌, ◌-◌, ◌≤◌, ◌++◌, length, take, drop, IfOk};
 ghost use Rattle.mat_rows.specs.Replacing.{within};

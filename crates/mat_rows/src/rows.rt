@@ -1,4 +1,4 @@
-//! Materialised groups.
+//! Materialized groups.
 
 ghost use Rattle.std.specs.Prelude.{◌≡◌, ◌==◌, [], length, IfOk};
 ghost use Rattle.mat_rows.specs.Replacing.{AreSpans, BucketsAreOfBoth, PassAsBoth, SpansRise};
@@ -35,7 +35,7 @@ impl Model for MatRows {
 }
 
 impl MatRows {
-    /// No group. It takes no memory.
+    /// No group. It allocates no memory.
     pub fn new(alloc: Global) -> MatRows
         ensures groups { result ≡ [] }
     {
@@ -75,14 +75,14 @@ impl MatRows {
         let _groups = &self.groups;
     }
 
-    /// The groups, one after another.
+    /// The groups, in order.
     pub fn iter(&self) -> Iter<'_, Group>
         ensures groups { result ≡ self.now }
     {
         self.groups.iter()
     }
 
-    /// The same groups again. It is a count.
+    /// Another owner of the same groups. It only increments a reference count.
     pub fn copy(&self) -> Result<MatRows, NoMemory>
         ensures same { IfOk result (λ copy. copy ≡ self.now) }
     {
@@ -91,9 +91,9 @@ impl MatRows {
         })
     }
 
-    /// The groups with new ones in place of those whose buckets start in the spans, which rise; of
-    /// the new ones those that start in no span play no part. It costs, of both, the groups of the
-    /// blocks in which the spans end, the blocks of the shelves there, and the number of shelves.
+    /// The groups, with those whose buckets start in the spans, which rise, replaced by new ones. New groups
+    /// that start in no span are ignored. The cost grows with the groups of both lists in the blocks in
+    /// which the spans end, the blocks of the inner nodes there, and the number of inner nodes.
     pub fn replace(&self, spans: &Seq<Span>, groups: &MatRows) -> Result<MatRows, NoMemory>
         requires sizes { AreSpans spans.now }
         requires rising { SpansRise spans.now }
@@ -106,8 +106,8 @@ impl MatRows {
         })
     }
 
-    /// The groups whose buckets start in a span, in the blocks that they are in, which the result
-    /// shares. It is a count.
+    /// The groups whose buckets start in a span. The result shares the blocks that they are in: it only
+    /// increments a reference count.
     pub fn slice(&self, span: Span) -> Result<Slice<Group>, NoMemory>
         ensures groups { IfOk result (λ groups. groups ≡ within span self.now) }
     {
@@ -116,7 +116,7 @@ impl MatRows {
     }
 }
 
-/// The groups of a list, in which those of another are in place of those that start in the spans.
+/// The groups of a list, with those that start in the spans replaced by those of another list.
 fn replaced_in(
     old: &BlockList<Group>,
     spans: &[Span],

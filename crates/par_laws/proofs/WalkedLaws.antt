@@ -21,7 +21,7 @@ use Rattle.par_laws.specs.Laws.{AreSteady, WalkedLinesAreAnswered}
 use Rattle.par_laws.specs.Answered.{LineAnswer, ends_of, numbers_of, last_in, Answered, IsAnswered}
 
 module _ {P A : Type 0} (does : P → List ℕ → ℕ → Procedure A) (next : A → P) (Fits : P → History → Type 0) where
-  -- ---- what a walk of lines leaves goes on from where it began
+  -- ---- what a walk of lines leaves continues where the walk began
 
   pub goes_walked : (alone : Bool) (s : State) (p : P) (lines : List SessionLine) (ys : List A) (new : State) (q : P) → Walked does next Fits alone s p lines ys new q → GoesOn s new
   goes_walked alone s p [] [] new q w = goes_same s new w.0

@@ -1,4 +1,4 @@
--- What the lines of a session come to over a whole history.
+-- What the lines of a session result in over a whole history.
 use Rattle.std.specs.Prelude.{◌≡◌, ◌≤◌, ℕ, List, [], ◌∷◌, ◌++◌, map, Option}
 use Rattle.ts_model.specs.declared.events.Event.{Event}
 use Rattle.ts_model.specs.History.{History, position}
@@ -7,8 +7,8 @@ use Rattle.ts_sessions.specs.Procedures.{Procedure}
 use Rattle.ts_sessions.specs.Gives.{Gives, numbers, printed_looks}
 use Rattle.ts_sessions.specs.Script.{SessionLine}
 
--- what a line came to: its looks, each with its position where that is printed; its last printed look or event; its
--- events, each with its number; and its end
+-- what a line results in: its reads, each with its position if that is printed; its last printed read position or
+-- event; its events, each with its number; and its end
 pub record LineAnswer (A : Type 0) : Type 0 where
   pub looks : List (Option ℕ)
   pub last : ℕ

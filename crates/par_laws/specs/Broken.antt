@@ -1,4 +1,4 @@
--- Runs as far as memory sufficed: who ran, up to the phase in which it ran out.
+-- Runs that may run out of memory: who ran, up to the phase in which it ran out.
 use Rattle.std.specs.Prelude.{◌≡◌, ◌≤◌, ◌⊎◌, ℕ, Bool, true, false, List, [], ◌∷◌, ◌++◌, flat_map, sum_by, Option, IsPermutation}
 use Rattle.std.specs.List.{list_any}
 use Rattle.ts_schema.specs.Counts.{raised_by}
@@ -13,8 +13,8 @@ use Rattle.ts_sessions.specs.Walks.{Breaks}
 use Rattle.par_laws.specs.Calls.{Worked}
 use Rattle.par_laws.specs.Parallel.{SessionReplies, SessionExecuted, SessionExecutedTo}
 
--- what a session did that took part: whether it broke off for want of memory, the numbers of the events that it made,
--- and how many stored rows it looked at
+-- what a session did that took part: whether it ran out of memory and broke off, the numbers of the events that it
+-- made, and how many stored rows it read
 pub record Part : Type 0 where
   pub broke : Bool
   pub made : List ℕ
@@ -24,14 +24,14 @@ pub record Part : Type 0 where
 abbrev pub one_broke : List Part → Bool
 one_broke parts = list_any (λ part. part.broke) parts
 
--- the events that the sessions of several phases made, and the rows that they looked at
+-- the events that the sessions of several phases made, and the rows that they read
 abbrev pub all_made : List (List Part) → List ℕ
 all_made phases = flat_map (λ parts. flat_map (λ part. part.made) parts) phases
 
 abbrev pub all_reads : List (List Part) → ℕ
 all_reads phases = sum_by (λ parts. sum_by (λ part. part.reads) parts) phases
 
--- a first thing came to a position, and the rest went on from there
+-- a first part reached a position, and the rest continued from there
 pub record Upto (First Rest : ℕ → Type 0) : Type 0 where
   pub mid : ℕ
   pub first : First mid
@@ -42,14 +42,14 @@ pub record Upto (First Rest : ℕ → Type 0) : Type 0 where
 module _ {P : Type 0} (within : P → Block) (does : P → List ℕ → ℕ → Procedure (Turn P)) (p : P) where
   -- ---- one session
 
-  -- a session executed all its lines from a state on, and looked at so many rows
+  -- a session executed all its lines from a state on, and read so many rows
   pub record Finished (alone : Bool) (session : SessionScript) (s : State) (count : ℕ) (t : State) : Type 0 where
     pub replies : SessionReplies
     pub executed : SessionExecuted within does p alone session s replies t
     pub reads : count ≡ replies.reads
 
-  -- a session executed its first lines from a state on, and broke off in the next one for want of memory: the events
-  -- that this line had made stand
+  -- a session executed its first lines from a state on, ran out of memory in the next one, and broke off: the events
+  -- that this line had made stay
   pub record BrokeOff (alone : Bool) (session : SessionScript) (s : State) (count : ℕ) (t : State) : Type 0 where
     pub done : List SessionLine
     pub line : SessionLine
@@ -102,7 +102,7 @@ module _ {P : Type 0} (within : P → Block) (does : P → List ℕ → ℕ → 
 
   -- ---- phases
 
-  -- phases ran one after the other, up to the one in which memory ran out, if it did
+  -- phases ran in order, up to the one in which memory ran out, if it did
   abbrev pub PhasesRan : History → Option ℕ → ℕ → ℕ → List (List SessionScript) → List (List Part) → Type 0
   PhasesRan all stop from to [] [] = from ≡ to
   PhasesRan all stop from to [] (parts ∷ more) = ⊥
@@ -117,8 +117,8 @@ module _ {P : Type 0} (within : P → Block) (does : P → List ℕ → ℕ → 
   PhasesBegan all stop from to phases [] = from ≡ to
   PhasesBegan all stop from to phases (parts ∷ more) = PhasesRan all stop from to phases (parts ∷ more)
 
-  -- over an opening history phases ran as far as memory sufficed: the sessions that took part made all events since
-  -- then, and looked at all rows. Those of later phases did nothing
+  -- over an opening history phases ran until memory ran out, if it did: the sessions that took part made all events
+  -- since then, and read all rows. Those of later phases did nothing
   pub record RanAsFar (opening : History) (phases : List (List SessionScript)) (new : State) (count : ℕ) : Type 0 where
     pub parts : List (List Part)
     pub begins : Begins opening new.history
@@ -133,7 +133,7 @@ module _ {P : Type 0} (within : P → Block) (does : P → List ℕ → ℕ → 
     abbrev pub Broke : Bool → W → State → W → State → Type 0
     Broke alone old s new t = ran_out new ≡ true → BrokeOff alone (session_of old) s (replies_of new).reads t
 
-    -- and else executed all its lines
+    -- and otherwise executed all its lines
     abbrev pub WorkedOrBroke : Bool → W → State → W → State → Type 0
     WorkedOrBroke alone old s new t =
         Worked within does p session_of replies_of ran_out alone old s new t × Broke alone old s new t

@@ -1,5 +1,5 @@
--- What the calls promise by which sessions run over one store: three crews of workers one after the other, the close
--- of the store, and a snapshot of the backend that it hands back.
+-- What the calls promise through which sessions run over one store: three groups of workers in order, the close of the
+-- store, and a snapshot of the backend that it returns.
 use Rattle.std.specs.Prelude.{◌≡◌, ℕ, Bool, false, List, [], map, IsPermutation, IsTrue}
 use Rattle.std.specs.List.{list_any}
 use mathlib.Core.List.{IsPrefix}
@@ -26,7 +26,7 @@ module _ {P : Type 0} (within : P → Block) (does : P → List ℕ → ℕ → 
       ran_out new ≡ false → SessionExecuted within does p alone (session_of old) s (replies_of new) t
 
   module _ {B : Type 0} (state : B → State) (store : Shared B) where
-    -- a crew of workers was at the store between two passes: these were its sessions, and memory sufficed
+    -- a group of workers was at the store between two passes: these were its sessions, and memory sufficed
     pub record CrewRan (start end : Ticket B) (olds news : List W) (sessions : List SessionScript) : Type 0 where
       pub begins : IsPrefix (seen_of start) (seen_of end)
       pub stays : StaysIn end start
@@ -34,12 +34,12 @@ module _ {P : Type 0} (within : P → Block) (does : P → List ℕ → ℕ → 
       pub are : map session_of olds ≡ sessions
       pub sufficed : list_any ran_out news ≡ false
 
-    -- the sessions of `setup`, then `others` all at once, then those of `final` ran over the store, and replied so.
-    -- Then it was closed, and a snapshot of the backend was asked for
+    -- the sessions of `setup`, then `others` in parallel, then those of `final` ran over the store, and replied so.
+    -- Then it was closed, and a snapshot of the backend was requested
     pub record RanOverStore (alone : Bool) (setup others final : List SessionScript) (new : State)
         (before between after : List SessionReplies) : Type 0 where
-      -- the passes before the first crew, between them, and after the last, and the workers as each crew found and
-      -- left them
+      -- the passes before the first group, between the groups, and after the last, and the workers as each group found
+      -- and left them
       pub start : Ticket B
       pub middle : Ticket B
       pub later : Ticket B
@@ -56,7 +56,7 @@ module _ {P : Type 0} (within : P → Block) (does : P → List ℕ → ℕ → 
       pub setup_ran : CrewRan start middle setup_old setup_new setup
       pub others_ran : CrewRan middle later others_old others_new others
       pub final_ran : CrewRan later last final_old final_new final
-      -- the backend that the store handed back, when it was closed by the last pass
+      -- the backend that the store returned when the last pass closed it
       pub closed : State
       pub history : closed.history ≡ history_of state store last
       pub failed : closed.failed ≡ closed_of last

@@ -30,8 +30,8 @@ module _ {P A : Type 0} (does reply : P → List ℕ → ℕ → Procedure A) wh
 abbrev pub AreSteady : {P A : Type 0} → (P → List ℕ → ℕ → Procedure A) → P → History → Type 0
 AreSteady reply p base = (text : List ℕ) (skip : ℕ) → Steady false base (reply p text skip)
 
--- lines that were walked one after the other, while others changed the store too, are answered by their replies over
--- each longer history that is allowed, also over one whose store stopped later
+-- lines that were walked in order, while others changed the store too, are answered by their replies over each longer
+-- history that is allowed, also over one whose store stopped later
 abbrev pub WalkedLinesAreAnswered : (P A : Type 0) → Type 0
 WalkedLinesAreAnswered P A =
     (does reply : P → List ℕ → ℕ → Procedure A) (next : A → P) (alone : Bool) (all : History) (later : Option ℕ)
@@ -39,7 +39,7 @@ WalkedLinesAreAnswered P A =
     → WalksAreReplies does reply → all_allowed all ≡ true → Begins new.history all → StopsLater (stop_of new) later
     → Walked does next (AreSteady reply) alone s p lines ys new q → IsAnswered reply next all later s new p lines ys
 
--- the printed looks of a session never fall from one line to the next
+-- the printed read positions of a session never fall from one line to the next
 abbrev pub LooksNeverFall : (P A : Type 0) → Type 0
 LooksNeverFall P A =
     (reply : P → List ℕ → ℕ → Procedure A) (next : A → P) (all : History) (stop : Option ℕ) (at : ℕ) (p : P)
@@ -55,7 +55,8 @@ AnswersGiveEvents P A =
 
 -- ---- sessions
 
--- sessions that ran over one store, some at once, came to what their lines mean over the one history that was left
+-- sessions that ran over one store, some in parallel, result in what their lines mean over the one history that was
+-- left
 abbrev pub ParallelRunsHaveOneHistory : (P W : Type 0) {B : Type 0} → Bool → (B → State) → Type 0
 ParallelRunsHaveOneHistory P W {B} alone state =
     (within : P → Block) (does reply : P → List ℕ → ℕ → Procedure (Turn P)) (p : P) (session_of : W → SessionScript)

@@ -1,4 +1,4 @@
--- What sessions came to that ran over one store: one alone, then others all at once, then one alone.
+-- The outcome of sessions that ran over one store: one alone, then others in parallel, then one alone.
 use Rattle.std.specs.Prelude.{◌≡◌, ℕ, Bool, List, [], ◌∷◌, Option, sum_by}
 use Rattle.std.specs.List.{list_any}
 use Rattle.ts_schema.specs.Counts.{raised_by}
@@ -14,7 +14,7 @@ use Rattle.par_laws.specs.Phases.{ExecutedTo, Executed, Phase}
 use Rattle.par_laws.specs.Stopped.{RepliesStopAt}
 
 -- what a session said and was replied: its name, each line with its reply, whether one of the replies is a FAULT, and
--- how many stored rows they looked at, a number of 64 bits that stands still at its end
+-- how many stored rows they read, a 64-bit count that saturates
 pub record SessionReplies : Type 0 where
   pub name : List ℕ
   pub exchanges : List Exchange
@@ -31,7 +31,7 @@ lines_in session = session.lines
 abbrev pub places_after : {P : Type 0} → Turn P → P
 places_after turn = turn.places
 
--- a line of the session with a name, with the text of the reply that it came to
+-- a line of the session with a name, with the text of its reply
 abbrev pub exchange_of : {P : Type 0} → List ℕ → SessionLine → Turn P → Exchange
 exchange_of name line turn = record { line = line.text; reply = text_of name turn.said }
 
@@ -41,7 +41,7 @@ exchanges_of name [] turns = []
 exchanges_of name (line ∷ lines) [] = []
 exchanges_of name (line ∷ lines) (turn ∷ turns) = exchange_of name line turn ∷ exchanges_of name lines turns
 
--- a session replied with what its lines came to
+-- a session replied with what its lines result in
 pub record AreReplies {P : Type 0} (session : SessionScript) (replies : SessionReplies)
     (turns : List (Turn P)) : Type 0 where
   pub name : replies.name ≡ session.name
@@ -75,8 +75,8 @@ module _ {P : Type 0} (reply : P → List ℕ → ℕ → Procedure (Turn P)) (p
     pub stops : RepliesStopAt stop phase.answers
     pub named : RepliesNameEvents phase.answers
 
-  -- over an opening history first the sessions of `setup` ran, then `others` all at once, then those of `final`. They
-  -- left a state, and replied so: all over the one history that was left, one phase after the other
+  -- over an opening history first the sessions of `setup` ran, then `others` in parallel, then those of `final`. They
+  -- left a state, and replied so: all over the one history that was left, the phases in order
   pub record RanInParallel (opening : History) (setup others final : List SessionScript) (new : State)
       (before between after : List SessionReplies) : Type 0 where
     -- the positions at which `setup` ended, and at which `others` did

@@ -1,4 +1,4 @@
--- Replies of several sessions that the store stands still.
+-- Replies of several sessions that report a stopped store.
 use Rattle.std.specs.Prelude.{ℕ, List, Option}
 use Rattle.std.specs.List.{AllByRecursion}
 use Rattle.ts_sessions.specs.Places.{Turn}

@@ -6,7 +6,7 @@ use Rattle.ts_sessions.specs.Procedures.{Procedure}
 use Rattle.ts_sessions.specs.Script.{SessionLine}
 use Rattle.ts_sessions.specs.Walks.{By, Walks}
 
--- what lines do by the places of their session, what its places are after what a line came to, and which places go
+-- what lines do by the places of their session, what its places are after the outcome of a line, and which places go
 -- with a history
 module _ {P A : Type 0} (does : P → List ℕ → ℕ → Procedure A) (next : A → P) (Fits : P → History → Type 0) where
   -- one line was walked from a state on, and left a state

@@ -1,7 +1,7 @@
-//! What a session said.
+//! The exchanges of a session.
 use ts_schema::Seq;
 
-/// A line of a session and what was replied to it.
+/// A line of a session and its reply.
 #[derive(Drop, Debug, PartialEq, Eq)]
 pub struct Exchange {
     /// The line up to its comment, without its line end.

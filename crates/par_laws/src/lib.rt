@@ -1,4 +1,4 @@
-//! What the lines of several sessions that ran at once came to over the one history of the store that
+//! What the lines of several sessions that ran in parallel result in over the one history of the store that
 //! they shared. Definitions and laws, and the exchanges of a session.
 #![tactic(auto)]
 

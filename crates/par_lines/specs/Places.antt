@@ -1,4 +1,4 @@
--- What stands at the places of sorted lines.
+-- The lines and sessions of an input, by the places of sorted lines.
 use Rattle.std.specs.Prelude.{◌≡◌, ℕ, ◌+◌, ◌≤◌, List, length, map, take, drop, sum_by}
 use Rattle.std.specs.List.{All, range_with_len}
 use Rattle.std.specs.Option.{IfSome}
@@ -10,7 +10,7 @@ use Rattle.par_lines.specs.declared.phases.Phases.{Phases}
 use Rattle.par_lines.specs.declared.sorting.SortedLines.{SortedLines}
 use Rattle.par_lines.specs.Sorted.{Sorted}
 
--- ---- what stands there in an input
+-- ---- what an input has at a place
 
 -- a line
 abbrev pub line_at : List ℕ → LinePlace → SessionLine
@@ -34,13 +34,13 @@ AreNumbered sessions = map (λ session. session.number) sessions ≡ range_with_
 
 -- ---- how much it is
 
--- the line stands within the first n bytes, and its statement within its text, which has at most 65,536 bytes
+-- the line is within the first n bytes, and its statement within its text, which has at most 65,536 bytes
 pub record IsLineWithin (n : ℕ) (place : LinePlace) : Type 0 where
   pub inside : place.from + place.len ≤ n
   pub statement : place.skip ≤ place.len
   pub short : place.len ≤ longest_line
 
--- the lines of a session stand within the first n bytes, and have no more bytes together
+-- the lines of a session are within the first n bytes, and have no more bytes together
 pub record IsWithin (n : ℕ) (session : SessionLines) : Type 0 where
   pub each : All (IsLineWithin n) session.lines.items
   pub together : sum_by (λ place. place.len) session.lines.items ≤ n

@@ -83,7 +83,7 @@ final = 102 ∷ 105 ∷ 110 ∷ 97 ∷ 108 ∷ []
 abbrev pub only : List ℕ → List SessionScript → List SessionScript
 only name scripts = filter (λ script. same_name script.name name) scripts
 
--- those that run at once, each by a worker of its own: all but `setup`, which runs before them, and `final`, which
+-- those that run in parallel, each by its own worker: all except `setup`, which runs before them, and `final`, which
 -- runs after them
 abbrev pub at_once : List SessionScript → List SessionScript
 at_once scripts = filter (λ script. not (same_name script.name setup || same_name script.name final)) scripts

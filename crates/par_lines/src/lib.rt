@@ -1,11 +1,11 @@
-//! The lines of a whole input, sorted by the sessions that they are of, for a run that gives each
-//! session a worker of its own.
+//! The lines of a whole input, sorted by the sessions that they are of, for a run that gives each session
+//! its own worker.
 //!
 //! - `sessions`: a session's lines, by their places in the input.
 //! - `sorting`: sorts the lines of an input.
 //! - `line_ends`: where a line ends.
 //! - `names`: the names of sessions.
-//! - `phases`: which sessions run alone, and which all at once.
+//! - `phases`: which sessions run alone, and which in parallel.
 #![tactic(auto)]
 
 mod line_ends;

@@ -1,4 +1,4 @@
-//! Which sessions run alone, and which all at once.
+//! Which sessions run alone, and which in parallel.
 ghost use Rattle.std.specs.Prelude.{◌≡◌, ◌≢◌, ◌≤◌, ℕ, List, not, filter, length};
 ghost use Rattle.std.specs.List.{All, AllPairs};
 ghost use Rattle.std.specs.Option.{option_to_list};
@@ -13,13 +13,13 @@ use crate::sessions::{SessionLines, place_of};
 pub struct Phases {
     /// The session `setup`, which runs alone before all others.
     pub setup: Option<SessionLines>,
-    /// Those that run all at once, each by a worker of its own.
+    /// Those that run in parallel, each by its own worker.
     pub at_once: Vec<SessionLines>,
     /// The session `final`, which runs alone after all others.
     pub last: Option<SessionLines>,
 }
 
-/// Parts sessions by who runs when. Those that run at once stay in order.
+/// Splits sessions by who runs when. Those that run in parallel stay in order.
 pub fn into_phases(sessions: Vec<SessionLines>) -> Phases
     requires apart { AllPairs (λ one other. one.name ≢ other.name) sessions.items }
     ensures setup { (input : List ℕ) → scripts_of input (option_to_list result.setup)

@@ -118,7 +118,7 @@ impl SortedLines {
         }
     }
 
-    /// Adds the first line of a session, where there is room for one more.
+    /// Adds the first line of a session, if there is room for one more.
     fn add_new(&mut self, alloc: Global, name: &[u8], line: LinePlace) -> Result<(), NoMemory>
         requires name { IsTrue (is_name name.now) }
         requires absent { list_any (λ session. same_name session.name name.now) self.old.sessions.items ≡ false }

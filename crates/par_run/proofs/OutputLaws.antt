@@ -120,7 +120,7 @@ says refusals before between after out reads is counted =
 
 -- ---- rows read
 
--- a sum that stands still at its type's end, and one more
+-- a sum that saturates, and one more
 raised_sum : (m n a b : ℕ) → a ≡ raised_by m 0 → b ≡ raised_by n a → b ≡ raised_by (m + n) 0
 raised_sum m n a b e f = omega arith
 

@@ -1,4 +1,4 @@
--- How a session goes on line by line.
+-- How a session continues line by line.
 use Rattle.std.proofs.Common.{◌≡◌, ℕ, ◌+◌, ◌<◌, ◌≤◌, ◌^◌, Bool, true, false, List, [], ◌∷◌, ◌++◌, get_or, length, map, take, drop, Some, arith, ap, subst, sym, ◌∙◌}
 use Rattle.std.specs.Prelude.{Result, Ok, Err, OnErr, OnOk}
 use Rattle.std.proofs.lemmas.List.{drop_more, length-drop, length-take-le, map-append, map_more, take-append-drop, take_all}

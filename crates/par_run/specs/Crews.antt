@@ -34,13 +34,13 @@ module _ {A B G T J : Type 0} where
     pub at_once_are : scripts_in named crews.at_once.items ≡ at_once lines.sessions
     pub last_is : scripts_in named crews.last.items ≡ only final lines.sessions
 
-  -- each stands before its first line
+  -- each is before its first line
   pub record AreReady {S K : Type 0} (actors : Actor A S K) (crews : Crews A B G T J) : Type 0 where
     pub setup_is : All (IsReady actors) (workers_of crews.setup.items)
     pub at_once_are : All (IsReady actors) (workers_of crews.at_once.items)
     pub last_is : All (IsReady actors) (workers_of crews.last.items)
 
-  -- there is at most one before all others and one after them, and no more than a script may have
+  -- there is at most one before all others and one after them, and the others are at most as many as a script may have
   pub record AreFew (crews : Crews A B G T J) : Type 0 where
     pub setup_is : length crews.setup.items ≤ 1
     pub at_once_are : length crews.at_once.items ≤ most_sessions
@@ -54,8 +54,8 @@ module _ {A B G T J : Type 0} where
 
 -- the replies to lines by the places of their session, and the places of each session at its first line
 module _ {P : Type 0} (reply : P → List ℕ → ℕ → Procedure (Turn P)) (p : P) where
-  -- over an opening history first the sessions of `setup` ran, then `others` all at once, then those of `final`, beside
-  -- lines that were refused with a text. They left a state and this output, and so many stored rows were looked at
+  -- over an opening history first the sessions of `setup` ran, then `others` in parallel, then those of `final`,
+  -- beside lines that were refused with a text. They left a state and this output, and so many stored rows were read
   pub record RanTo (opening : History) (refusals : List ℕ) (setup others final : List SessionScript) (new : State)
       (out : Output) (reads : ℕ) : Type 0 where
     -- what the sessions of each phase replied
@@ -83,7 +83,7 @@ CrewsRan actors opening crews new out reads =
 -- what lines do by the places of their session, the block that places are in, and the places of each session at its
 -- first line
 module _ {P : Type 0} (within : P → Block) (does : P → List ℕ → ℕ → Procedure (Turn P)) (p : P) where
-  -- the sessions of the sorted lines of an input ran as far as memory sufficed
+  -- the sessions of the sorted lines of an input ran, until memory ran out if it did
   abbrev pub LinesRanAsFar : History → Sorted → State → ℕ → Type 0
   LinesRanAsFar opening lines new reads =
       RanAsFar within does p opening

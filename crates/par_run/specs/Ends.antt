@@ -8,7 +8,7 @@ abbrev pub is_disk_fault : ParStop → Bool
 is_disk_fault DiskFault = true
 is_disk_fault other = false
 
--- by whether the store stands still
+-- the end of a run, by whether the store has stopped
 abbrev pub stop_by : Bool → ParStop
 stop_by true = DiskFault
 stop_by false = Done

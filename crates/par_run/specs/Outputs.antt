@@ -55,8 +55,8 @@ abbrev pub all_lines : ℕ → List SessionReplies → List ParLine
 all_lines place [] = []
 all_lines place (replies ∷ others) = map (par_line place) replies.exchanges ++ all_lines (suc place) others
 
--- sessions that replied so make this output, behind the refusals of lines that no session answers, where so many
--- stored rows were looked at
+-- sessions that replied so make this output, after the refusals of lines that no session answers, and so many stored
+-- rows were read
 pub record Says (refusals : List ℕ) (sessions : List SessionReplies) (out : Output) (count : ℕ) : Type 0 where
   pub text : out.text ≡ refusals ++ concat (map (λ line. line.reply) out.lines)
   pub fault : out.fault ≡ (nat_lt 0 (length refusals) || list_any (λ replies. replies.fault) sessions)

@@ -32,7 +32,7 @@ module _ {A G : Type 0} where
   abbrev pub ran_out : SessionWorker A G → Bool
   ran_out w = w.out_of_memory
 
-  -- a session stands before its first line
+  -- a session is before its first line
   pub record IsReady {T J : Type 0} (actors : Actor A T J) (w : SessionWorker A G) : Type 0 where
     pub lines : All (IsLineWithin (length w.input.now)) w.lines.items
     -- together they have no more bytes than may wait for the end of a write block

@@ -24,7 +24,7 @@ pub(crate) struct Crews<'a, A, B: Backend, G> {
     pub refusals: Vec<u8>,
     /// The worker of `setup`, which runs before all others.
     pub setup: Crew<'a, A, B, G>,
-    /// Those that run all at once, in order of appearance.
+    /// Those that run in parallel, in order of appearance.
     pub at_once: Crew<'a, A, B, G>,
     /// The worker of `final`, which runs after all others.
     pub last: Crew<'a, A, B, G>,

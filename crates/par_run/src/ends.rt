@@ -6,9 +6,9 @@ use ts_schema::{Name, Seq};
 pub enum ParStop {
     /// Each line was executed.
     Done,
-    /// Each line was executed, and the disk failed at an event of one. From there on the store stood still.
+    /// Each line was executed. The disk failed at an event of one, and the store had stopped from then on.
     DiskFault,
-    /// There was no memory. The events that lines had made by then stand in the store.
+    /// Out of memory. The events that lines had made by then stay in the store.
     NoMemory,
 }
 
@@ -31,18 +31,15 @@ pub struct ParEnd<B> {
     /// The position at which it began.
     pub start: u64,
     /// The refusals of lines that no session answers, in the order of lines, and then the replies of
-    /// `setup`, of the other sessions in order of appearance, and of `final`. Empty where there was no
-    /// memory.
+    /// `setup`, of the other sessions in order of appearance, and of `final`. Empty if memory ran out.
     pub text: Seq<u8>,
-    /// Whether a reply is a FAULT. False where there was no memory.
+    /// Whether a reply is a FAULT. False if memory ran out.
     pub fault: bool,
-    /// The names of the sessions, in the order of their replies in the text. Empty where there was no
-    /// memory.
+    /// The names of the sessions, in the order of their replies in the text. Empty if memory ran out.
     pub names: Seq<Name>,
-    /// Each line that a session answered with its reply, in the order of the text. Empty where there was
-    /// no memory.
+    /// Each line that a session answered with its reply, in the order of the text. Empty if memory ran out.
     pub lines: Seq<ParLine>,
-    /// How many stored rows all answers and snapshots looked at. It stands still at its type's end.
+    /// How many stored rows all answers and snapshots read. The count saturates.
     pub reads: u64,
     /// How it ended.
     pub stop: ParStop,

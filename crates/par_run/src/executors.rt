@@ -1,4 +1,4 @@
-//! A session whose lines are executed one after the other.
+//! A session whose lines are executed in order.
 ghost use Rattle.std.specs.Prelude.{◌≡◌, ◌+◌, ◌<◌, ◌≤◌, ◌^◌, All, length, map, sum_by, OnErr, OnOk};
 ghost use Rattle.std.specs.Thread.{IsSync};
 ghost use Rattle.stmt_syntax.specs.Limits.{longest_line};
@@ -18,14 +18,14 @@ use ts_model::{Backend, Gate};
 use ts_schema::{NoMemory, Steps};
 use ts_sessions::Actor;
 
-/// The name of the count of stored rows that a session looks at.
+/// The name of the count of stored rows that a session reads.
 #[derive(Drop)]
 pub(crate) struct Reads;
 
 /// A session whose lines are executed, and what it replies.
 #[derive(Drop)]
 pub(crate) struct Executor<'a, A, G> {
-    /// Who executes its lines.
+    /// The actor that executes its lines.
     pub actor: A,
     /// Called after each reply.
     pub gate: &'a G,
@@ -33,7 +33,7 @@ pub(crate) struct Executor<'a, A, G> {
     pub alloc: Global,
     /// What it has replied.
     pub replies: Replies,
-    /// How many stored rows it has looked at.
+    /// How many stored rows it has read.
     pub steps: Steps<Reads>,
 }
 

@@ -152,7 +152,7 @@ where
     !crew.iter().any(|slot| slot.0.out_of_memory)
 }
 
-/// How many stored rows all workers have looked at. The sum stands still at its type's end.
+/// How many stored rows all workers have read. The sum saturates.
 pub(crate) fn all_reads<A, B, G>(crews: &Crews<'_, A, B, G>) -> u64
 where
     A: Actor + Drop,
@@ -166,7 +166,7 @@ where
         .saturating_add(reads_of(crews.last.as_slice()))
 }
 
-/// How many stored rows the workers of a crew have looked at.
+/// How many stored rows the workers of a crew have read.
 fn reads_of<A, B, G>(crew: &[Slot<SessionWorker<'_, A, G>, B>]) -> u64
 where
     A: Actor + Drop,

@@ -17,7 +17,7 @@ pub(crate) struct Replies {
 }
 
 impl Replies {
-    /// No reply yet. It takes no memory.
+    /// No reply yet. It allocates no memory.
     pub fn new(alloc: Global) -> Replies
         ensures exchanges { result.exchanges.items ≡ [] }
         ensures fault { result.fault ≡ false }
@@ -28,7 +28,7 @@ impl Replies {
         }
     }
 
-    /// Keeps the reply to a line with which a step ended. A disk fault has one too: the session goes on
+    /// Keeps the reply to a line with which a step ended. A disk fault has one too: the session continues
     /// after it.
     pub fn keep(&mut self, alloc: Global, line: &[u8], end: StepEnd) -> Result<(), NoMemory>
         ensures { OnOk result (KeepsEnd line.now end self.old self.new) }

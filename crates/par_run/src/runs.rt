@@ -28,15 +28,15 @@ use ts_model::{Backend, Gate, Shown};
 use ts_schema::{NoMemory, Seq};
 use ts_sessions::Actor;
 
-/// Runs the lines of an input over a store that is alone and goes on, by one worker for each session, which
-/// has an actor for its lines: `setup` alone, then all other sessions at once, each in a thread of its own,
-/// then `final` alone. It gives the store back on each ending, and may wait, as the workers take turns at the
-/// store.
+/// Runs the lines of an input over a store that is alone and hasn't stopped. Each session has one worker,
+/// with an actor for its lines: `setup` runs alone, then all other sessions in parallel, each in its own
+/// thread, then `final` alone. It returns the store on each ending, and may wait, as the workers take turns
+/// at the store.
 ///
-/// The replies and the store are as if each line had been answered, as the actors tell by their replies, over
-/// the one history that the store then holds, at positions that never fall from one line of a session to its
-/// next. After a disk fault the store stands still, and the sessions go on. Where there is no memory for a
-/// line, its session ends there, and no phase begins any more.
+/// The replies and the store are as if each line had been answered, as the actors report by their replies,
+/// over the one history that the store then holds, at positions that never fall from one line of a session
+/// to its next. After a disk fault the store has stopped, and the sessions continue. If memory runs out for
+/// a line, its session ends there, and no later phase begins.
 pub fn par<A, B, R, G>(rt: &R, alloc: Global, backend: B, input: &[u8], gate: &G) -> ParEnd<B>
 where
     A: Actor<Shot = B::Shot> + Drop + Send,
@@ -151,7 +151,7 @@ where
     end_run(alloc, backend, start, all_replies(alloc, crews), reads)
 }
 
-/// Lets the workers of a crew work at once, where there was memory so far.
+/// Lets the workers of a crew work in parallel, if there was memory so far.
 fn run_crew<W, B, R>(
     rt: &R,
     store: &SharedStore<B>,

@@ -30,7 +30,7 @@ impl<'a, A: Actor, G: Gate> SessionWorker<'a, A, G> {
     ghost use Rattle.par_run.specs.Workers.{worker_script, IsReady};
 
     #[tactic(auto, using(crate::proofs::ReplyLaws::said_nothing))]
-    /// A session before the first of its lines of an input. It takes no memory.
+    /// A session before the first of its lines of an input. It allocates no memory.
     pub fn new(
         alloc: Global,
         session: SessionLines,

@@ -1,6 +1,6 @@
-//! Gates that hold a worker before it finishes a refresh until another worker has come somewhere. A worker is
-//! held for a limited time, and a gate keeps whether that was too short: it is where workers run one after
-//! the other. It also keeps whether it was told of a finish at all, which no contract says.
+//! Worker hooks that hold a worker before it finishes a refresh until another worker has reached some point.
+//! A worker is held for a limited time, and a hook keeps whether that was too short, as it is if workers run
+//! one at a time. It also keeps whether it was called for a finish at all, which no contract says.
 use std::hint;
 use std::sync::atomic::{AtomicBool, Ordering};
 use ts_model::Gate;

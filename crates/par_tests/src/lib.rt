@@ -1,6 +1,6 @@
-//! Tests of inputs whose sessions run at once, by the public calls alone: that the workers overlap, which no
-//! contract says, and what a run prints. They stand in a crate without any other code, since a crate with
-//! tests is proved twice.
+//! Tests of inputs whose sessions run in parallel, only by public calls: that the workers overlap, which no
+//! contract says, and what a run prints. They have a crate without any other code, since a crate with tests
+//! is proved twice.
 #![tactic(auto)]
 
 #[cfg(test)]

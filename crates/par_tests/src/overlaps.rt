@@ -42,7 +42,7 @@ b: INSERT INTO m VALUES (121, 1, 1)
 b: SELECT * FROM m WHERE time = 121
 ";
 
-/// The first row is the fourth event or the fifth, and where it is the fourth the first session may look
+/// The first row is the fourth event or the fifth, and if it is the fourth, the first session may look
 /// before the fifth or after it. The same holds of the second.
 const TWO_INSERTS_REPLIES: [&[u8]; 4] = [
     b"a: COMMIT @4 +1 -0
@@ -90,8 +90,8 @@ w: INSERT INTO m VALUES (121, 1, 1)
 final: SELECT * FROM c WHERE b >= 100
 ";
 
-/// The row is added before the cut of the refresh, between the cut and its snapshot, or after that. In the
-/// last case alone the refresh misses it, and its bucket is out of date.
+/// The row is added before the cut of the refresh, between the cut and its snapshot, or after that. Only in
+/// the last case does the refresh miss it, and its bucket is out of date.
 const REFRESH_AND_INSERT_REPLIES: [&[u8]; 3] = [
     b"setup: COMMIT @4 +1 -0
 r: REFRESH 6 @7 snap 6 100..200

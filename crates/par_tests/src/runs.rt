@@ -15,7 +15,7 @@ use ts_io::INPUT_LIMIT;
 use ts_model::{Backend, Gate, NoGate, Shown};
 use ts_sessions::Session;
 
-/// How a run over a store ends that is alone and goes on.
+/// The end of a run over a store that is alone and hasn't stopped.
 pub(crate) fn run_sessions<B, R, G>(
     rt: &R,
     alloc: Global,
@@ -48,7 +48,7 @@ pub(crate) fn run<R: Threads + Wait + Abort + Sync + AllocGlobal, G: Gate + Sync
     Ok(run_sessions(rt, rt.alloc(), store, input, gate))
 }
 
-/// Inputs with what they print, whether a reply is a FAULT, and how many stored rows the answers look at.
+/// Inputs with what they print, whether a reply is a FAULT, and how many stored rows the answers read.
 const RUNS: [(&[u8], &[u8], bool, u64); 4] = [
     (b"", b"", false, 0),
     (

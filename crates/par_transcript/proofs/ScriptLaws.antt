@@ -1,4 +1,4 @@
--- The sessions of a sorted input: each has a good name of its own, and only its own lines.
+-- The sessions of a sorted input: each has a separate, valid name, and only lines of that session.
 use Rattle.std.proofs.Common.{◌≡◌, ℕ, suc, ◌≤◌, Bool, true, false, cond, not, ◌&&◌, ◌||◌, ◌==◌, List, [], ◌∷◌, ◌++◌, length, take, filter, map, nat_lt, refl, sym, ap, ◌∙◌, subst, true≢false, arith}
 use Rattle.std.specs.List.{AllByRecursion, list_all, list_any}
 use Rattle.std.specs.Cmp.Lexicographic.{same_text}
@@ -26,7 +26,7 @@ use Rattle.transcript.proofs.Lines.{lines_sound}
 
 -- ---- scripts
 
--- a line is one of the session with a name, and is told apart as what it is
+-- a line is one of the session with a name, and is classified correctly
 pub record IsOwn (name : List ℕ) (line : SessionLine) : Type 0 where
   pub spoken : is_line_of name line.text ≡ true
   pub len : ℕ

@@ -10,8 +10,8 @@ use Rattle.par_run.specs.Outputs.{Output}
 use Rattle.transcript.specs.Shape.{is_sound}
 use Rattle.par_transcript.specs.Made.{transcript_in}
 
--- the transcript of a run of an input is sound, whatever its lines mean: each session has a good name of its own, and
--- says only its own lines
+-- the transcript of a run of an input is sound, whatever its lines mean: each session has a separate, valid name, and
+-- only lines of that session
 abbrev pub RunsAreSound : Type 0 → Type 0
 RunsAreSound P =
     (reply : P → List ℕ → ℕ → Procedure (Turn P)) (p : P) (opening : History) (input : List ℕ) (new : State)

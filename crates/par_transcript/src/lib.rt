@@ -1,7 +1,7 @@
-//! The transcript of a parallel run, made of what the run left, and the laws that hold of it: its text is read
-//! back as the same transcript, whatever the sessions were asked.
+//! Builds the transcript of a parallel run from what the run left. A law says that this transcript is sound,
+//! whatever the lines of the sessions.
 //!
-//! - `regrouping`: a transcript made of the names of sessions and of their lines with the replies.
+//! - `regrouping`: builds a transcript from the names of sessions and their lines with the replies.
 //! - `laws`: laws of such transcripts.
 #![tactic(auto)]
 

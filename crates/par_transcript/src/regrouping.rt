@@ -1,4 +1,4 @@
-//! A transcript made of what a run left.
+//! Builds a transcript from what a run left.
 ghost use Rattle.std.specs.Prelude.{◌≡◌, [], map, IfOk, OnOk};
 ghost use Rattle.par_transcript.specs.Made.{exchange_of, says_at, silent, transcript_of};
 
@@ -8,8 +8,8 @@ use transcript::{Exchange, SessionTranscript, Transcript};
 use ts_schema::{Name, NoMemory, Seq};
 
 /// The transcript of a run that began at a position, by the names of its sessions, and their lines with the
-/// replies. A line names its session by a place among the names, counted from 0; one whose place isn't there is left
-/// out. The sessions stand in the order of the names, and the lines of each in their order here.
+/// replies. A line names its session by an index into the names, counted from 0; a line whose index is out of
+/// range is left out. The sessions are in the order of the names, and the lines of each in their order here.
 pub fn transcript_of(
     alloc: Global,
     start: u64,
@@ -28,7 +28,7 @@ pub fn transcript_of(
     })
 }
 
-/// The sessions with these names, which have said nothing.
+/// The sessions with these names, without exchanges.
 fn empty_sessions(alloc: Global, names: &[Name]) -> Result<Vec<SessionTranscript>, NoMemory>
     ensures talks { IfOk result (λ talks. talks.items ≡ map silent names.now) }
 {
@@ -42,7 +42,7 @@ fn empty_sessions(alloc: Global, names: &[Name]) -> Result<Vec<SessionTranscript
     Ok(talks)
 }
 
-/// A line with its reply comes last in its session.
+/// Appends a line with its reply to its session.
 fn say(talks: &mut Vec<SessionTranscript>, said: ParLine) -> Result<(), NoMemory>
     ensures said { OnOk result (talks.new.items ≡ says_at said.session (exchange_of said) talks.old.items) }
 {

@@ -66,7 +66,7 @@ module _ {W B : Type 0} where
   ready_at ready (s ∷ ss) (suc i) d lt all = ready_at ready ss i d (omega (arith, lt)) (All-tail ready s.0 (workers_of ss) all)
 
 module _ {B : Type 0} (state : B → State) (store : Shared B) where
-  -- a desk for such a pass stands there
+  -- a store handle for such a pass begins there
   fresh_begins : (start pass : Ticket B) → IsFresh store start pass → desk_state state (fresh_desk store pass) ≡ begun_at state store start
   fresh_begins start pass f =
       ap (λ es. record (desk_state state (fresh_desk store pass)) { history = (state store.opened.value).history ▸▸ es }) f.seen
@@ -87,7 +87,7 @@ module _ {B : Type 0} (state : B → State) (store : Shared B) where
           makes = v.made ∙ sym (ap made_there v.has);
         }
 
-    -- what each worker did at its desk, all workers did
+    -- what each worker did at its store handle, all workers did
     pub served_outcomes : (start whole : Ticket B) (olds news : List (Slot W B)) → length olds ≡ length news → ((i : ℕ) (d : Slot W B) → i < length olds → Served state store did (get_or olds i d) (get_or news i d)) → All (BeginsAt store start) olds → All (IsKnownTo whole) news → AllOutcomes state store did start whole (workers_of olds) (workers_of news) (flat_map made_in news)
     served_outcomes start whole [] [] len each begins known = refl
     served_outcomes start whole [] (t ∷ ts) len each begins known = absurd (omega (arith, len))

@@ -1,4 +1,4 @@
--- What workers have done, seen by the store that they shared.
+-- What workers have done to the store that they shared.
 use Rattle.std.specs.Prelude.{◌≡◌, ℕ, Bool, false, List, [], ◌∷◌, ◌++◌, Some, None}
 use Rattle.ts_model.specs.declared.events.Event.{Event}
 use Rattle.ts_model.specs.History.{History, Begins}
@@ -15,7 +15,7 @@ pub record Parted (One Rest : List ℕ → Type 0) (made : List ℕ) : Type 0 wh
   pub all : made ≡ mine ++ others
 
 module _ {B : Type 0} (state : B → State) (store : Shared B) where
-  -- the state of a desk that stands where a pass does, and has made nothing
+  -- the state of a store handle that is where a pass is, and has made nothing
   abbrev pub begun_at : Ticket B → State
   begun_at pass = record {
     history = history_of state store pass;
@@ -25,9 +25,8 @@ module _ {B : Type 0} (state : B → State) (store : Shared B) where
     origin = (state store.opened.value).origin;
   }
 
-  -- a worker began where one pass stands, and left a state for which this was done. It made the events with these
-  -- numbers. Another pass has seen all that the worker has, and where the worker found that the store stands still,
-  -- no more
+  -- a worker began where one pass is, and left a state for which this was done. It made the events with these numbers.
+  -- Another pass has seen all that the worker has and, if the worker found that the store has stopped, no more
   pub record Outcome (Did : State → State → Type 0) (start end : Ticket B) (made : List ℕ) : Type 0 where
     pub left : State
     pub did : Did (begun_at start) left

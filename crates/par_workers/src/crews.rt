@@ -1,4 +1,4 @@
-//! Workers at one store, all at once.
+//! Workers that use one store in parallel.
 ghost use Rattle.std.specs.Prelude.{◌≡◌, ◌<◌, All, length};
 ghost use Rattle.std.specs.Thread.{IsSync};
 ghost use mathlib.Core.List.{IsPrefix};
@@ -16,7 +16,7 @@ use std::thread;
 use std::thread::Threads;
 use ts_model::{Backend, Shown};
 
-// Lets a worker work at a desk for its pass.
+// Lets a worker work at a store handle for its pass.
 #[tactic(auto, using(crate::proofs::SlotLaws::there_is_pass))]
 fn serve<W, B, R>(rt: &R, lock: &StoreLock<B>, slot: &mut Slot<W, B>)
 where
@@ -34,7 +34,7 @@ where
     slot.1 = Some(desk.leave());
 }
 
-// Lets all workers work at once, each at a desk for its pass.
+// Lets all workers work in parallel, each at a store handle for its pass.
 fn serve_all<W, B, R>(rt: &R, lock: &StoreLock<B>, slots: &mut [Slot<W, B>])
 where
     W: Worker<Shot = B::Shot> + Send,
@@ -59,8 +59,8 @@ where
     );
 }
 
-/// Lets all workers work at once, each in a thread of its own, at a store whose pass has more shares than
-/// there are workers. Gives the pass that has seen what they all have, and has made what they all made.
+/// Lets all workers work in parallel, each in its own thread, at a store whose pass has more shares than
+/// there are workers. Returns the pass that has seen what they all have, and has made what they all made.
 pub fn run_at_once<W, B, R>(
     rt: &R,
     store: &SharedStore<B>,

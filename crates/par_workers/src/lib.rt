@@ -1,4 +1,4 @@
-//! Workers who use one store at once, each in a thread of its own and through a desk of its own, and the
+//! Workers that use one store in parallel, each in its own thread and through its own store handle, and the
 //! pass that knows what they all did.
 #![tactic(auto)]
 

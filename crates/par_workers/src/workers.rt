@@ -1,8 +1,8 @@
-//! Who works at a store.
+//! Workers at a store.
 use std::thread::Threads;
 use ts_model::{Backend, Shown};
 
-/// One who works at a store that others may use too.
+/// A worker at a store that others may use too.
 pub trait Worker {
     ghost use Rattle.std.specs.Prelude.{◌≡◌, Bool};
     ghost use Rattle.std.specs.Thread.{IsSync};
@@ -11,11 +11,11 @@ pub trait Worker {
     /// The snapshots of the stores at which it works.
     type Shot: Shown;
 
-    // That it may begin.
+    // Whether it may begin.
     ghost ready: { Self → Type 0 };
 
-    // What it did at a store that is alone or not: what it was and the state that it found, what it
-    // is then and the state that it left.
+    // What it did at a store that is alone or not: the worker and the state of the store before, and both
+    // after.
     ghost did: { Bool → Self → State → Self → State → Type 0 };
 
     /// Does its work.

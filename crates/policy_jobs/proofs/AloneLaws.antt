@@ -15,7 +15,7 @@ ending_then (sees shown d) f h = ending_then (d h) f h
 ending_then (adds e next stop) f h = ending_then next f (h ▸ e)
 ending_then (ends a) f h = refl
 
--- a store that is alone and goes on comes to what the procedure comes to
+-- a store that is alone and hasn't stopped is left with what the procedure gives
 pub record WalksAlone {A : Type 0} (d : Procedure A) (old : State) : Type 0 where
   pub new : State
   pub walks : Walks true false old d new (end_of_walk d old.history)

@@ -126,7 +126,7 @@ pub record IsSession (name : List ℕ) : Type 0 where
   pub rest : list_all continues_session name ≡ true
   pub short : length name ≤ 16
 
--- what goes on with a session's name does so alone too
+-- the bytes that continue a session's name
 all_continue : (bytes : List ℕ) → list_all continues_session (take (session_len bytes) bytes) ≡ true
 all_continue [] = refl
 all_continue (b ∷ bytes) =

@@ -1,4 +1,4 @@
--- A line sees the places of its own session alone.
+-- A line sees the places of its session only.
 use Rattle.std.proofs.Common.{◌≡◌, ◌∙◌, ℕ, suc, true, false, cond, List, [], ◌∷◌, ◌++◌, length, take, Option, Some, None, refl, sym, ap, subst}
 use Rattle.std.specs.Prelude.{◌||◌, ◌+◌, nat_lt}
 use Rattle.std.specs.List.{AllByRecursion}

@@ -142,7 +142,7 @@ on_statement = any on_form on_semicolon
 abbrev pub whole : base.Parser PolicyStmt
 whole = base.bind read.form (λ a. base.bind base.semicolon (λ _. base.gives a))
 
--- a semicolon or nothing, and then nothing, goes on with no form
+-- a semicolon or nothing, and then nothing, continues with no form
 avoids_semicolon : (a : PolicyStmt) → Avoids on_form (sequence grammar.semicolon (λ _. means a)) on_statement
 unfolding sequence
 avoids_semicolon a ts b left (us, vs, u, e, l, m) free =

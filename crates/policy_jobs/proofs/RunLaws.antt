@@ -95,7 +95,7 @@ module _ {P : Type 0} (does : P → List ℕ → ℕ → Procedure (Turn P)) (al
   breaks_all [] so_far new b = b
   breaks_all (text ∷ texts) so_far new b = breaks_all texts (and_then does so_far text) new (breaks_first alone old so_far (λ y. ending_as (behind y) (does y.places text 0)) new b)
 
-  -- a run goes on by one statement more
+  -- a run continues by one more statement
   pub run_then : (run : TickOutcome) (end : StepEnd) (result : Result TickOutcome NoMemory) (mid : State) (p : P) (text : List ℕ) (new : State) (q : P) (before between after : ℕ)
       → before < 2 ^ 64 → Reports alone run.failed old first name run.reply mid p before between → Stepped alone mid (does p text 0) name end new q between after → GoesOnBy run end result
       → RunsTo alone old (and_then does first text) name result new q before after

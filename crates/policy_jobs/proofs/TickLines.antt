@@ -130,7 +130,7 @@ module _ (stays : StaysOutside (λ (p : Places). p.block) step) (name : List ℕ
   abbrev script_at : Came Places → ScriptState (PolicyPlaces Places)
   script_at c = record { history = c.history; sessions = with_places name (record { inner = c.turn.places; policies = policies }) sessions }
 
-  -- what the line of a statement comes to there
+  -- the result of the line of a statement there
   abbrev result_at : Came Places → List ℕ → LineResult (PolicyPlaces Places)
   result_at c text =
       let z = next_turn step c text in
@@ -235,7 +235,7 @@ module _ (s : ScriptState (PolicyPlaces Places)) (n : ℕ) (name line : List ℕ
       ∙ ap (executes_as policy_sessions s name (take is.end line) is.skip) there
       ∙ ap (takes_turn s name) tick_does
 
-  -- it comes to its statements, behind its line
+  -- it results in its statements, after its line
   abbrev first : Came Places
   first = record { history = s.history; turn = turns p.inner (said.Tick now (length (due now p.policies))) }
 

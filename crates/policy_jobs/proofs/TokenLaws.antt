@@ -234,7 +234,7 @@ second bytes = get_or bytes 1 0
 tail_lower : (b : ℕ) → is_tail b ≡ true → to_ascii_lowercase b ≡ b
 tail_lower b e = ap second (lower_name (97 ∷ b ∷ []) (rw e refl))
 
--- and goes on with a word
+-- and continues a word
 tail_byte : (b : ℕ) → is_tail b ≡ true → continues_word b ≡ true
 tail_byte b e = rw (tail_lower b e) e
 

@@ -1,4 +1,4 @@
--- What a session with policies comes to at a line, by what its parts came to.
+-- The outcome of a line of a session with policies, by the outcomes of its parts.
 use Rattle.std.proofs.Common.{◌≡◌, ◌∙◌, ℕ, ◌<◌, ◌^◌, Bool, true, false, List, [], ◌∷◌, ◌++◌, sym, refl, ap, subst, arith}
 use Rattle.std.specs.Prelude.{Ok}
 use Rattle.std.proofs.lemmas.Bool.{true≢false}

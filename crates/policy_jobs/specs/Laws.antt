@@ -71,7 +71,7 @@ DueTextsAreStatements =
     (now : ℤ) (p : Policy) → is_time now ≡ true → IsPolicy p
     → IsSaid any_statement (stream (due_text now p.job) 0) (due_statement now p.job)
 
--- after a tick, whatever is added until the next at the same time is all that is due then
+-- after a tick, the policies that are due at the next tick of the same time are those that were added since
 abbrev pub OnlyNewOnesAreDue : Type 0
 OnlyNewOnesAreDue =
     (now : ℤ) (old new : List Policy) → ArePolicies old → NeverRan new → due now (policies_after_tick now old ++ new) ≡ new
@@ -94,8 +94,8 @@ pub record IsLonger (old new : List Policy) : Type 0 where
   pub whole : new ≡ old ++ added
   pub never : NeverRan added
 
--- over any store, what a line leaves of policies are policies. One that is no tick leaves those that stood, and may
--- put new ones behind them. A tick, whatever came of its statements, marks those that were due
+-- over any store, a line leaves valid policies. A line that isn't a tick keeps those that existed, and may append new
+-- ones. A tick, whatever the outcome of its statements, marks those that were due
 pub record LinesKeepPolicies (P : Type 0) : Type 0 where
   pub policies :
       (within : P → Block) (does : P → List ℕ → ℕ → Procedure (Turn P)) (alone failed : Bool) (old : State)
@@ -119,7 +119,7 @@ pub record LinesKeepPolicies (P : Type 0) : Type 0 where
       → Walks alone failed old (policy_does does within p text skip) new y → y.said ≡ said.Fault r ∷ []
       → y.places.policies ≡ p.policies
 
--- a tick of a session makes at most three events for each policy that is due
+-- a tick of a session creates at most three events for each policy that is due
 abbrev pub TicksMakeFewEvents : Type 0
 TicksMakeFewEvents =
     (alone failed : Bool) (old : State) (p : PolicyPlaces Places) (now : ℤ) (new : State)
@@ -127,8 +127,8 @@ TicksMakeFewEvents =
     → Walks alone failed old (ticks step p now) new y
     → length (made_in y.said) ≤ 3 * length (due now p.policies)
 
--- after a tick over any store, whatever came of its statements, a tick at the same time is its line alone, and the
--- session stays as it is
+-- after a tick over any store, whatever the outcome of its statements, another tick at the same time is only its
+-- line, and the session stays as it is
 abbrev pub SecondTicksAreIdle : Type 0 → Type 0
 SecondTicksAreIdle P =
     (does : P → List ℕ → ℕ → Procedure (Turn P)) (alone failed : Bool) (old : State) (p : PolicyPlaces P) (now : ℤ)
@@ -136,7 +136,7 @@ SecondTicksAreIdle P =
     → is_time now ≡ true → ArePolicies p.policies → Walks alone failed old (ticks does p now) new y
     → ticks does y.places now ≡ ends (turns y.places (said.Tick now 0))
 
--- ---- a tick and the lines that it stands for
+-- ---- a tick and the lines that it represents
 
 -- a statement as a line of the session with a name
 abbrev pub line_of : List ℕ → List ℕ → List ℕ
@@ -162,7 +162,7 @@ pub record IsTickLine (name : List ℕ) (now : ℤ) (line : List ℕ) : Type 0 w
 abbrev pub with_session : {P : Type 0} → ScriptState P → List ℕ → P → ScriptState P
 with_session s name p = record s { sessions = with_places name p s.sessions }
 
--- what a line came to is one line and then what a script writes, from a state on and from any line number on
+-- the outcome of a line is one line and then what a script writes, from a state on and from any line number on
 pub record IsLineAndScript {P : Type 0} (semantics : Semantics P) (result : LineResult P) (first : List ℕ)
     (s : ScriptState P) (n : ℕ) (lines : List (List ℕ)) : Type 0 where
   pub text : result.text ≡ first ++ output semantics s n lines

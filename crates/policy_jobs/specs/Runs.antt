@@ -1,4 +1,4 @@
--- What contracts see of statements that are run one after the other.
+-- What contracts see of statements that are run in order.
 use Rattle.std.specs.Prelude.{◌≡◌, ℕ, ◌≤◌, Bool, true, ◌||◌, List, ◌++◌, length, Result, Ok, Err, ⊤}
 use Rattle.ts_schema.specs.declared.memory.NoMemory.{NoMemory}
 use Rattle.ts_model.specs.States.{State}
@@ -20,7 +20,7 @@ pub record IsRunnable (text : List ℕ) : Type 0 where
   pub short : length text ≤ longest_line
   pub event : ReadsEvent (statement (stream text 0))
 
--- a run has reported a procedure so far, whose disk failed or not, or broke off for want of memory
+-- a run has reported a procedure so far, with or without an I/O error of its disk, or ended because memory ran out
 abbrev pub RunsTo :
     {P : Type 0} → Bool → State → Procedure (Turn P) → List ℕ → Result TickOutcome NoMemory → State → P → ℕ → ℕ → Type 0
 RunsTo alone old procedure name (Ok run) new places before after =

@@ -8,7 +8,7 @@ use Rattle.policy_jobs.specs.Turns.{PolicyPlaces}
 abbrev pub places_in : {A P : Type 0} → (A → P) → PolicySession A → PolicyPlaces P
 places_in places s = record { inner = places s.actor; policies = s.policies }
 
--- what the actor in it holds goes with what its store has seen, and its policies passed when they were added
+-- the state of the actor in it fits what its store has read, and its policies were valid when they were added
 pub record HoldsOf {A : Type 0} (Holds : A → State → Type 0) (session : PolicySession A) (s : State) : Type 0 where
   pub actor : Holds session.actor s
   pub policies : AreKept session.policies

@@ -45,7 +45,7 @@ turn_of_adding p at policy (Some r) = refuses p r
 turn_of_adding p at policy None =
     turns (record p { policies = p.policies ++ policy ∷ [] }) (said.Policy (suc (length p.policies)) at)
 
--- a policy is added by one look, unless it is refused there. It has not run yet
+-- a policy is added by one read, unless it is refused there. It has not run yet
 abbrev pub adds_policy : {P : Type 0} → PolicyPlaces P → Job → ℤ → Procedure (Turn (PolicyPlaces P))
 adds_policy p job every =
     looks (λ h. ends (turn_of_adding p (position h) (record { job = job; every = every; ran = None })
@@ -75,7 +75,7 @@ module _ {P : Type 0} (does : P → List ℕ → ℕ → Procedure (Turn P)) whe
   runs_due now p policies =
       and_all (ends (turns p (said.Tick now (length (due now policies))))) (due_texts now policies)
 
-  -- a tick at a time: what is due runs, and each of those has run then, whatever came of it
+  -- a tick at a time: the policies that are due run and are marked, whatever the outcome
   abbrev pub ticks : PolicyPlaces P → ℤ → Procedure (Turn (PolicyPlaces P))
   ticks p now =
       cond (is_time now) (ending_as (beside (policies_after_tick now p.policies)) (runs_due now p.inner p.policies)) (misses_time p)

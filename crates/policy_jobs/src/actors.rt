@@ -1,4 +1,4 @@
-//! Sessions with policies execute the lines of a session wherever the actors in them do.
+//! Makes a session with policies an actor, so that it can execute the lines of a session.
 use crate::kept::KeptPolicies;
 use crate::reading::{PolicyRead, read_policy};
 use crate::sessions::{PolicySession, misread, refuse};

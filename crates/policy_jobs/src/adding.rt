@@ -1,4 +1,4 @@
-//! Why a policy is refused that is to be added.
+//! Why a new policy is refused.
 ghost use Rattle.std.specs.Prelude.{◌≡◌, ◌+ℤ◌, ◌-ℤ◌, int_le, option_copied};
 ghost use Rattle.ts_catalog.specs.Relations.{CanBeNumbered};
 ghost use Rattle.stmt_check.specs.Refusals.{hypertable_refusal, view_refusal};
@@ -14,7 +14,7 @@ pub(crate) const MOST_POLICIES: usize = 64;
 /// The greatest offset and the greatest interval, 2 ^ 50.
 const LONGEST: i64 = 1_125_899_906_842_624;
 
-/// Why a policy is refused at a position, in a session that has so many, if it is.
+/// The refusal of a policy at a position, in a session that has so many policies, or `None`.
 pub(crate) fn adding_refusal(
     pos: u64,
     roster: &Roster,
@@ -44,7 +44,7 @@ fn refusal(pos: u64, code: u8, mark: u64) -> Refusal
     Refusal { code, pos, mark }
 }
 
-/// Why the relation of a policy is refused, if it is.
+/// The refusal of the relation of a policy, or `None`.
 fn relation_refusal(pos: u64, roster: &Roster, job: &Job) -> Option<Refusal>
     requires { CanBeNumbered roster.now }
     ensures { result ≡ refusal_of_relation pos roster.now job.now }
@@ -55,7 +55,7 @@ fn relation_refusal(pos: u64, roster: &Roster, job: &Job) -> Option<Refusal>
     }
 }
 
-/// Why what was found is refused where an aggregate is needed.
+/// The refusal of a relation that was found, if it isn't an aggregate.
 fn no_view(pos: u64, found: Found) -> Option<Refusal>
     ensures { result ≡ view_refusal pos found }
 {
@@ -66,7 +66,7 @@ fn no_view(pos: u64, found: Found) -> Option<Refusal>
     }
 }
 
-/// Why what was found is refused where a hypertable is needed.
+/// The refusal of a relation that was found, if it isn't a hypertable.
 fn no_hypertable(pos: u64, found: Found) -> Option<Refusal>
     ensures { result ≡ hypertable_refusal pos found }
 {
@@ -97,7 +97,7 @@ fn is_offset(offset: Option<i64>) -> bool
     }
 }
 
-/// Whether a number is from a least one on and up to the greatest offset.
+/// Whether a number is at least `least` and at most the greatest offset.
 fn is_between(least: i64, number: i64) -> bool
     ensures { result ≡ is_from least number }
 {
@@ -129,7 +129,7 @@ fn view_found(roster: &Roster, found: Found) -> Option<&ViewDef>
     }
 }
 
-/// Whether a window with two ends is at least twice the step of an aggregate wide.
+/// Whether the width of a window with two ends is at least twice the step of an aggregate.
 fn is_wide(def: Option<&ViewDef>, from: Option<i64>, to: Option<i64>) -> bool
     ensures { result ≡ wide (option_copied def.entry) from to }
 {
@@ -139,7 +139,7 @@ fn is_wide(def: Option<&ViewDef>, from: Option<i64>, to: Option<i64>) -> bool
     }
 }
 
-/// Whether a window between two times before another is at least twice a step wide.
+/// Whether the width of a window between two offsets is at least twice a step.
 fn is_twice(step: i64, from: i64, to: i64) -> bool
     ensures { result ≡ int_le (step +ℤ step) (from -ℤ to) }
 {

@@ -1,12 +1,12 @@
-//! What policies do.
+//! The jobs of policies.
 use ts_schema::Name;
 
-/// What a policy does at a time.
+/// The job that a policy does at a time.
 #[derive(Drop, Debug, PartialEq, Eq)]
 pub enum Job {
-    /// Refreshes an aggregate over the window that begins `from` before that time and ends `to` before it, in the
-    /// unit of the time column. `None` leaves that end open. These are `start_offset` and `end_offset` of
-    /// TimescaleDB's `add_continuous_aggregate_policy`.
+    /// Refreshes an aggregate in the window from `from` before that time to `to` before it, in the unit of the
+    /// time column. `None` leaves an end open. These are `start_offset` and `end_offset` of TimescaleDB's
+    /// `add_continuous_aggregate_policy`.
     Refresh {
         view: Name,
         from: Option<i64>,

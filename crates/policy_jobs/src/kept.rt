@@ -1,4 +1,4 @@
-//! The policies that a session keeps, with the time before which none of them is due.
+//! The policies of a session, with the earliest time at which one of them is due.
 ghost use Rattle.std.specs.Prelude.{◌≡◌, [], ◌∷◌, ◌++◌, ◌^◌, ◌<◌, length, not, OnErr, OnOk};
 ghost use Rattle.std.specs.List.{list_any};
 ghost use Rattle.policy_jobs.specs.Policies.{is_due, policies_after_tick};
@@ -8,12 +8,12 @@ use std::alloc::Global;
 use std::marker::Model;
 use ts_schema::NoMemory;
 
-/// Policies in the order of adding. Contracts see the list of them.
+/// Policies in the order in which they were added. Contracts see the list of them.
 #[derive(Drop)]
 pub struct KeptPolicies {
     /// The policies.
     items: Vec<Policy>,
-    /// From when on the first of them is due.
+    /// The earliest time at which one of them is due.
     due_from: i128,
 }
 
@@ -30,7 +30,7 @@ impl Model for KeptPolicies {
 }
 
 impl KeptPolicies {
-    /// No policy. It takes no memory.
+    /// An empty list of policies. It takes no memory.
     pub fn new(alloc: Global) -> KeptPolicies
         ensures none { result ≡ [] }
     {
@@ -48,14 +48,14 @@ impl KeptPolicies {
         self.items.len()
     }
 
-    /// The policies, one after another.
+    /// The policies, in order.
     pub fn as_slice(&self) -> &[Policy]
         ensures items { result.now ≡ self.now }
     {
         self.items.as_slice()
     }
 
-    /// Puts a policy behind the others.
+    /// Appends a policy.
     pub fn push(&mut self, policy: Policy) -> Result<(), NoMemory>
         ensures pushed { OnOk result (self.new ≡ self.old ++ policy ∷ []) }
         ensures kept { OnErr result (self.new ≡ self.old) }
@@ -75,7 +75,7 @@ impl KeptPolicies {
         is_idle(self.items.as_slice(), now)
     }
 
-    /// Those that are due at a time have run then.
+    /// Marks the policies that are due at a time as run then.
     pub fn mark(&mut self, now: i64)
         ensures ran { self.new ≡ policies_after_tick now self.old }
     {

@@ -10,25 +10,25 @@ pub fn due_texts_are_statements()
     ensures { DueTextsAreStatements }
 {}
 
-/// After a tick, whatever is added until the next at the same time is all that is due then.
+/// After a tick, the policies that are due at the next tick of the same time are those that were added since.
 pub fn only_new_ones_are_due()
     ensures { OnlyNewOnesAreDue }
 {}
 
-/// A line leaves the policies that stand, and may put new ones behind them; a tick marks those that were due. A line
-/// that is refused leaves them all as they were.
+/// A line keeps the policies that exist, and may add new ones after them; a tick marks those that were due. A line
+/// that is refused changes no policy.
 pub fn lines_keep_policies<P>()
     ensures { LinesKeepPolicies P }
 {}
 
-/// A tick of a session makes at most three events for each policy that is due.
+/// A tick of a session creates at most three events for each policy that is due.
 pub fn ticks_make_few_events()
     ensures { TicksMakeFewEvents }
 {
     lines_make_at_most_three_events();
 }
 
-/// After a tick, one at the same time is its line alone.
+/// After a tick, another tick at the same time is only its line.
 pub fn second_ticks_are_idle<P>()
     ensures { SecondTicksAreIdle P }
 {}
@@ -42,7 +42,7 @@ where
     Session::<T>::stays_outside();
 }
 
-/// What lines of other sessions write is the same whatever a session carries, its policies among it.
+/// Lines of other sessions write the same, whatever a session carries, including its policies.
 pub fn lines_see_their_own_places<P>()
     ensures { LinesSeeTheirOwnPlaces P }
 {}

@@ -1,15 +1,15 @@
-//! Refresh and retention policies: statements on them, which of them are due at a time, and sessions that
-//! keep policies and run what is due.
+//! Refresh and retention policies: their statements, which policies are due at a time, and sessions that keep
+//! policies and run those that are due.
 //!
-//! - `jobs`: what a policy does.
-//! - `statements`: what is written in a statement on policies.
-//! - `reading`: such a statement of a text, by the rules of its grammar.
-//! - `adding`: why a policy is refused that is to be added.
-//! - `policies`: policies that are kept, which of them are due, and what they run.
-//! - `kept`: the policies that a session keeps, with the time before which none of them is due.
-//! - `runs`: statements that an actor executes one after the other.
-//! - `sessions`: sessions with policies, and what they do with statements on them.
-//! - `actors`: sessions with policies execute the lines of a session.
+//! - `jobs`: the job of a policy.
+//! - `statements`: the statements on policies.
+//! - `reading`: reads such a statement from a text, by its grammar.
+//! - `adding`: why a new policy is refused.
+//! - `policies`: the policies of a session, which of them are due, and the statements that they run.
+//! - `kept`: the policies of a session, with the earliest time at which one of them is due.
+//! - `runs`: statements that an actor executes in order.
+//! - `sessions`: sessions with policies, and how they execute statements on them.
+//! - `actors`: makes sessions with policies actors.
 //! - `laws`: laws of policies and ticks, in clauses of functions that do nothing.
 #![tactic(auto)]
 

@@ -1,4 +1,4 @@
-//! Policies that a session keeps: which of them are due at a time, and the statements that they run.
+//! The policies of a session: which of them are due at a time, and the statements that they run.
 ghost use Rattle.std.specs.Prelude.{◌≡◌, ◌+ℤ◌, ◌++◌, int_lt, not, true, IfOk, OnOk, Some};
 ghost use Rattle.std.specs.List.{AllByRecursion, list_any};
 ghost use Rattle.ts_bucket.specs.Bucket.{is_time};
@@ -16,16 +16,16 @@ use ts_schema::{Name, NoMemory, Seq};
 /// A policy.
 #[derive(Drop, Debug, PartialEq, Eq)]
 pub struct Policy {
-    /// What it does.
+    /// The job that it does.
     pub job: Job,
-    /// The least time between two runs.
+    /// The least interval between two runs.
     pub every: i64,
-    /// The time of its last run, where it ran.
+    /// The time of its last run, if it ever ran.
     pub ran: Option<i64>,
 }
 
 impl Policy {
-    /// Whether it is due at a time: it never ran, or its last run lies its interval back or further.
+    /// Whether it is due at a time: it never ran, or its last run is at least its interval ago.
     pub fn is_due(&self, now: i64) -> bool
         ensures due { result ≡ is_due now self.now }
     {
@@ -35,7 +35,7 @@ impl Policy {
         }
     }
 
-    /// It has run at a time, if it is due then.
+    /// Marks it as run at a time, if it is due then.
     fn mark(&mut self, now: i64)
         ensures ran { self.new ≡ ticked_one now self.old }
     {
@@ -64,14 +64,14 @@ impl Policy {
     }
 }
 
-/// Whether a time lies this interval before another, or further.
+/// Whether a time is at least this interval after another.
 fn is_back(now: i64, every: i64, last: i64) -> bool
     ensures { result ≡ spec.is_back now every (Some last) }
 {
     every as i128 <= now as i128 - last as i128
 }
 
-/// The statements that those which are due run at a time, in the order of adding.
+/// The statements of the policies that are due at a time, in the order in which they were added.
 pub fn due_texts(alloc: Global, policies: &[Policy], now: i64) -> Result<Seq<Seq<u8>>, NoMemory>
     ensures texts { IfOk result (λ texts. texts ≡ texts_due now policies.now) }
     ensures runnable { is_time now ≡ true → AreKept policies.now
@@ -98,7 +98,7 @@ pub(crate) fn is_idle(policies: &[Policy], now: i64) -> bool
     true
 }
 
-/// From when on the first of them is due. Of none it is the greatest number of 64 bits.
+/// The earliest time at which one of them is due, or the greatest number of 64 bits if there is no policy.
 pub(crate) fn first_due(policies: &[Policy]) -> i128
     ensures { result ≡ spec.first_due policies.now }
 {
@@ -108,7 +108,7 @@ pub(crate) fn first_due(policies: &[Policy]) -> i128
     }
 }
 
-/// From when on one is due that ran then, or never.
+/// The earliest time at which a policy is due, by its interval and its last run.
 fn due_after(every: i64, ran: Option<i64>) -> i128
     ensures { result ≡ spec.due_after every ran }
 {
@@ -125,14 +125,14 @@ fn sum_of(a: i64, b: i64) -> i128
     a as i128 + b as i128
 }
 
-/// Whether a time lies before a number.
+/// Whether a time is less than a number.
 pub(crate) fn is_before(now: i64, from: i128) -> bool
     ensures { result ≡ int_lt now from }
 {
     (now as i128) < from
 }
 
-/// Those that are due at a time have run then.
+/// Marks the policies that are due at a time as run then.
 pub fn mark_due(policies: &mut [Policy], now: i64)
     ensures ran { policies.new ≡ policies_after_tick now policies.old }
 {
@@ -141,7 +141,7 @@ pub fn mark_due(policies: &mut [Policy], now: i64)
     }
 }
 
-/// `CALL refresh_continuous_aggregate` of the window that a refresh policy means at a time.
+/// `CALL refresh_continuous_aggregate` for the window of a refresh policy at a time.
 fn refresh_at(
     alloc: Global,
     now: i64,
@@ -161,7 +161,7 @@ fn refresh_at(
     Ok(Seq::of(text))
 }
 
-/// `SELECT drop_chunks` of what a retention policy means at a time.
+/// `SELECT drop_chunks` for a retention policy at a time.
 fn retention_at(alloc: Global, now: i64, table: &Name, after: i64) -> Result<Seq<u8>, NoMemory>
     ensures { IfOk result (λ text. text ≡ retention_text now table.now after) }
 {
@@ -184,7 +184,7 @@ fn put_end(now: i64, offset: Option<i64>, out: &mut Vec<u8>) -> Result<(), NoMem
     Ok(())
 }
 
-/// The time so long before another, or the least time where it would lie below that.
+/// The time so long before another, but at least the lowest time.
 fn end_at(now: i64, before: i64) -> i128
     ensures { result ≡ end_of now before }
 {

@@ -1,4 +1,4 @@
-//! Reading a statement on policies.
+//! Reads a statement on policies.
 ghost use Rattle.std.specs.Prelude.{◌≡◌, ◌≤◌, ◌&&◌, length, true, Ok};
 ghost use Rattle.stmt_reader.specs.Cursor.{ahead};
 ghost use Rattle.stmt_syntax.specs.Limits.{longest_line};
@@ -32,21 +32,20 @@ const SCHEDULE_INTERVAL: &[u8] = b"schedule_interval";
 
 const DROP_AFTER: &[u8] = b"drop_after";
 
-/// What a text says of policies.
+/// The result of reading a text as a statement on policies.
 #[derive(Drop, Debug)]
 pub enum PolicyRead {
     /// This statement.
     Stmt(PolicyStmt),
-    /// It begins as a statement on policies, and this is wrong first.
+    /// It begins as a statement on policies, and this is its first fault.
     Fault(Fault),
-    /// Nothing: it begins otherwise.
+    /// It doesn't begin as a statement on policies.
     Other,
-    /// A growth was refused.
+    /// Memory ran out.
     NoMemory,
 }
 
-/// The statement on policies that stands in a text after its first `skip` bytes. The text is a line
-/// before its comment.
+/// Reads the statement on policies in a text after its first `skip` bytes. The text is a line before its comment.
 pub fn read_policy(alloc: Global, text: &[u8], skip: u32) -> PolicyRead
     requires short { length text.now ≤ longest_line }
     requires within { skip ≤ length text.now }
@@ -76,7 +75,7 @@ fn answer(alloc: Global, text: &[u8], skip: u32) -> PolicyRead
     statement_at(&mut Reader::new(alloc, text, skip as usize))
 }
 
-/// Goes past `SELECT`, where it comes next, and looks whether the name of a call that adds a policy follows.
+/// Skips `SELECT`, if it comes next, and returns whether the name of a call that adds a policy follows.
 fn takes_to_addition(reader: &mut Reader<'_>) -> bool
     ensures { result ≡ (heads (is_keyword Select) (ahead reader.old) && heads adds (tail (ahead reader.old))) }
 {

@@ -1,4 +1,4 @@
-//! Statements that an actor executes one after the other.
+//! Runs statements in order by an actor.
 ghost use Rattle.std.specs.Prelude.{◌≡◌, ℕ, ◌<◌, ◌^◌, IfOk, OnOk};
 ghost use Rattle.std.specs.List.{AllByRecursion};
 ghost use Rattle.std.specs.Thread.{IsSync};
@@ -15,7 +15,7 @@ use ts_model::{Backend, Gate};
 use ts_schema::{NoMemory, Seq, Steps};
 use ts_sessions::{Actor, Reply, StepEnd, step_end};
 
-/// What statements came to so far.
+/// The outcome of the statements so far.
 #[derive(Drop)]
 pub(crate) struct TickOutcome {
     /// Their replies, as one.
@@ -24,7 +24,7 @@ pub(crate) struct TickOutcome {
     pub failed: bool,
 }
 
-/// Executes statements one after the other, behind what was said so far. After a disk fault the others are
+/// Executes statements in order, and appends their replies. After a disk fault the remaining statements are
 /// executed too.
 pub(crate) fn run_all<A, R, B, G, L>(
     rt: &R,
@@ -65,7 +65,7 @@ where
     }
 }
 
-/// Executes a statement, behind what was said so far.
+/// Executes a statement, and appends its reply.
 fn run_one<A, R, B, G, L>(
     rt: &R,
     alloc: Global,
@@ -103,7 +103,7 @@ where
 }
 
 impl TickOutcome {
-    /// What one statement more came to stands behind it.
+    /// Appends the outcome of one more statement.
     fn goes_on(self, end: StepEnd) -> Result<TickOutcome, NoMemory>
         ensures { GoesOnBy self end result }
     {
@@ -121,7 +121,7 @@ impl TickOutcome {
     }
 }
 
-/// A reply with another behind it.
+/// Appends a reply to another.
 fn put_behind(first: Reply, more: &Reply) -> Result<Reply, NoMemory>
     ensures { IfOk result (λ whole. IsBehind first more.now whole) }
 {

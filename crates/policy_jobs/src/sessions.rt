@@ -30,8 +30,8 @@ use ts_model::{Backend, Gate, Refusal, Shown, codes};
 use ts_schema::{Name, NoMemory, Steps};
 use ts_sessions::{Actor, Block, Reply, StepEnd, bare, step_end, text_refusal, write_reply};
 
-/// A session with policies: an actor, which executes every line that is none on policies, and the policies
-/// that were added, in the order of adding. They live as long as it does.
+/// A session with policies: an actor, which executes every line except statements on policies, and the policies in
+/// the order in which they were added. They live as long as the session.
 #[derive(Drop)]
 pub struct PolicySession<A> {
     /// The actor.
@@ -41,7 +41,7 @@ pub struct PolicySession<A> {
 }
 
 impl<A: Actor> PolicySession<A> {
-    /// Executes a statement on policies, where the block lets it pass.
+    /// Executes a statement on policies, if the block allows it.
     pub(crate) fn perform<R: Threads + Sync, B: Backend<Shot = A::Shot>, G: Gate, L>(
         &mut self,
         rt: &R,
@@ -124,7 +124,7 @@ impl<A: Actor> PolicySession<A> {
         }
     }
 
-    /// Keeps a policy, with the reply that it was added at a position.
+    /// Keeps a policy, and returns the reply that it was added at a position.
     fn keep_with_reply(
         &mut self,
         alloc: Global,
@@ -144,7 +144,7 @@ impl<A: Actor> PolicySession<A> {
         Ok(reply)
     }
 
-    /// It is this time: what is due runs, and has run then, whatever came of it.
+    /// Executes a tick: runs the policies that are due, and marks them as run, whatever the outcome.
     fn tick<R: Threads + Sync, B: Backend<Shot = A::Shot>, G: Gate, L>(
         &mut self,
         rt: &R,
@@ -182,7 +182,7 @@ impl<A: Actor> PolicySession<A> {
         }
     }
 
-    /// What is due at a time has run then.
+    /// Marks the policies that are due at a time as run then.
     fn mark(&mut self, now: i64)
         ensures policies { self.new.policies ≡ policies_after_tick now self.old.policies }
         ensures actor { self.new.actor ≡ self.old.actor }
@@ -190,7 +190,7 @@ impl<A: Actor> PolicySession<A> {
         self.policies.mark(now);
     }
 
-    /// A tick at a time out of range is refused where the store is found.
+    /// Refuses a tick whose time is out of range, at the position of the store.
     fn miss_time<B: Backend<Shot = A::Shot>>(&self, alloc: Global, backend: &mut B) -> StepEnd
         ensures stepped { (n : ℕ) → n < 2 ^ 64 → Stepped B.alone (B.state backend.old)
             (misses_time (places_in A.places self.now)) (A.named self.now.actor) result
@@ -204,7 +204,7 @@ impl<A: Actor> PolicySession<A> {
         }
     }
 
-    /// Runs what is due at a time, behind the line of the tick.
+    /// Runs the policies that are due at a time, after the line of the tick.
     fn run_due<R: Threads + Sync, B: Backend<Shot = A::Shot>, G: Gate, L>(
         &mut self,
         rt: &R,
@@ -252,7 +252,7 @@ impl<A: Actor> PolicySession<A> {
     }
 }
 
-/// A time is out of range.
+/// The refusal of a time that is out of range.
 fn bad_time(pos: u64) -> Refusal
     ensures { result ≡ record { code = bad_time; pos = pos; mark = 0 } }
 {
@@ -270,7 +270,7 @@ fn is_time(now: i64) -> bool
     MIN_TIME <= now && now <= MAX_TIME
 }
 
-/// Why a block lets no statement on policies pass, if it doesn't.
+/// The refusal of statements on policies in a block, or `None`.
 fn barrier(block: Block) -> Option<Refusal>
     ensures { (place : BlockPlace) → block ≡ block_kind place → result ≡ block_refusal place Defines }
 {
@@ -281,7 +281,7 @@ fn barrier(block: Block) -> Option<Refusal>
     }
 }
 
-/// What can't be read is refused at its place.
+/// The refusal of a text that can't be read, at its place.
 pub(crate) fn misread(fault: Fault) -> Refusal
     ensures { result ≡ misread_as fault }
 {
@@ -292,14 +292,14 @@ pub(crate) fn misread(fault: Fault) -> Refusal
     }
 }
 
-/// The answer that a statement of the session with a name is refused.
+/// Ends a statement of the session with a name by a refusal.
 pub(crate) fn refuse(alloc: Global, name: &Name, refusal: Refusal) -> StepEnd
     ensures { AnswersSo name.now (FaultLine refusal ∷ []) false result }
 {
     say(alloc, name, Said::Fault(refusal))
 }
 
-/// The answer of the session with a name that has this one line.
+/// Ends a statement of the session with a name by this one line.
 fn say(alloc: Global, name: &Name, line: Said) -> StepEnd
     ensures { AnswersSo name.now (line ∷ []) false result }
 {
@@ -309,7 +309,7 @@ fn say(alloc: Global, name: &Name, line: Said) -> StepEnd
     }
 }
 
-/// The reply of the session with a name that has this one line.
+/// The reply of the session with a name that has only this line.
 fn write_line(alloc: Global, name: &Name, line: Said) -> Result<Reply, NoMemory>
     ensures { IfOk result (λ r. IsReply name.now (line ∷ []) r) }
 {

@@ -4,9 +4,9 @@ use crate::jobs::Job;
 /// A statement on policies. Names are in lower case, and NULL is `None`.
 #[derive(Drop, Debug, PartialEq, Eq)]
 pub enum PolicyStmt {
-    /// `SELECT add_continuous_aggregate_policy` or `SELECT add_retention_policy`: a job, and the least
-    /// time between two runs of it.
+    /// `SELECT add_continuous_aggregate_policy` or `SELECT add_retention_policy`: a job, and the least interval
+    /// between two runs of it.
     Add { job: Job, every: i64 },
-    /// `TICK`: it is this time.
+    /// `TICK`: the current time is this.
     Tick(i64),
 }

@@ -136,7 +136,7 @@ by_buckets w low (b ∷ bs) rising gs up all =
         (λ here. absurd (true≢false (sym other ∙ ap not ((Decides-int_eq c b).1 (sym ((Decides-int_eq b c).0 here))))))
         (λ later. sym (ap (λ t. t || among c bs) later) ∙ e)
 
--- ---- materialised groups and live ones
+-- ---- materialized groups and live ones
 
 map-flat_map : {X Y Z : Type 0} (f : Y → Z) (g : X → List Y) (xs : List X) → map f (flat_map g xs) ≡ flat_map (λ x. map f (g x)) xs
 map-flat_map f g [] = refl

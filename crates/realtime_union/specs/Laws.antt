@@ -1,4 +1,4 @@
--- Laws of what is shown and of what is looked at, each in one sentence.
+-- Laws of what is shown and of what is read, each in one sentence.
 use Rattle.std.specs.Prelude.{◌≡◌, true, not, ◌&&◌, cond, List, [], ◌∷◌, map, filter, flat_map, length, ℤ, ◌+ℤ◌, ◌-ℤ◌, Option}
 use Rattle.std.specs.List.{list_all}
 use Rattle.std.specs.Ordering.{int_eq}
@@ -19,18 +19,18 @@ use Rattle.ts_model.specs.Reads.{chunk_within, rows_near}
 use Rattle.group_fold.specs.Spans.{HaveTimes}
 use Rattle.realtime_union.specs.Live.{IsLiveSpan, all_times, union_rows}
 
--- the groups that an aggregate shows of a bucket: below its mark the materialised ones, and else those of the rows,
--- or none where it shows materialised rows only
+-- the groups that an aggregate shows of a bucket: below its mark the materialized ones, otherwise those of the rows,
+-- or none if it shows only materialized rows
 abbrev pub groups_shown : ViewDef → List Group → Option ℤ → List Row → ℤ → List Group
 groups_shown def kept mark rows b =
     cond (is_below b mark) (filter (λ g. int_eq g.start b) kept) (cond def.only [] (groups_in def.fold rows b))
 
--- materialised groups of buckets asked for: in order, and below the mark
+-- materialized groups of requested buckets: in order, and below the mark
 pub record AreKept (w : Width) (mark : Option ℤ) (starts : Span) (kept : List Group) : Type 0 where
   pub in_order : AreInOrder kept
   pub all : list_all (λ g. is_asked w starts g.start && is_below g.start mark) kept ≡ true
 
--- what is shown is, bucket by bucket of those asked for, what is shown of the bucket
+-- what is shown is what is shown of each requested bucket, in order
 abbrev pub UnionsAreOfBuckets : Type 0
 UnionsAreOfBuckets =
     (def : ViewDef) (kept : List Group) (mark : Option ℤ) (starts : Span) (rows : List Row) → IsWidth def.fold.width
@@ -43,8 +43,8 @@ abbrev pub ChunksAreNear : ℤ → List Row → Type 0
 ChunksAreNear interval stored =
     list_all (chunk_within (min_time -ℤ max_interval) (max_time +ℤ max_interval) interval) stored ≡ true
 
--- the rows in chunks that meet the live span are those in chunks that meet a live bucket, where the span asked for is
--- one of numbers of 64 bits
+-- the rows in chunks that meet the live span are those in chunks that meet a live bucket, if the requested span is one
+-- of numbers of 64 bits
 abbrev pub LiveReadsAreOfBuckets : Type 0
 LiveReadsAreOfBuckets =
     (w : Width) (mark : Option ℤ) (starts live : Span) (interval : ℤ) (stored : List Row) → IsWidth w
@@ -52,7 +52,7 @@ LiveReadsAreOfBuckets =
     → rows_near interval stored (live ∷ [])
     ≡ rows_near interval stored (map (bucket_span w) (filter (λ b. not (is_below b mark)) (buckets_in w starts)))
 
--- a scan of all times looks at all stored rows
+-- a scan of all times reads all stored rows
 abbrev pub AllTimesReadAll : Type 0
 AllTimesReadAll =
     (interval : ℤ) (stored : List Row) → IsInterval interval → HaveTimes stored

@@ -1,4 +1,4 @@
--- What is shown of a whole hypertable, and what it takes to look at it.
+-- What is shown of a whole hypertable, and how many rows that reads.
 use Rattle.std.specs.Prelude.{ℕ, List, [], ◌∷◌, map, filter, ℤ}
 use Rattle.ts_num.specs.declared.values.Datum.{Datum}
 use Rattle.ts_schema.specs.declared.conditions.Test.{Test}
@@ -9,10 +9,10 @@ use Rattle.ts_model.specs.Reads.{rows_near}
 use Rattle.ts_model.specs.Rows.{in_order}
 use Rattle.realtime_union.specs.Live.{all_times}
 
--- the rows that pass every test, in row order, with all their columns, where the time column is at this place
+-- the rows that match every test, in row order, with all their columns, where the time column is at this place
 abbrev pub passing_rows : ℕ → List Test → List Row → List (List Datum)
 passing_rows at tests rows = map (all_columns at) (filter (λ row. passes_all row tests) (in_order rows))
 
--- how many stored rows a scan of all times looks at
+-- how many stored rows a scan of all times reads
 abbrev pub all_reads : ℤ → List Row → ℕ
 all_reads interval stored = rows_near interval stored (all_times ∷ [])

@@ -1,7 +1,7 @@
-//! Laws of what is shown and of what is looked at. Each is the clause of a function that does nothing.
+//! Laws of what is shown and of what is read. Each is the clause of a function that does nothing.
 ghost use Rattle.realtime_union.specs.Laws.{AllTimesReadAll, LiveReadsAreOfBuckets, UnionsAreOfBuckets};
 
-/// What an aggregate shows is, bucket by bucket of those asked for, what it shows of the bucket.
+/// What an aggregate shows is what it shows of each requested bucket, in order.
 pub fn unions_are_of_buckets()
     ensures { UnionsAreOfBuckets }
 {}
@@ -11,7 +11,7 @@ pub fn live_reads_are_of_buckets()
     ensures { LiveReadsAreOfBuckets }
 {}
 
-/// A scan of all times looks at all stored rows.
+/// A scan of all times reads all stored rows.
 pub fn all_times_read_all()
     ensures { AllTimesReadAll }
 {}

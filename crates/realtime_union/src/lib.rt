@@ -1,4 +1,4 @@
-//! What an aggregate shows: its materialised groups, and at or above its mark the groups of the rows.
+//! What an aggregate shows: its materialized groups, and at or above its mark the groups of the rows.
 #![tactic(auto)]
 
 pub mod laws;

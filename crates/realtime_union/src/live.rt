@@ -7,7 +7,7 @@ ghost use Rattle.realtime_union.specs.Live.{IsLiveSpan};
 
 use ts_bucket::{Span, Width, buckets_in};
 
-/// The buckets of the range of buckets that start in a span, at or above the mark.
+/// The buckets that start in a span, at or above the mark.
 pub fn live_span(w: Width, starts: Span, mark: Option<i64>) -> Span
     ensures live { IsLiveSpan w mark starts result }
     ensures bounds { IsWidth w }

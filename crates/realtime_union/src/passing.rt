@@ -1,4 +1,4 @@
-//! The rows of a hypertable that pass tests.
+//! The rows of a hypertable that match tests.
 ghost use Rattle.std.specs.Prelude.{◌≡◌, ◌-◌, ◌≤◌, [], ◌∷◌, ◌++◌, drop, filter, length, map, take, IfOk, OnOk};
 ghost use Rattle.cell_rows.specs.Parts.{AreParts, parts};
 ghost use Rattle.ts_schema.specs.Conditions.{passes_all};
@@ -16,9 +16,9 @@ use ts_model::{ResultRows, RowsAt, put_values};
 use ts_num::Datum;
 use ts_schema::{NoMemory, Row, Seq, Steps, Test, Values, passes, row_order};
 
-/// The rows of a hypertable that pass every test, in row order and with all their columns in declared
-/// order, where the time column is at place `at`, by one scan of all times. It counts one step for
-/// each stored row in a chunk that holds a time.
+/// The rows of a hypertable that match every test, in row order and with all their columns in declared
+/// order, from one scan of all times; `at` is the place of the time column. It counts one step for each
+/// stored row in a chunk that holds a time.
 pub fn passing_rows<W: RowsAt, L>(
     alloc: Global,
     rows: &W,
@@ -71,7 +71,7 @@ fn columns_of_each(alloc: Global, at: u32, rows: &[Row]) -> Result<CellRows<Datu
     Ok(CellRows::of(cells, ends))
 }
 
-/// How many columns these rows have, which is the same for all rows of a table: 0 where there is no row.
+/// How many columns these rows have, which is the same for all rows of a table: 0 if there is no row.
 fn width_of(rows: &[Row]) -> usize {
     match rows.first() {
         Some(row) => row.vals.len().saturating_add(1),

@@ -17,7 +17,7 @@ use ts_bucket::{MAX_TIME, MIN_TIME, Span};
 use ts_model::{Fold, ResultRows, RowsAt};
 use ts_schema::{NoMemory, Seq, Steps};
 
-/// The result rows of a grouping over all rows of a hypertable, by one scan of all times. It counts one
+/// The result rows of a grouping over all rows of a hypertable, from one scan of all times. It counts one
 /// step for each stored row in a chunk that holds a time.
 pub fn folded_rows<R: Threads + Sync, W: RowsAt, L>(
     rt: &R,

@@ -1,4 +1,4 @@
-//! Materialised and live groups together.
+//! Materialized and live groups together.
 ghost use Rattle.std.specs.Prelude.{◌≡◌, ℤ, Option, IfOk};
 ghost use Rattle.ts_bucket.specs.Spans.{SpanValue};
 ghost use Rattle.ts_bucket.specs.WholeSpans.{IsWholeSpan};
@@ -16,10 +16,11 @@ use ts_bucket::Span;
 use ts_model::{ResultRows, RowsAt, ViewDef};
 use ts_schema::{NoMemory, Seq, Steps};
 
-/// The result rows of an aggregate for the buckets asked for: those of its materialised groups, which
-/// lie below its mark, and then, where it doesn't show materialised rows only, those of the rows of
-/// the live buckets, whose span `live_span` gives, by one scan. It counts one step for each stored row in the
-/// chunks that meet a bucket of that scan. No cell is made: the materialised groups stay where they are.
+/// The result rows of an aggregate for the requested buckets: those of its materialized groups `kept`, which
+/// lie below its mark, then those of the rows in the live buckets, from one scan of the span that
+/// `live_span` returns. An aggregate that shows only materialized rows has no scan. It counts one step for
+/// each stored row in the chunks that meet a bucket of the scan. It creates no cell: the materialized groups
+/// stay where they are.
 pub fn union_rows<R: Threads + Sync, W: RowsAt, L>(
     rt: &R,
     alloc: Global,
@@ -44,7 +45,7 @@ pub fn union_rows<R: Threads + Sync, W: RowsAt, L>(
     Ok(ResultRows::of_groups(alloc, aggs, kept, live))
 }
 
-/// The groups of the live buckets, or none where materialised rows only are shown.
+/// The groups of the live buckets, or none if only materialized rows are shown.
 fn live_of<R: Threads + Sync, W: RowsAt, L>(
     rt: &R,
     alloc: Global,

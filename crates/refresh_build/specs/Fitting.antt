@@ -13,7 +13,7 @@ abbrev pub FitsView : Option ViewDef → History → Job → Type 0
 FitsView None h job = ⊥
 FitsView (Some def) h job = Fits job.view def h job.cut job.snap job.span job.spans job.groups job.top
 
--- a job fits a history: its aggregate is there, and it is a job of it
+-- a job fits a history: its aggregate exists, and it is a job of it
 abbrev pub JobFits : History → Job → Type 0
 JobFits h job = FitsView (view_of (roster h) job.view) h job
 
@@ -21,7 +21,7 @@ JobFits h job = FitsView (view_of (roster h) job.view) h job
 abbrev pub IsJobOf : History → ℕ → ℕ → Job → Type 0
 IsJobOf h cut snap job = (job.cut ≡ cut) × (job.snap ≡ snap) × JobFits h job
 
--- an event that finishes a refresh comes with a job of it. Other events need none
+-- an event that finishes a refresh needs its job. Other events need none
 abbrev pub JobIsFor : History → Event → Option Job → Type 0
 JobIsFor h (Table def) job = Unit {0}
 JobIsFor h (Hyper t hyper) job = Unit {0}

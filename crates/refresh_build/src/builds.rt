@@ -1,4 +1,4 @@
-//! Jobs made from rows.
+//! Jobs computed from rows.
 ghost use Rattle.std.specs.Prelude.{◌≡◌, IfOk, List};
 ghost use Rattle.std.specs.List.{AllByRecursion};
 ghost use Rattle.ts_bucket.specs.Ranges.{AreRanges, IsWholeRange};
@@ -22,9 +22,9 @@ use ts_bucket::Span;
 use ts_model::{RowsAt, ViewDef};
 use ts_schema::{NoMemory, Seq, Steps};
 
-/// The job of a refresh: it makes anew those buckets of its span that have no last refresh, or at which
-/// something is pending once the entries were fed, as ranges that are as long as can be. Each range is
-/// scanned once, and counts one step for each stored row in the chunks that meet it.
+/// The job of a refresh. It recomputes the buckets of its span that have no last refresh, or at which
+/// something is pending once the entries were fed, as maximal ranges. Each range is scanned once, and counts
+/// one step for each stored row in the chunks that meet it.
 pub fn build<R: Threads + Sync, W: RowsAt, L>(
     rt: &R,
     alloc: Global,
@@ -53,9 +53,8 @@ pub fn build<R: Threads + Sync, W: RowsAt, L>(
     build_ranges(rt, alloc, rows, def, refresh, spans, steps)
 }
 
-/// A job of a refresh that makes these ranges of whole buckets anew, of which no two hold the same
-/// bucket. Each is scanned once. It counts one step for each stored row in the chunks that meet the
-/// range.
+/// A job of a refresh that recomputes these ranges of whole buckets, no two of which hold the same bucket.
+/// Each is scanned once, and counts one step for each stored row in the chunks that meet it.
 pub fn build_ranges<R: Threads + Sync, W: RowsAt, L>(
     rt: &R,
     alloc: Global,

@@ -16,18 +16,18 @@ pub struct Refresh {
     pub span: Span,
 }
 
-/// What was made for a refresh.
+/// What a finish needs: the groups that were computed for a refresh.
 #[derive(Drop, Debug)]
 pub struct Job {
     /// The number of its aggregate.
     pub view: u32,
     /// The number of its cut.
     pub cut: u64,
-    /// The position of the snapshot that it was made from.
+    /// The position of the snapshot that it was computed from.
     pub snap: u64,
     /// The span of its cut.
     pub span: Span,
-    /// The ranges of buckets that it makes anew.
+    /// The ranges of buckets that it recomputes.
     pub spans: Seq<Span>,
     /// The groups of these ranges, in order.
     pub groups: MatRows,

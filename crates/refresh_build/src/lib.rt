@@ -1,4 +1,4 @@
-//! Jobs of refreshes: the groups of those ranges of buckets that a refresh makes anew.
+//! Jobs of refreshes: the groups of the ranges of buckets that a refresh recomputes.
 #![tactic(auto)]
 
 mod builds;

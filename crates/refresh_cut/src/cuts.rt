@@ -35,7 +35,7 @@ fn fed_logs(
     Ok(Seq::of(all))
 }
 
-/// An empty log whose threshold is that of a log, or `hi` where that is higher.
+/// An empty log whose threshold is that of a log, or `hi` if that is higher.
 fn empty_log(alloc: Global, log: &InvalLog, hi: i64) -> InvalLog
     ensures threshold { result.threshold ≡ int_max log.now.threshold hi }
     ensures entries { result.entries ≡ [] }
@@ -45,10 +45,9 @@ fn empty_log(alloc: Global, log: &InvalLog, hi: i64) -> InvalLog
     emptied
 }
 
-/// What a cut of a span that ends at `hi` makes of the log of a table and of the logs of all its
-/// aggregates: the threshold moves up to `hi`, where that is higher, the log is emptied, and every
-/// entry is fed to every aggregate. It costs the entries and the pieces of the aggregates, where the
-/// positions of the entries rise.
+/// Cuts a span that ends at `hi`: raises the threshold of the table's log to `hi`, if that is higher,
+/// empties the log, and feeds every entry to the logs of all aggregates of the table. If the positions of
+/// the entries rise, the cost grows with the entries and the pieces of the aggregates.
 pub fn cut(alloc: Global, log: &InvalLog, mats: &Seq<MatLog>, hi: i64) -> Result<CutParts, NoMemory>
     requires { All (AreWithin log.now.entries) mats.now }
     ensures threshold { IfOk result (λ parts. parts.log.threshold ≡ int_max log.now.threshold hi) }

@@ -61,7 +61,7 @@ none_left k p rs below l = past_below k p rs below ∙ by_rest p rs l
     by_rest (suc p) [] l = refl
     by_rest (suc p) (r ∷ rs) l = by_rest p rs (omega arith)
 
--- what is found is what stands at the place, where it has the number
+-- the refresh that is found is the one at the place, if it has the number
 pub found_there : (k p : ℕ) (d : Refresh) (rs : List Refresh) → CutsBelow k (take p rs) → p < length rs → (get_or rs p d).cut ≡ k → refresh_in rs k ≡ Some (get_or rs p d)
 found_there k p d rs below l is = past_below k p rs below ∙ by_rest p rs l is
   where
@@ -81,7 +81,7 @@ other_there k p low d rs rise below from l other = past_below k p rs below ∙ b
         none_above k (r ∷ rs) (above, from_less (suc r.cut) (suc k) rs (omega (arith, above)) (rise_from r.cut r.cut rs (omega arith) rise.1))
     by_rest low (suc p) (r ∷ rs) rise from l other = by_rest r.cut p rs rise.1 from (omega arith) other
 
--- what became of a refresh is told by the refresh
+-- whether a refresh is pending, finished or unknown follows from the refresh that is found
 pub pending_none : (k : ℕ) (rs : List Refresh) → refresh_in rs k ≡ None → pending_in rs k ≡ Unknown
 pending_none k [] e = refl
 pending_none k (r ∷ rs) e =
@@ -166,7 +166,7 @@ finished_none cut by (r ∷ rs) e =
       | false ↦ λ f. ap (λ xs. r ∷ xs) (finished_none cut by rs f)
     ] e
 
--- what stands at a place, whatever stands for nothing
+-- the item at a place doesn't depend on the default
 pub any_default : {X : Type 0} (xs : List X) (i : ℕ) (d e : X) → i < length xs → get_or xs i d ≡ get_or xs i e
 any_default [] i d e l = absurd (omega arith)
 any_default (x ∷ xs) zero d e l = refl

@@ -1,4 +1,4 @@
--- Laws of refreshes beside a history: what each event does to them.
+-- Laws of refreshes and histories: what each event does to the refreshes.
 use Rattle.std.specs.Prelude.{◌≡◌, ℕ, suc, Bool, true, false, List, [], ◌∷◌, ◌++◌, map}
 use Rattle.ts_bucket.specs.declared.spans.Span.{Span}
 use Rattle.ts_model.specs.declared.events.Event.{Event}

@@ -1,4 +1,4 @@
--- Refreshes in order of their cuts, beside a history.
+-- Refreshes in order of their cuts, compared with a history.
 use Rattle.std.specs.Prelude.{◌≡◌, ℕ, suc, ◌<◌, ◌≤◌, cond, nat_lt, ◌==◌, List, [], ◌∷◌, ◌++◌, length, map, take, drop, slice_index_or, Option, Some, None}
 use Rattle.std.specs.List.{AllByRecursion}
 use Rattle.ts_bucket.specs.declared.spans.Span.{Span}
@@ -17,12 +17,12 @@ use Rattle.refresh_list.specs.declared.refreshes.Stage.TheVariants.{Waits, Done}
 abbrev pub newly_cut : ℕ → ℕ → Span → Refresh
 newly_cut cut view span = record { cut = cut; stage = Waits view span }
 
--- what became of a refresh, by its stage
+-- whether a refresh is pending or finished, by its stage
 abbrev pub state_by : Stage → Pending
 state_by (Waits view span) = Waiting view
 state_by (Done k) = Finished k
 
--- what became of the refresh with a number
+-- whether the refresh with a number is pending, finished or unknown
 abbrev pub pending_in : List Refresh → ℕ → Pending
 pending_in [] k = Unknown
 pending_in (r ∷ rs) k = cond (k == r.cut) (state_by r.stage) (pending_in rs k)
@@ -54,18 +54,18 @@ of_waiting w = newly_cut w.cut w.view w.span
 abbrev pub of_done : FinishedRefresh → Refresh
 of_done f = record { cut = f.cut; stage = Done f.built }
 
--- how many of these stand before the first whose cut isn't before n
+-- how many of these come before the first with a cut at or after n
 abbrev pub count_below : ℕ → List FinishedRefresh → ℕ
 count_below n [] = 0
 count_below n (f ∷ fs) = cond (nat_lt f.cut n) (suc (count_below n fs)) 0
 
--- refreshes that wait, and finished ones: before each that waits stand the finished ones with cuts before it
+-- pending refreshes and finished ones, merged: before each pending one come the finished ones with earlier cuts
 abbrev pub together : List WaitingRefresh → List FinishedRefresh → List Refresh
 together [] fs = map of_done fs
 together (w ∷ ws) fs =
     map of_done (take (count_below w.cut fs) fs) ++ (of_waiting w ∷ together ws (drop (count_below w.cut fs) fs))
 
--- the refresh that is there with a number, if one is
+-- the refresh with a number, if there is one
 abbrev pub refresh_in : List Refresh → ℕ → Option Refresh
 refresh_in [] k = None
 refresh_in (r ∷ rs) k = cond (k == r.cut) (Some r) (refresh_in rs k)
@@ -110,15 +110,15 @@ abbrev pub IsCut : History → ℕ → Stage → Type 0
 IsCut h cut (Waits view span) = span_of_cut view h cut ≡ Some span
 IsCut h cut (Done k) = Unit {0}
 
--- the refreshes are those of a history: what became of each, which wait, the span of each of these, and none is from
--- after the history
+-- the refreshes are those of a history: the state of each, which are pending, the span of each of these, and none is
+-- from after the history
 pub record RefreshesStand (h : History) (refreshes : List Refresh) : Type 0 where
   pub pending : (k : ℕ) → pending_in refreshes k ≡ pending h k
   pub waiting : waiting_in refreshes ≡ waiting h
   pub spans : AllByRecursion (λ r. IsCut h r.cut r.stage) refreshes
   pub past : CutsBelow (suc (position h)) refreshes
 
--- the refresh with number k stands at place p
+-- the refresh with number k is at place p
 pub record StandsAt (rs : List Refresh) (k p : ℕ) : Type 0 where
   pub within : p < length rs
   pub named : (d : Refresh) → (slice_index_or rs p d).cut ≡ k

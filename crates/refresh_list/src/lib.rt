@@ -1,4 +1,4 @@
-//! The refreshes that were cut, in order of their cuts: which wait, and which event finished each.
+//! The refreshes that were cut, in order of their cuts: which are pending, and which event finished each.
 #![tactic(auto)]
 
 pub mod laws;

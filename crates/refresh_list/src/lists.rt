@@ -51,7 +51,7 @@ fn first_from(list: &BlockList<Refresh>, cut: u64) -> usize
     low
 }
 
-/// The place of the refresh with this number, if it is there.
+/// The place of the refresh with this number, if there is one.
 fn place_of(list: &BlockList<Refresh>, cut: u64) -> Option<usize>
     requires rise { CutsRise 0 list.now.items }
     ensures place { IsPlace list.now.items cut result }
@@ -67,7 +67,7 @@ fn place_of(list: &BlockList<Refresh>, cut: u64) -> Option<usize>
     }
 }
 
-/// What became of a refresh.
+/// Whether a refresh is pending or finished.
 fn state_of(refresh: Refresh) -> Pending
     ensures { result ≡ state_by refresh.stage }
 {
@@ -109,7 +109,7 @@ fn with_mark(
 }
 
 impl Refreshes {
-    /// No refresh. It takes no memory.
+    /// No refresh. It allocates no memory.
     pub fn new(alloc: Global) -> Refreshes
         ensures none { result ≡ [] }
     {
@@ -118,7 +118,7 @@ impl Refreshes {
         }
     }
 
-    /// Refreshes that wait, and others that were finished, each in order of their cuts.
+    /// Pending refreshes and finished ones, each in order of their cuts.
     pub fn of(alloc: Global, waiting: &[Waiting], done: &[Finished]) -> Result<Refreshes, NoMemory>
         requires rise { CutsRise 0 (together waiting.now done.now) }
         ensures together { IfOk result (λ new. new ≡ together waiting.now done.now) }
@@ -130,7 +130,7 @@ impl Refreshes {
         })
     }
 
-    /// The same refreshes again. It is a count.
+    /// Another owner of the same refreshes. It only increments a reference count.
     pub fn copy(&self) -> Result<Refreshes, NoMemory>
         ensures same { IfOk result (λ copy. copy ≡ self.now) }
     {
@@ -139,7 +139,7 @@ impl Refreshes {
         })
     }
 
-    /// The refresh with this number, where it isn't finished.
+    /// The refresh with this number, if it is pending.
     pub fn find_waiting(&self, cut: u64) -> Option<Waiting>
         ensures found { result ≡ waits_in self.now cut }
     {
@@ -149,7 +149,7 @@ impl Refreshes {
         }
     }
 
-    /// The refresh with this number, if it is there.
+    /// The refresh with this number, if there is one.
     fn find(&self, cut: u64) -> Option<Refresh>
         ensures found { result ≡ refresh_in self.now cut }
     {
@@ -159,7 +159,7 @@ impl Refreshes {
         }
     }
 
-    /// What became of the refresh with this number.
+    /// Whether the refresh with this number is pending, finished or unknown.
     pub fn pending(&self, cut: u64) -> Pending
         ensures pending { result ≡ pending_in self.now cut }
     {
@@ -198,7 +198,7 @@ impl Refreshes {
         }
     }
 
-    /// The refreshes that aren't finished, in order of their cuts. It looks at all refreshes, finished ones too.
+    /// The pending refreshes, in order of their cuts. It reads all refreshes, finished ones too.
     pub fn waiting(&self) -> Result<Seq<Waiting>, NoMemory>
         ensures waiting { IfOk result (λ found. found ≡ waiting_in self.now) }
     {
@@ -209,7 +209,7 @@ impl Refreshes {
         Ok(found)
     }
 
-    /// The refreshes that are finished, in order of their cuts.
+    /// The finished refreshes, in order of their cuts.
     pub fn done(&self) -> Result<Seq<Finished>, NoMemory>
         ensures done { IfOk result (λ found. found ≡ done_in self.now) }
         ensures rise { CutsRise 0 self.now }
@@ -222,7 +222,7 @@ impl Refreshes {
     }
 }
 
-/// How many of these stand before the first whose cut isn't before a number.
+/// How many of these come before the first with a cut at or after a number.
 fn count_below(cut: u64, done: &[Finished]) -> usize
     ensures count { result ≡ count_below cut done.now }
     ensures within { result ≤ length done.now }
@@ -239,7 +239,7 @@ fn count_below(cut: u64, done: &[Finished]) -> usize
     count
 }
 
-/// Appends a refresh that waits.
+/// Appends a pending refresh.
 fn push_next(list: &mut BlockList<Refresh>, next: &Waiting) -> Result<(), NoMemory>
     ensures { IfOk result (λ _. list.new.items ≡ list.old.items ++ of_waiting next.now ∷ []) }
 {
@@ -252,7 +252,7 @@ fn push_next(list: &mut BlockList<Refresh>, next: &Waiting) -> Result<(), NoMemo
     })
 }
 
-/// Appends refreshes that were finished.
+/// Appends finished refreshes.
 fn push_done(list: &mut BlockList<Refresh>, done: &[Finished]) -> Result<(), NoMemory>
     ensures { IfOk result (λ _. list.new.items ≡ list.old.items ++ map of_done done.now) }
 {
@@ -265,7 +265,7 @@ fn push_done(list: &mut BlockList<Refresh>, done: &[Finished]) -> Result<(), NoM
     Ok(())
 }
 
-/// Appends refreshes that wait, and before each the finished ones with cuts before it.
+/// Appends pending refreshes, and before each the finished ones with earlier cuts.
 fn push_together(
     list: &mut BlockList<Refresh>,
     waiting: &[Waiting],
@@ -285,7 +285,7 @@ fn push_together(
     push_done(list, finished)
 }
 
-/// Appends a refresh where it is finished.
+/// Appends a refresh, if it is finished.
 fn push_finished(found: &mut Seq<Finished>, refresh: &Refresh) -> Result<(), NoMemory>
     ensures { IfOk result (λ _. found.new ≡ found.old ++ done_in (refresh.now ∷ [])) }
 {
@@ -298,7 +298,7 @@ fn push_finished(found: &mut Seq<Finished>, refresh: &Refresh) -> Result<(), NoM
     }
 }
 
-/// A refresh, where it isn't finished.
+/// A refresh, if it is pending.
 fn as_waiting(refresh: &Refresh) -> Option<Waiting>
     ensures { result ≡ as_waiting refresh.now.cut refresh.now.stage }
 {
@@ -312,7 +312,7 @@ fn as_waiting(refresh: &Refresh) -> Option<Waiting>
     }
 }
 
-/// Appends a refresh where it isn't finished.
+/// Appends a refresh, if it is pending.
 fn push_waiting(found: &mut Seq<Waiting>, refresh: &Refresh) -> Result<(), NoMemory>
     ensures { IfOk result (λ _. found.new ≡ found.old ++ waiting_in (refresh.now ∷ [])) }
 {

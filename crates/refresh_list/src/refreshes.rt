@@ -1,4 +1,4 @@
-//! One refresh, and what became of it.
+//! One refresh, and its stage.
 
 use ts_bucket::Span;
 
@@ -7,14 +7,14 @@ use ts_bucket::Span;
 pub struct Refresh {
     /// Its number, which is that of its cut.
     pub cut: u64,
-    /// What became of it.
+    /// Its stage.
     pub stage: Stage,
 }
 
-/// What became of a refresh.
+/// The stage of a refresh.
 #[derive(Clone, Copy, Debug, PartialEq, Eq)]
 pub enum Stage {
-    /// It waits: the number of its aggregate, and its span of whole buckets.
+    /// It is pending: the number of its aggregate, and its span of whole buckets.
     Waits { view: u32, span: Span },
     /// The event with this number finished it.
     Done(u64),

@@ -1,4 +1,4 @@
--- The texts of a log and of what is pending.
+-- The texts of a log and of pending refreshes.
 use Rattle.std.specs.Prelude.{ℕ, ℤ, Bool, List, [], ◌∷◌, ◌++◌, length, codes, decimal, Option, Some, None, if◌then◌else◌, slice_get}
 use Rattle.std.specs.Fmt.{signed_decimal}
 use Rattle.ts_bucket.specs.Bucket.{first_of}
@@ -49,7 +49,7 @@ view_text def (Some info) =
     (codes "VIEW " ++ def.name) ++ (codes " " ++ info.def.name) ++ (codes " " ++ signed_decimal def.fold.width.step) ++
     (codes " " ++ signed_decimal def.fold.width.shift)
 
--- a mode, where 1 is materialised only
+-- a mode: 1 is materialized only
 abbrev pub mode_word : Bool → List ℕ
 mode_word only = if only then codes " 1" else codes " 0"
 
@@ -83,10 +83,10 @@ log_text number roster event = codes "@" ++ decimal number ++ codes " " ++ event
 abbrev pub history_text : ℕ → List ℕ
 history_text pos = codes "HISTORY @" ++ decimal pos ++ codes "\n"
 
--- a refresh that waits, by its cut and the name of its aggregate
+-- a pending refresh: its number and the name of its aggregate
 abbrev pub pending_head : ℕ → List ℕ → List ℕ
 pending_head cut name = codes "PENDING " ++ decimal cut ++ codes " " ++ name
 
--- a refresh of an aggregate that waits
+-- a pending refresh of an aggregate, as a line
 abbrev pub pending_text : ℕ → List ℕ → Span → ℤ → List ℕ
 pending_text cut name span min = pending_head cut name ++ span_end min span

@@ -13,7 +13,7 @@ pub record Entry : Type 0 where
 abbrev pub entry_named : List ℕ → Tail → Entry
 entry_named word tail = record { word = word; tail = tail }
 
--- the table of refusals; a number that isn't in it has no word of its own
+-- the table of refusals; the word of any other number is `unnamed`
 abbrev pub entry_of : ℕ → Entry
 entry_of code =
     if code == line_long then entry_named (codes "line_long") Bare
@@ -48,7 +48,7 @@ entry_of code =
     else if code == history_full then entry_named (codes "history_full") Position
     else entry_named (codes "unnamed") Bare
 
--- the position looked at
+-- the read position
 abbrev pub position_text : ℕ → List ℕ
 position_text pos = codes " @" ++ decimal pos
 

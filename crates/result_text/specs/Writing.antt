@@ -1,7 +1,7 @@
--- A text that is written behind what stands in a buffer.
+-- A text that is appended to a buffer.
 use Rattle.std.specs.Prelude.{ℕ, List}
 
--- what stood in the buffer, and what is written behind it
+-- what the buffer held, and what was appended
 pub record Written : Type 0 where
   pub before : List ℕ
   pub after : List ℕ

@@ -26,8 +26,8 @@ pub fn put_answer(answer: &Answer, pos: u64, min: i64, out: &mut Vec<u8>) -> Res
     text.finish(written, out)
 }
 
-/// The same of an answer to a write block with so many operations queued, which its first line says. It is
-/// for callers without sessions; the program writes it behind the name of one, by `put_reply`.
+/// Appends an answer in a write block: like `put_answer`, and the first line says that `queue` operations are queued.
+/// It is for callers without sessions; the program calls `put_reply`, which writes the session's name first.
 pub fn put_queued_answer(
     answer: &Answer,
     pos: u64,
@@ -82,7 +82,7 @@ fn put_head(
     put_counts(text, rows, stale)
 }
 
-/// Appends where an answer stands.
+/// Appends the position of an answer, and how many operations are queued.
 fn put_place(text: &mut Text, pos: u64, queue: Option<u64>) -> Result<(), NoMemory>
     ensures written { OnOk result (text.new.after ≡ text.old.after ++ answer_place pos queue) }
     ensures kept { text.new.before ≡ text.old.before }
@@ -176,7 +176,7 @@ fn put_more(text: &mut Text, more: &[Datum]) -> Result<(), NoMemory>
     Ok(())
 }
 
-/// Appends the cells of a group, of which none is made.
+/// Appends the cells of a group, without building them.
 #[tactic(auto, using(crate::proofs::Appending::cells_in_two))]
 fn put_group(text: &mut Text, row: &GroupRow<'_>) -> Result<(), NoMemory>
     ensures written { OnOk result (text.new.after ≡ text.old.after ++ cells_text (group_cells row.now)) }
@@ -229,7 +229,7 @@ fn put_parts(text: &mut Text, aggs: &[Agg], parts: &[Partial]) -> Result<(), NoM
     Ok(())
 }
 
-/// Appends the cells at these places of a group's row, of which none is made.
+/// Appends the cells at these places of a group's row, without building them.
 fn put_chosen(text: &mut Text, places: &[u32], row: &GroupRow<'_>) -> Result<(), NoMemory>
     ensures written { OnOk result (text.new.after
         ≡ text.old.after ++ cells_text (chosen_cells places.now (group_cells row.now))) }

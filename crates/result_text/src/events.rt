@@ -1,4 +1,4 @@
-//! The texts of a log and of what is pending.
+//! The texts of a log and of pending refreshes.
 ghost use Rattle.std.specs.Prelude.{◌≡◌, ◌++◌, codes, decimal, Some, OnErr, OnOk};
 ghost use Rattle.std.specs.Fmt.{signed_decimal};
 ghost use Rattle.result_text.specs.Spans.{span_text};
@@ -11,8 +11,7 @@ use ts_bucket::{Span, first};
 use ts_model::{Event, Hyper, Roster, TableDef, TableInfo, ViewDef};
 use ts_schema::{Column, Name, NoMemory};
 
-/// Appends the line of a log for an event: its number, and what it is. What isn't in the
-/// roster is left out.
+/// Appends the line of a log for an event: its number, and what it is. It omits what isn't in the roster.
 pub fn put_event(
     number: u64,
     event: &Event,
@@ -37,8 +36,7 @@ pub fn put_history(pos: u64, out: &mut Vec<u8>) -> Result<(), NoMemory>
     text.finish(written, out)
 }
 
-/// Appends the line of a refresh that waits, of the aggregate with this name; `min` is the start of its
-/// first bucket.
+/// Appends the line of a pending refresh, of the aggregate with this name; `min` is the start of its first bucket.
 pub fn put_pending(
     cut: u64,
     name: &Name,
@@ -64,7 +62,7 @@ fn put_history_line(text: &mut Text, pos: u64) -> Result<(), NoMemory>
     text.bytes(b"\n")
 }
 
-/// Appends a refresh that waits as a line.
+/// Appends a pending refresh as a line.
 #[tactic(auto, using(crate::proofs::Appending::two_pieces))]
 fn put_pending_line(
     text: &mut Text,
@@ -80,7 +78,7 @@ fn put_pending_line(
     put_span_end(text, min, span)
 }
 
-/// Appends a refresh that waits, by its cut and the name of its aggregate.
+/// Appends a pending refresh: its number and the name of its aggregate.
 fn put_waiting(text: &mut Text, cut: u64, name: &Name) -> Result<(), NoMemory>
     ensures written { OnOk result (text.new.after ≡ text.old.after ++ pending_head cut name.now) }
     ensures kept { text.new.before ≡ text.old.before }
@@ -195,7 +193,7 @@ fn put_spaced(text: &mut Text, n: i64) -> Result<(), NoMemory>
     text.push_signed(i128::from(n))
 }
 
-/// Appends a space and the name of the column at a place, where it is there.
+/// Appends a space and the name of the column at a place, if it exists.
 fn put_column_name(text: &mut Text, columns: &[Column], place: u32) -> Result<(), NoMemory>
     ensures written { OnOk result (text.new.after ≡ text.old.after ++ place_text columns.now place) }
     ensures kept { text.new.before ≡ text.old.before }
@@ -250,7 +248,7 @@ fn put_mode_of(text: &mut Text, def: &ViewDef, only: bool) -> Result<(), NoMemor
     text.bytes(word_of_mode(only))
 }
 
-/// A mode, where 1 is materialised only.
+/// Returns the text of a mode: 1 for materialized only, or 0.
 fn word_of_mode(only: bool) -> &'static [u8]
     ensures { result.now ≡ mode_word only }
 {
@@ -269,7 +267,7 @@ fn put_commit(text: &mut Text, ops: u64) -> Result<(), NoMemory>
     text.number(ops)
 }
 
-/// Appends that a refresh was begun.
+/// Appends that a refresh was cut.
 fn put_cut(text: &mut Text, roster: &Roster, view: u32, span: Span) -> Result<(), NoMemory>
     ensures written { OnOk result (text.new.after ≡ text.old.after ++ cut_text span (view_of roster.now view)) }
     ensures kept { text.new.before ≡ text.old.before }
@@ -280,7 +278,7 @@ fn put_cut(text: &mut Text, roster: &Roster, view: u32, span: Span) -> Result<()
     }
 }
 
-/// Appends that a refresh of this aggregate was begun.
+/// Appends that a refresh of this aggregate was cut.
 #[tactic(auto, using(crate::proofs::Appending::two_pieces))]
 fn put_cut_of(text: &mut Text, def: &ViewDef, span: Span) -> Result<(), NoMemory>
     ensures written { OnOk result (text.new.after ≡ text.old.after ++ cut_text span (Some def.now)) }

@@ -1,6 +1,6 @@
-//! The texts that the program writes: replies, answers, refusals, the lines of a log, what is pending,
-//! and the summary of a demonstration. Each is appended whole, or, where memory runs out, the buffer is
-//! as before.
+//! The texts that the program writes: replies, answers, refusals, the lines of a log, pending refreshes, and the
+//! summary of a demonstration. Each function appends its whole text, or leaves the buffer as it was if it runs out
+//! of memory.
 #![tactic(auto)]
 
 mod answers;

@@ -1,5 +1,5 @@
-//! The pieces of a text that is written behind what stands in a buffer. After an error the text is in
-//! part there: then the buffer is cut back to what stood in it before.
+//! The pieces of a text that is appended to a buffer. If an error leaves the text incomplete, the buffer is cut back
+//! to what it held before.
 ghost use Rattle.std.specs.Prelude.{◌≡◌, ◌++◌, [], decimal, OnErr, OnOk};
 ghost use Rattle.std.specs.Fmt.{signed_decimal};
 ghost use Rattle.ts_num.specs.Texts.{datum_text};
@@ -10,12 +10,12 @@ use std::mem;
 use ts_num::{Datum, put_datum, put_int};
 use ts_schema::NoMemory;
 
-/// A text that is written behind what stands in a buffer.
+/// A text that is appended to a buffer.
 #[derive(Drop)]
 pub(crate) struct Text {
-    /// What stood in the buffer, and behind it the text.
+    /// What the buffer held, and then the text.
     buffer: Vec<u8>,
-    /// How many bytes stood there.
+    /// How many bytes the buffer held.
     start: usize,
 }
 
@@ -31,7 +31,7 @@ impl Model for Text {
 }
 
 impl Text {
-    /// An empty text behind what stands in a buffer, which it takes.
+    /// Takes the buffer, and returns an empty text after its contents.
     #[tactic(auto, using(crate::proofs::Writing::cut_at_end))]
     pub(crate) fn behind(out: &mut Vec<u8>) -> Text
         ensures before { result.before ≡ out.old.items }
@@ -43,7 +43,7 @@ impl Text {
         Text { buffer, start }
     }
 
-    /// Gives the buffer back: with the whole text, or, after an error, as it was.
+    /// Returns the buffer to `out`: with the whole text, or, after an error, as it was.
     #[tactic(auto, using(crate::proofs::Writing::cut_joined))]
     pub(crate) fn finish(
         self,

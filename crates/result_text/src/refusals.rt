@@ -13,17 +13,17 @@ pub enum Tail {
     Bare,
     /// A place in the line.
     Place,
-    /// The position looked at.
+    /// The read position.
     Position,
-    /// The position looked at, and what finished the refresh.
+    /// The read position, and the event that finished the refresh.
     Finish,
-    /// The position looked at, and a count.
+    /// The read position, and a count.
     Count,
-    /// The position looked at, and a number of bytes.
+    /// The read position, and a number of bytes.
     Bytes,
 }
 
-/// What the text of a refusal has by its number.
+/// What the text of a refusal has for its number.
 #[derive(Clone, Copy)]
 struct Entry {
     /// Its word.
@@ -32,8 +32,8 @@ struct Entry {
     tail: Tail,
 }
 
-/// Appends a refusal as a line: `FAULT`, its number, its word and its tail. It is for callers without
-/// sessions; the program writes it behind the name of one, by `put_reply`.
+/// Appends a refusal as a line: `FAULT`, its number, its word and its tail. It is for callers without sessions; the
+/// program calls `put_reply`, which writes the session's name first.
 pub fn put_refusal(refusal: &Refusal, out: &mut Vec<u8>) -> Result<(), NoMemory>
     ensures appended { OnOk result (out.new.items ≡ out.old.items ++ refusal_text refusal.now) }
     ensures kept { OnErr result (out.new.items ≡ out.old.items) }
@@ -100,7 +100,7 @@ pub(crate) fn put_marked(text: &mut Text, word: &[u8], mark: u64) -> Result<(), 
     text.number(mark)
 }
 
-/// Appends the position looked at.
+/// Appends the read position.
 fn put_position(text: &mut Text, pos: u64) -> Result<(), NoMemory>
     ensures written { OnOk result (text.new.after ≡ text.old.after ++ position_text pos) }
     ensures kept { text.new.before ≡ text.old.before }
@@ -108,7 +108,7 @@ fn put_position(text: &mut Text, pos: u64) -> Result<(), NoMemory>
     put_marked(text, b" @", pos)
 }
 
-/// Appends the event that finished a refresh, where it was finished.
+/// Appends the event that finished a refresh, if it was finished.
 fn put_finish(text: &mut Text, finish: u64) -> Result<(), NoMemory>
     ensures written { OnOk result (text.new.after ≡ text.old.after ++ finish_text finish) }
     ensures kept { text.new.before ≡ text.old.before }
@@ -119,7 +119,7 @@ fn put_finish(text: &mut Text, finish: u64) -> Result<(), NoMemory>
     }
 }
 
-/// A word and a tail.
+/// Returns the entry with this word and tail.
 fn entry_named(word: &'static [u8], tail: Tail) -> Entry
     ensures word { result.word.now ≡ word.now }
     ensures tail { result.tail ≡ tail }
@@ -127,7 +127,7 @@ fn entry_named(word: &'static [u8], tail: Tail) -> Entry
     Entry { word, tail }
 }
 
-/// The table of refusals.
+/// Returns the entry of a refusal by its number.
 fn entry_for(code: u8) -> Entry
     ensures word { result.word.now ≡ (entry_of code).word }
     ensures tail { result.tail ≡ (entry_of code).tail }

@@ -11,10 +11,10 @@ use ts_bucket::Span;
 use ts_model::{Answer, Committed, Refusal};
 use ts_schema::{Name, NoMemory};
 
-/// What a line of a reply says. Positions are those of a history, and numbers those of events. Of a refresh `cut`
-/// is the number, `pos` that of the event which finished it, `snap` the position of its snapshot, and `span` the
-/// range of its buckets, without the end. `min` is the start of the first bucket of the aggregate, or of its
-/// roll-up: a range that begins there is printed with `min`.
+/// What a line of a reply says. Positions are those of a history, and numbers those of events. `cut` is the number of
+/// a refresh, `pos` the number of the event that finished it, `snap` the position of its snapshot, and `span` the
+/// half-open range of its buckets. `min` is the start of the first bucket of the aggregate, or of its roll-up: a
+/// range that begins there is printed with `min`.
 #[derive(Drop, Debug)]
 pub enum Said {
     /// A table was made, by the event with this number.
@@ -27,9 +27,9 @@ pub enum Said {
     Mode(u64),
     /// Operations took effect.
     Commit(Committed),
-    /// An operation waits for its block to end.
+    /// An operation was queued until its block ends.
     Queued,
-    /// A refresh was cut, built and finished.
+    /// A refresh was cut, computed and finished.
     Refresh {
         cut: u64,
         pos: u64,
@@ -39,7 +39,7 @@ pub enum Said {
     },
     /// There was nothing to refresh at this position.
     Nothing(u64),
-    /// A refresh was begun.
+    /// A refresh was cut.
     Cut {
         cut: u64,
         span: Span,
@@ -66,7 +66,7 @@ pub enum Said {
     Rollback,
     /// A read block ends.
     End,
-    /// A query is answered at a position, in a write block with so many operations queued, if in one.
+    /// A query was answered at a position. `queue` is how many operations are queued, if in a write block.
     Answered {
         answer: Answer,
         pos: u64,
@@ -78,7 +78,7 @@ pub enum Said {
         number: u64,
         pos: u64,
     },
-    /// It is this time, at which so many policies are due.
+    /// A tick at this time, at which `due` policies are due.
     Tick {
         time: i64,
         due: u64,
@@ -87,7 +87,7 @@ pub enum Said {
     Fault(Refusal),
 }
 
-/// Appends a reply of a session.
+/// Appends a line of a reply, after the name of its session.
 pub fn put_reply(session: &Name, said: &Said, out: &mut Vec<u8>) -> Result<(), NoMemory>
     ensures appended { OnOk result (out.new.items ≡ out.old.items ++ reply_text session.now said.now) }
     ensures kept { OnErr result (out.new.items ≡ out.old.items) }

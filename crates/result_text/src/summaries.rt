@@ -8,14 +8,14 @@ use crate::pieces::Text;
 use ts_bucket::Span;
 use ts_schema::{NoMemory, Seq};
 
-/// What a demonstration came to.
+/// The results of a demonstration.
 #[derive(Drop, Debug)]
 pub struct Summary {
     /// Its number.
     pub number: u64,
     /// How many events there are.
     pub events: u64,
-    /// How many rows were inserted, less those removed.
+    /// How many rows were inserted, less those deleted.
     pub rows: u64,
     /// How many rows the last answer has.
     pub groups: u64,
@@ -23,9 +23,9 @@ pub struct Summary {
     pub total: i128,
     /// The stale ranges of that answer.
     pub stale: Seq<Span>,
-    /// The start of the first bucket.
+    /// The start of the first bucket; a range that begins there is printed with `min`.
     pub min: i64,
-    /// How many stored rows were looked at.
+    /// How many stored rows were read.
     pub reads: u64,
 }
 

@@ -24,7 +24,7 @@ rows_seen p table = in_order (visible_rows p table.versions)
 abbrev pub rows_of_span : SpanValue → List Row → List Row
 rows_of_span s rows = filter (λ row. in_span s row.at) rows
 
--- died at p or before, or not at all
+-- deleted at p or before, or not at all
 abbrev pub died_by : ℕ → Option ℕ → Bool
 died_by p None = true
 died_by p (Some d) = nat_le d p

@@ -33,8 +33,8 @@ impl Effect {
         }
     }
 
-    /// The same after these rows were inserted. A count past its type's end is answered as want of
-    /// memory, which that many rows would be.
+    /// The same after these rows were inserted. Fails as out of memory if the count doesn't fit its type: so
+    /// many rows don't fit into memory either.
     pub fn and_inserted(self, rows: &[Row]) -> Result<Effect, NoMemory>
         ensures inserted { IfOk result (λ e. e.inserted ≡ self.inserted + length rows.now) }
         ensures removed { IfOk result (λ e. e.removed ≡ self.removed) }

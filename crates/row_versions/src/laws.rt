@@ -16,7 +16,7 @@ pub fn commits_are_held()
     ensures { CommitsAreHeld }
 {}
 
-/// The effect that `apply` tells is that of the commit.
+/// The effect that `apply` returns is that of the commit.
 pub fn effects_are_of_commits()
     ensures { EffectsAreOfCommits }
 {}
@@ -31,8 +31,8 @@ pub fn others_are_held()
     ensures { OthersAreHeld }
 {}
 
-/// What `scan` and `last` tell of a table that holds a history: the rows of the history at every
-/// position, the rows ever inserted in the chunks that are looked at, and the last bucket with a row.
+/// What `scan` and `last` return for a table that holds a history: the rows of the history at every position,
+/// the rows ever inserted in the chunks that are read, and the last bucket with a row.
 pub fn held_tables_tell()
     ensures { HeldTablesTell }
 {}

@@ -1,7 +1,7 @@
 //! Tables of rows under the operations of commits.
 //!
-//! A table keeps every row that was ever inserted, with the positions at which it was born and died.
-//! A commit makes a new table that shares what it leaves alone with the old one.
+//! A table keeps every row that was ever inserted, with the positions at which it was inserted and deleted. A
+//! commit creates a new table, which shares with the old one what the commit doesn't change.
 #![tactic(auto)]
 
 mod effects;

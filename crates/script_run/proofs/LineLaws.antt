@@ -1,4 +1,4 @@
--- What lines of a script come to over a store that is alone and goes on.
+-- The outcome of lines of a script on a store that is alone and hasn't stopped.
 use Rattle.std.proofs.Common.{◌≡◌, ℕ, ◌<◌, ◌≤◌, Bool, true, false, List, cond, nat_lt, length, take, Option, Some, None, Result, Ok, Err, IsTrue, refl, sym, ap, ◌∙◌, ◌^◌, subst, true≢false, lt-ltb, le-ltb, inl, inr, arith}
 use Rattle.std.specs.Prelude.{◌⊎◌}
 use Rattle.ts_schema.specs.Counts.{raised_by}
@@ -99,7 +99,7 @@ same_answered line_result reply s script_state count small going replied e none 
   counted = subst (λ n. count ≡ raised_by n count) (sym none) (unraised count small);
 }
 
--- a line that was given up for want of memory before it did anything
+-- a line that ran out of memory before it did anything
 pub not_executed : {P : Type 0} (line_result : LineResult P) (s : State) (count : ℕ) → stands_still s ≡ false → Begins s.history line_result.script_state.history → LineBroken line_result s s count count
 not_executed line_result s count going longer = record { between = record { began = same; within = longer }; went = went_same s s going refl; counted = omega arith }
 
@@ -149,7 +149,7 @@ long_line semantics s n line many =
     let long : nat_lt longest_line (length line) ≡ true = lt-ltb longest_line (length line) many in
     ap (λ b. cond b (refused_line s n line_long) (executes_kind semantics s n line (line_kind line))) long
 
--- ---- each line goes on from its script state
+-- ---- each line continues from its script state
 
 pub turn_begins : {P : Type 0} (s : ScriptState P) (name : List ℕ) (procedure : Procedure (Turn P)) → Begins s.history (takes_turn s name procedure).script_state.history
 turn_begins s name procedure = begins_after procedure s.history

@@ -76,7 +76,7 @@ module _ {P : Type 0} (semantics : Semantics P) (h : History) where
         ∙ (λ i. reads_of semantics h done + ((executes semantics (f i) (number i) line).reads + 0))
         ∙ plus_none (reads_of semantics h done) (executes semantics script_state n line).reads
 
-    -- what the line comes to there
+    -- the result of the line there
     executed_then : executes semantics (script_state_after semantics h done) (suc (length done)) line ≡ executes semantics script_state n line
     executed_then = (λ i. executes semantics (f i) (e i) line)
 

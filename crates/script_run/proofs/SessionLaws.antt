@@ -169,7 +169,7 @@ module _ {A T J : Type 0} (actors : Actor A T J) where
     member_on : (n : ℕ) (e : Vec ℕ × A) → IsMember actors g n e → IsMember actors h n e
     member_on n e m = record { name = m.name; number_known = m.number_known; holds_well = on e.1 g h went m.holds_well }
 
-    -- as the store goes on
+    -- as the store continues
     pub sessions_on : (n : ℕ) (entries : List (Vec ℕ × A)) → AreSessionsFrom actors g n entries → AreSessionsFrom actors h n entries
     sessions_on n [] c = tt
     sessions_on n (x ∷ xs) c = (member_on n x c.0, sessions_on (suc n) xs c.1)

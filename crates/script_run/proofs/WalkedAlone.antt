@@ -1,4 +1,4 @@
--- How a procedure goes over a store that is alone and goes on.
+-- How a procedure runs on a store that is alone and hasn't stopped.
 use Rattle.std.proofs.Common.{◌≡◌, Bool, true, false, None, sym, refl, ap, ◌∙◌, subst, inl, inr}
 use Rattle.std.specs.Prelude.{IsTrue, is_some, ◌⊎◌}
 use Rattle.std.proofs.lemmas.Bool.{true≢false}
@@ -29,7 +29,7 @@ went_made e a b m = record { still = ap is_some m.failed; faults = m.faults; ori
 went_failed : (e : Event) (a b : State) → Fails e a b → WentOn true a b
 went_failed e a b f = record { still = ap is_some f.failed; faults = f.faults; origin = f.origin }
 
--- a store that goes on stands still nowhere
+-- a store can't be both running and stopped
 goes : {X : Type 0} {b : Bool} → b ≡ false → IsTrue b → X
 goes going still = absurd (true≢false (sym still ∙ going))
 
@@ -38,7 +38,7 @@ seen_alone : (old found : State) → Sees true old found → found ≡ old
 seen_alone old found (inl e) = e
 seen_alone old found (inr f) = f.alone_found refl
 
--- ---- a store that stands still is left as it was
+-- ---- a stopped store stays as it was
 
 still_none : {X : Type 0} (s : State) → IsTrue (stands_still s) → s.failed ≡ None → X
 still_none s still none = absurd (true≢false (sym (subst (λ x. IsTrue (is_some x)) none still)))
@@ -113,7 +113,7 @@ module _ {A : Type 0} (e : Event) (next stop : Procedure A) (old mid new : State
     went = went_trans false old mid new (went_made e old mid m) w.went;
   }
 
-  -- the disk failed at the event, and the store was left as it stood still
+  -- the disk failed at the event, and the store was left as it had stopped
   failed_here : Fails e old mid → new ≡ mid → WalkedFailed (adds e next stop) old new
   failed_here f left =
       let there : new.history ≡ old.history = ap (λ s. s.history) left ∙ f.history in

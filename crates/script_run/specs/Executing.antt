@@ -12,8 +12,8 @@ use Rattle.ts_sessions.specs.Sessions.{IfAnswered}
 use Rattle.script_run.specs.LineEnds.{LineExecuted}
 use Rattle.script_run.specs.Sessions.{AreSessions, script_over, waiting_in}
 
--- sessions can take a line of so many bytes: their store is alone and goes on, and there is room in their queues. So
--- many rows were read before
+-- sessions can execute a line of so many bytes: their store is alone and hasn't stopped, and there is room in their
+-- queues. So many rows were read before
 pub record AreReady {A T J : Type 0} (actors : Actor A T J) (alone : Bool) (s : State) (entries : List (Vec ℕ × A))
     (bytes read : ℕ) : Type 0 where
   pub by_itself : IsTrue alone

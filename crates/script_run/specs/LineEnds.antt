@@ -15,7 +15,7 @@ pub record RepliesWith (text : List ℕ) (fault : Bool) (reply : ReplyMade) : Ty
   pub text_is : reply.text ≡ text
   pub fault_is : reply.fault ≡ fault
 
--- a line came to what it should come to, and the store goes on
+-- a line had the outcome that it should have, and the store hasn't stopped
 pub record LineAnswered {P : Type 0} (line_result : LineResult P) (reply : ReplyMade) (old new : State)
     (script_state : ScriptState P) (before after : ℕ) : Type 0 where
   pub replied : RepliesWith line_result.text line_result.fault reply
@@ -29,7 +29,7 @@ pub record LineFailed {P : Type 0} (line_result : LineResult P) (old new : State
   pub went : WentOn true old new
   pub counted : before ≤ after
 
--- a line that should come to this was broken off for want of memory
+-- a line that should have this outcome ended because memory ran out
 pub record LineBroken {P : Type 0} (line_result : LineResult P) (old new : State) (before after : ℕ) : Type 0 where
   pub between : IsBetween old.history line_result.script_state.history new
   pub went : WentOn false old new

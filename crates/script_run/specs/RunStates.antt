@@ -1,11 +1,11 @@
--- How a store that is alone and goes on is left.
+-- How a store that was alone and hadn't stopped is left.
 use Rattle.std.specs.Prelude.{◌≡◌, Bool, Some}
 use Rattle.ts_io.specs.Faults.{Counted}
 use Rattle.ts_model.specs.declared.events.Event.{Event}
 use Rattle.ts_model.specs.History.{History, ◌▸◌, Begins}
 use Rattle.ts_model.specs.States.{State, stands_still}
 
--- its disk failed or not: where it did, and only there, the count of faults rose and the store stands still
+-- its disk failed or not: exactly if it did, the count of faults rose and the store has stopped
 pub record WentOn (failed : Bool) (old new : State) : Type 0 where
   pub still : stands_still new ≡ failed
   pub faults : Counted old.faults new.faults failed

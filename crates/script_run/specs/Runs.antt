@@ -17,7 +17,7 @@ executed_lines input = lines_within INPUT_LIMIT input
 
 -- ---- a script over a history, whose lines count from 1
 
--- where it comes to
+-- the script state that it leads to
 abbrev pub script_state_after : {P : Type 0} → Semantics P → History → List (List ℕ) → ScriptState P
 script_state_after semantics h lines = final_script_state semantics (opening_script_state h) 1 lines
 
@@ -37,7 +37,7 @@ has_fault semantics h lines = is_refused semantics (opening_script_state h) 1 li
 abbrev pub reads_of : {P : Type 0} → Semantics P → History → List (List ℕ) → ℕ
 reads_of semantics h lines = reads_in semantics (opening_script_state h) 1 lines
 
--- what a line comes to that follows these
+-- the result of a line that follows these
 abbrev pub result_after : {P : Type 0} → Semantics P → History → List (List ℕ) → List ℕ → LineResult P
 result_after semantics h lines line =
     executes semantics (script_state_after semantics h lines) (suc (length lines)) line

@@ -11,7 +11,7 @@ use Rattle.script_run.specs.declared.scripts.ScriptStop.{ScriptStop}
 use Rattle.script_run.specs.declared.scripts.ScriptStop.TheVariants.{WriteFault, DiskFault, NoMemory}
 use Rattle.script_run.specs.RunStates.{IsBetween, FailedBetween}
 
--- the reply to a line that ended so, or why there is none, by whether the store then stands still
+-- the reply to a line that ended so, or why there is none, by whether the store then has stopped
 abbrev pub reply_or_stop : Bool → StepEnd → Result ReplyMade ScriptStop
 reply_or_stop still (steps.Reply r) = Ok r
 reply_or_stop still (steps.DiskFault r) = Err DiskFault

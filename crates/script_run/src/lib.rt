@@ -3,8 +3,8 @@
 //!
 //! - `runs`: the loop.
 //! - `ends`: how a run ends.
-//! - `scripts`: where a script has come to.
-//! - `lines`: what a line comes to.
+//! - `scripts`: the state of a script between lines.
+//! - `lines`: executes a line.
 //! - `sessions`: the sessions that have appeared, by their names.
 //! - `replies`: replies to lines that no session answers.
 #![tactic(auto)]

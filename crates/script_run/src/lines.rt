@@ -1,4 +1,4 @@
-//! What a line comes to.
+//! Executes a line of a script.
 ghost use Rattle.std.specs.Prelude.{◌≡◌, ◌+◌, ◌≤◌, take, drop, length};
 ghost use Rattle.std.specs.Thread.{IsSync};
 ghost use Rattle.ts_sessions.specs.Script.{executes, executes_as, places_of};
@@ -15,7 +15,7 @@ use ts_model::{Backend, codes};
 use ts_schema::Steps;
 use ts_sessions::{Actor, StepEnd};
 
-/// What a line comes to, which has this number and at most 65,536 bytes.
+/// Executes the line with this number, which has at most 65,536 bytes.
 pub(crate) fn execute_line<A, R, B, L>(
     rt: &R,
     alloc: Global,
@@ -49,8 +49,8 @@ where
     }
 }
 
-/// What a line of a session comes to, by the length of the session's name, and by how many bytes stand
-/// before its statement and before its comment.
+/// Executes a line in its session. The other arguments are the length of the session's name, and how many bytes
+/// come before its statement and before its comment.
 fn execute_statement<A, R, B, L>(
     rt: &R,
     alloc: Global,
@@ -81,7 +81,7 @@ where
     execute_in_session(rt, alloc, backend, sessions, name, text, skip, steps)
 }
 
-/// So many bytes of a line from this place on.
+/// The bytes of a line from a place on, up to a length.
 fn name_at(line: &[u8], from: usize, len: usize) -> &[u8]
     requires { from + len ≤ length line.now }
     ensures { result.now ≡ take len (drop from line.now) }

@@ -10,7 +10,7 @@ use std::alloc::Global;
 use ts_schema::{Name, NoMemory, Seq};
 use ts_sessions::{Reply, StepEnd, bare};
 
-/// The end of a line that has this reply, unless there was no memory for it.
+/// Ends a line with this reply, or with out of memory.
 pub(crate) fn step_end_of(reply: Result<Reply, NoMemory>) -> StepEnd
     ensures { result ≡ ends_with reply }
 {
@@ -20,7 +20,7 @@ pub(crate) fn step_end_of(reply: Result<Reply, NoMemory>) -> StepEnd
     }
 }
 
-/// Nothing is said.
+/// The empty reply.
 pub(crate) fn silence(alloc: Global) -> Reply
     ensures { RepliesWith [] false result }
 {
@@ -31,7 +31,7 @@ pub(crate) fn silence(alloc: Global) -> Reply
     }
 }
 
-/// The line with a number is refused.
+/// The reply that refuses the line with a number.
 pub(crate) fn refuse_line(alloc: Global, line: u64, code: u8) -> Result<Reply, NoMemory>
     ensures { Replies (line_fault_text line (bare_refusal code)) true result }
 {
@@ -40,7 +40,7 @@ pub(crate) fn refuse_line(alloc: Global, line: u64, code: u8) -> Result<Reply, N
     Ok(fault(alloc, text))
 }
 
-/// A session is refused by its name.
+/// The reply that refuses a session, by its name.
 pub(crate) fn refuse_session(alloc: Global, session: &Name, code: u8) -> Result<Reply, NoMemory>
     ensures { Replies (reply_text session.now (Fault (bare_refusal code))) true result }
 {

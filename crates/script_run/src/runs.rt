@@ -15,8 +15,8 @@ use ts_model::Backend;
 use ts_schema::{NoMemory, Steps};
 use ts_sessions::Actor;
 
-/// Runs the lines of a source in order over a store that is alone and goes on: each is read, executed by
-/// its session, and answered before the next one is read. Sessions are made by `A::begin` as they appear.
+/// Runs the lines of a source in order on a store that is alone and hasn't stopped. Each line is read, executed by
+/// its session, and answered before the next one is read. `A::begin` creates sessions as they appear.
 pub fn run<A, R, B, S, K, L>(
     rt: &R,
     alloc: Global,

@@ -1,4 +1,4 @@
-//! Where a script has come to.
+//! The state of a script between lines.
 ghost use Rattle.std.specs.Prelude.{◌≡◌, ◌+◌, ◌<◌, ◌≤◌, ◌^◌, ◌||◌, [], false, true, is_err, length, IfErr, OnOk, OnErr};
 ghost use Rattle.std.specs.Thread.{IsSync};
 ghost use Rattle.std.specs.Io.KnownBytes.{Appends};
@@ -33,11 +33,11 @@ pub(crate) enum ScriptStop {
     WriteFault,
     /// The disk failed at an event of the line, and the store's count of faults rose.
     DiskFault,
-    /// There was no memory.
+    /// Memory ran out.
     NoMemory,
 }
 
-/// Where a script has come to.
+/// The state of a script between lines.
 #[derive(Drop)]
 pub(crate) struct Script<A> {
     /// The sessions that have appeared.
@@ -49,7 +49,7 @@ pub(crate) struct Script<A> {
 }
 
 impl<A> Script<A> {
-    /// Nobody has appeared, and the next line is the first.
+    /// The state before the first line. No session has appeared.
     pub fn new(alloc: Global) -> Script<A>
         ensures nobody { result.sessions.entries ≡ [] }
         ensures first { result.line ≡ 1 }
@@ -131,7 +131,7 @@ impl<A> Script<A> {
         }
     }
 
-    /// Writes the reply to a line that was executed, and comes to the next line.
+    /// Writes the reply to an executed line, and advances to the next line.
     fn answer<K: Sink>(&mut self, reply: Reply, sink: &mut K) -> Result<(), ScriptStop>
         requires room { self.old.line + 1 < 2 ^ 64 }
         ensures wrote { OnOk result (Appends (K.written sink.old) (K.written sink.new) reply.text) }
@@ -153,8 +153,8 @@ impl<A> Script<A> {
     }
 }
 
-/// The reply to a line that ended so, or why there is none. Where the disk failed and then there was no
-/// memory, the disk fault is reported.
+/// The reply to a line that ended so, or why there is none. If the disk failed and then memory ran out, the disk
+/// fault is reported.
 fn reply_of<B: Backend>(end: StepEnd, backend: &B) -> Result<Reply, ScriptStop>
     ensures { result ≡ reply_or_stop (stands_still (B.state backend.now)) end }
 {

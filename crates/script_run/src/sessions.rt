@@ -22,7 +22,7 @@ use ts_sessions::{Actor, StepEnd};
 /// The sessions that have appeared, by their names, in order of appearance.
 pub(crate) type Sessions<A> = IndexMap<Vec<u8>, A>;
 
-/// The session with a name has a line: one that has appeared, or a new one.
+/// Executes a line in the session with a name, which has appeared before or is new.
 pub(crate) fn execute_in_session<A, R, B, L>(
     rt: &R,
     alloc: Global,
@@ -55,7 +55,7 @@ where
     }
 }
 
-/// A session that has not appeared before has its first line, where there is room for it.
+/// Executes the first line of a session that hasn't appeared before, if there is room for it.
 fn find_or_begin<A, R, B, L>(
     rt: &R,
     alloc: Global,
@@ -91,7 +91,7 @@ where
     }
 }
 
-/// A new session has its first line. Its number is how many have appeared before it.
+/// Begins a session, and executes its first line. Its number is how many sessions have appeared before it.
 fn begin_session<A, R, B, L>(
     rt: &R,
     alloc: Global,
@@ -128,7 +128,8 @@ where
     end
 }
 
-/// A session has a line. Lines are executed one after the other, so no gate holds a session back.
+/// Executes a line in a session. Lines are executed in order, so there is no worker hook that could hold a
+/// session.
 fn take_turn<A, R, B, L>(
     rt: &R,
     alloc: Global,
@@ -160,7 +161,7 @@ where
     end
 }
 
-/// Room for one session more, and the key that it will have.
+/// Makes room for one more session. Returns its key.
 fn make_room<A: Drop>(
     alloc: Global,
     sessions: &mut Sessions<A>,

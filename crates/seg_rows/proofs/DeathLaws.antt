@@ -1,4 +1,4 @@
--- Laws of the position at which the last of several versions died.
+-- Laws of the position of the last delete of several versions.
 use Rattle.std.proofs.Common.{◌≡◌, ℕ, true, false, Option, Some, None, List, [], ◌∷◌, ◌++◌, length, refl, sym, ◌∙◌, ap, arith}
 use Rattle.std.specs.List.{filter}
 use Rattle.std.specs.Prelude.{nat_le}
@@ -40,13 +40,13 @@ pub died_out-append : (xs ys : List Version) → died_out (xs ++ ys) ≡ later_d
 died_out-append [] ys = sym (later_death-first (died_out ys))
 died_out-append (v ∷ xs) ys = ap (later_death v.died) (died_out-append xs ys) ∙ later_death-assoc v.died (died_out xs) (died_out ys)
 
--- what died at the later of two deaths had died at both
+-- what is deleted at the later of two deletes is deleted at both
 pub dead_apart : (p : ℕ) (a b : Option ℕ) → is_dead_at p (later_death a b) ≡ true → (is_dead_at p a ≡ true) × (is_dead_at p b ≡ true)
 dead_apart p None b h = absurd (let no : false ≡ true = h in cc)
 dead_apart p (Some a) None h = absurd (let no : false ≡ true = h in cc)
 dead_apart p (Some a) (Some b) h = (grind (arith, h), grind (arith, h))
 
--- where the last version has died, none is visible
+-- if all versions are deleted, none is visible
 pub none_visible : (p : ℕ) (vs : List Version) → is_dead_at p (died_out vs) ≡ true → filter (visible_at p) vs ≡ []
 none_visible p [] h = refl
 none_visible p (v ∷ vs) h =

@@ -25,7 +25,7 @@ get_or-with_lives (x ∷ rows) [] i r l d e h = absurd (omega (arith, e))
 get_or-with_lives (x ∷ rows) (y ∷ lives) zero r l d e h = refl
 get_or-with_lives (x ∷ rows) (y ∷ lives) (suc i) r l d e h = get_or-with_lives rows lives i r l d (omega (arith, e)) (omega arith)
 
--- rows that were born together
+-- rows that were inserted together
 pub with_lives-together : (rows : List Row) (p : ℕ) → with_lives rows (replicate (length rows) (life_from p)) ≡ map (newborn p) rows
 with_lives-together [] p = refl
 with_lives-together (r ∷ rows) p = ap (λ vs. newborn p r ∷ vs) (with_lives-together rows p)
@@ -55,7 +55,7 @@ pub version_read : (rows : List Row) (lives : Lives) (i : ℕ) (r : Row) (l : Li
 version_read rows lives i r l d covers h e f =
     get_or-with_lives rows (lives_of (length rows) lives) i r l d covers h ∙ (ap (λ x. with_life x (get_or (lives_of (length rows) lives) i l)) (sym e) ∙ ap (with_life r) (sym f))
 
--- versions that were born together, or that are kept by their births alone, are unharmed
+-- versions that were inserted together, or of which only the insertions are stored, are not deleted
 together_unharmed : (n p : ℕ) → AreUnharmed (replicate n (life_from p))
 together_unharmed zero p = refl
 together_unharmed (suc n) p = ap (λ ls. life_from p ∷ ls) (together_unharmed n p)
@@ -112,7 +112,7 @@ joined_sealed first second rows l m lives g h hull d e dead one two rows_are liv
       dead_is = rw (versions, died_out-append (versions_of first l) (versions_of second m), ← one.dead_is, ← two.dead_is) dead_is;
     }
 
--- rows that were born together
+-- rows that were inserted together
 pub sealed_together : (rows : List Row) (n p : ℕ) (hull : Option HullValue) (dead : Option ℕ) → n ≡ length rows → hull ≡ hull_of rows → dead ≡ all_died (replicate n (life_from p))
     → IsSealed rows (Together p) hull dead
 sealed_together rows n p hull dead many hull_is dead_is = record {

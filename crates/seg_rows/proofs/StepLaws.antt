@@ -54,6 +54,6 @@ hidden_step rows lives i r covers h row_is p s outside =
     shown_step rows lives i r l covers h row_is life_is p s
     ∙ (ap (λ b. rows_at p s (take i (versions_of rows lives)) ++ cond b (r ∷ []) []) hidden ∙ append-nil (rows_at p s (take i (versions_of rows lives))))
 
--- what a delete took of the first versions is no more than these
+-- a delete takes at most all of the first versions
 pub taken_within : (p : ℕ) (tests : List Test) (vs : List Version) (i : ℕ) → i ≤ length vs → length (taken_at p tests (take i vs)) ≤ i
 taken_within p tests vs i h = omega (arith, taken_at-length p tests (take i vs), length-take-le i vs h)

@@ -79,7 +79,7 @@ taken_at-more_hull p tests vs i d v h e =
 pub taken_at-length : (p : ℕ) (tests : List Test) (vs : List Version) → length (taken_at p tests vs) ≤ length vs
 taken_at-length p tests vs = omega (arith, length-map (filter (is_taken p tests) vs) (λ (v : Version). v.row), length-filter (is_taken p tests) vs, count_by-le-length (is_taken p tests) vs)
 
--- the same, under a name that an attribute of code can write: a delete takes no more than there is
+-- the same, under a name that an attribute of code can write: a delete takes at most what there is
 pub taken_few : (p : ℕ) (tests : List Test) (vs : List Version) → length (taken_at p tests vs) ≤ length vs
 taken_few p tests vs = taken_at-length p tests vs
 

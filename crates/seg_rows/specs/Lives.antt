@@ -8,7 +8,7 @@ use Rattle.seg_rows.specs.declared.lives.Life.{Life}
 use Rattle.seg_rows.specs.declared.lives.Lives.{Lives}
 use Rattle.seg_rows.specs.declared.lives.Lives.TheVariants.{Together, Born, Each}
 
--- born at p and never died
+-- inserted at p and never deleted
 abbrev pub life_from : ℕ → Life
 life_from p = record { born = p; died = None }
 
@@ -22,7 +22,7 @@ lives_of n (Together p) = replicate n (life_from p)
 lives_of n (Born births) = map life_from births
 lives_of n (Each lives) = lives
 
--- none of these has died
+-- none of these is deleted
 abbrev pub AreUnharmed : List Life → Type 0
 AreUnharmed lives = map life_from (map (λ life. life.born) lives) ≡ lives
 
@@ -53,7 +53,7 @@ with_lives (row ∷ rows) (life ∷ lives) = with_life row life ∷ with_lives r
 abbrev pub versions_of : List Row → Lives → List Version
 versions_of rows lives = with_lives rows (lives_of (length rows) lives)
 
--- these are the lives of these rows, the hull of their times, and the position at which the last one died
+-- these are the lives of these rows, the hull of their times, and the position of the last delete
 pub record IsSealed (rows : List Row) (lives : Lives) (hull : Option HullValue) (dead : Option ℕ) : Type 0 where
   pub covers : Covers (length rows) lives
   pub hull_is : hull ≡ hull_of rows

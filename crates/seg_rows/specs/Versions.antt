@@ -1,4 +1,4 @@
--- Versions of rows: a row with the positions at which it was born and died, and what a position sees.
+-- Row versions: a row with the positions at which it was inserted and deleted, and what a position sees.
 use Rattle.std.specs.Prelude.{ℕ, ◌+◌, max, Bool, false, cond, not, ◌&&◌, nat_le, List, [], ◌∷◌, ◌++◌, map, filter, take, count_by, ◌≡◌, ℤ, Option, Some, None}
 use Rattle.std.specs.Int.{int_max}
 use Rattle.ts_bucket.specs.Spans.{SpanValue, in_span}
@@ -6,18 +6,18 @@ use Rattle.ts_schema.specs.declared.rows.Row.{Row}
 use Rattle.ts_schema.specs.declared.conditions.Test.{Test}
 use Rattle.ts_schema.specs.Conditions.{passes_all}
 
--- a row, the position at which it was born, and the position at which it died, if it did
+-- a row, the position at which it was inserted, and the position at which it was deleted, if it was
 pub record Version : Type 0 where
   pub row : Row
   pub born : ℕ
   pub died : Option ℕ
 
--- died at or before position p
+-- deleted at or before position p
 abbrev pub is_dead_at : ℕ → Option ℕ → Bool
 is_dead_at p None = false
 is_dead_at p (Some d) = nat_le d p
 
--- a version is visible at p where it was born at or before p and hasn't died at or before p
+-- a version is visible at p if it was inserted at or before p and wasn't deleted at or before p
 abbrev pub visible_at : ℕ → Version → Bool
 visible_at p v = nat_le v.born p && not (is_dead_at p v.died)
 
@@ -33,7 +33,7 @@ rows_of vs = map (λ v. v.row) vs
 abbrev pub rows_at : ℕ → SpanValue → List Version → List Row
 rows_at p s vs = rows_of (filter (shown_at p s) vs)
 
--- a row born at p
+-- a row inserted at p
 abbrev pub newborn : ℕ → Row → Version
 newborn p row = record { row = row; born = p; died = None }
 
@@ -45,7 +45,7 @@ is_taken p tests v = visible_at p v && passes_all v.row tests
 abbrev pub taken_at : ℕ → List Test → List Version → List Row
 taken_at p tests vs = rows_of (filter (is_taken p tests) vs)
 
--- a version after a delete at p: it died there where it is taken away, and stays as it was elsewhere
+-- a version after a delete at p: deleted at p if it is taken, and unchanged otherwise
 abbrev pub after_kill : ℕ → List Test → Version → Version
 after_kill p tests v = cond (is_taken p tests v) (record { row = v.row; born = v.born; died = Some p }) v
 
@@ -70,7 +70,7 @@ later_death None q = None
 later_death (Some p) None = None
 later_death (Some p) (Some q) = Some (max p q)
 
--- the position at which the last of these versions died, where none lives on; where there is none, the first position
+-- the position of the last delete, if all of these versions are deleted; the first position if there is no version
 abbrev pub died_out : List Version → Option ℕ
 died_out [] = Some 0
 died_out (v ∷ vs) = later_death v.died (died_out vs)

@@ -1,11 +1,11 @@
-//! When versions have died, all of them.
+//! The position of the last delete, if all versions are deleted.
 ghost use Rattle.std.specs.Prelude.{◌≡◌, ℕ, replicate};
 ghost use Rattle.seg_rows.specs.Lives.{all_died, life_from};
 ghost use Rattle.seg_rows.specs.Versions.{is_dead_at, later_death};
 
 use crate::lives::Life;
 
-/// Whether what died at a position, or not at all, is dead at another one.
+/// Whether a version that was deleted at position `died`, or not at all, is deleted at `pos`.
 pub fn has_died(died: Option<u64>, pos: u64) -> bool
     ensures dead { result ≡ is_dead_at pos died }
 {
@@ -15,7 +15,7 @@ pub fn has_died(died: Option<u64>, pos: u64) -> bool
     }
 }
 
-/// The later of two positions at which versions had died. Where a version lives on, there is none.
+/// The later of two positions of last deletes. There is none if a version on either side isn't deleted.
 pub fn both_died(a: Option<u64>, b: Option<u64>) -> Option<u64>
     ensures later { result ≡ later_death a b }
 {
@@ -26,7 +26,7 @@ pub fn both_died(a: Option<u64>, b: Option<u64>) -> Option<u64>
     }
 }
 
-/// The position at which the last of these versions died, where none lives on.
+/// The position of the last delete, if all of these versions are deleted.
 #[tactic(auto, using(crate::proofs::DeathLaws::death_push, std::proofs::lemmas::Grind::common_steps))]
 pub fn last_death(lives: &[Life]) -> Option<u64>
     ensures last { result ≡ all_died lives.now }
@@ -38,7 +38,7 @@ pub fn last_death(lives: &[Life]) -> Option<u64>
     dead
 }
 
-/// The same of so many versions that were born at a position and live on.
+/// The same of `count` versions that were inserted at one position and not deleted.
 pub fn newborn_death(count: usize) -> Option<u64>
     ensures last { (p : ℕ) → result ≡ all_died (replicate count (life_from p)) }
 {

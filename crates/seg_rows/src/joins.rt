@@ -62,7 +62,7 @@ pub fn joined_lives(
     Ok(Lives::Each(Seq::of(lives)))
 }
 
-/// Appends the positions at which so many versions were born, of which none has died.
+/// Appends the positions at which `count` versions were inserted. None of them is deleted.
 fn append_births(into: &mut Vec<u64>, lives: &Lives, count: usize) -> Result<(), NoMemory>
     requires covers { Covers count lives.now }
     requires unharmed { AreUnharmed (lives_of count lives.now) }

@@ -1,8 +1,7 @@
-//! Sealed segments: rows that never change, each with the position at which it was born and the
-//! position at which it died.
+//! Sealed segments: rows that never change, each with the positions at which it was inserted and deleted.
 //!
-//! A change makes a new segment that shares the rows of the old one, and every position keeps
-//! seeing what it saw.
+//! A change creates a new segment, which shares the rows of the old one. So every position still sees what it
+//! saw.
 #![tactic(auto)]
 
 mod deaths;

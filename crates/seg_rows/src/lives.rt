@@ -1,4 +1,4 @@
-//! Positions of versions: when each was born and when it died.
+//! Positions of versions: where each was inserted and where it was deleted.
 ghost use Rattle.std.specs.Prelude.{◌≡◌, ◌<◌, ℕ, true, slice_index_or};
 ghost use Rattle.seg_rows.specs.Lives.{AreUnharmed, Covers, is_alive_at, lives_of};
 
@@ -15,17 +15,17 @@ pub struct Life {
 /// The positions of a segment's versions.
 #[derive(Drop, Debug)]
 pub enum Lives {
-    /// All were born together, and none has died.
+    /// All were inserted together, and none is deleted.
     Together(u64),
-    /// The position at which each was born, and none has died.
+    /// The position at which each was inserted, and none is deleted.
     Born(Seq<u64>),
     /// One life for each.
     Each(Seq<Life>),
 }
 
 impl Life {
-    /// Whether such a version is visible at a position: it was born at or before it and hasn't died
-    /// at or before it.
+    /// Whether such a version is visible at a position: it was inserted at or before it, and not deleted at
+    /// or before it.
     pub fn is_visible(&self, pos: u64) -> bool
         ensures visible { result ≡ is_alive_at pos self.now }
     {
@@ -53,7 +53,7 @@ impl Lives {
         }
     }
 
-    /// Whether it is plain that none has died.
+    /// Whether it is certain that none is deleted.
     pub fn are_unharmed(&self) -> bool
         ensures unharmed { result ≡ true → (n : ℕ) → AreUnharmed (lives_of n self.now) }
     {

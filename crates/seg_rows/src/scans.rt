@@ -27,7 +27,7 @@ pub fn scan_rows<L>(
     let _so_far = steps.count();
     for (i, row) in rows.iter().enumerate() {
         steps.tick();
-        // The time comes first, since most rows that aren't shown are told by it alone.
+        // The time comes first, since it alone rules out most rows that aren't shown.
         if span_holds(span, row) {
             push_if(lives.at(i, rows.len()).is_visible(pos), row, out)?;
         }

@@ -27,7 +27,7 @@ pub struct Segment {
     lives: Arc<Lives>,
     /// The hull of the times of all rows, visible or not.
     hull: Option<Hull>,
-    /// The position at which the last version died, where none lives on.
+    /// The position of the last delete, if all versions are deleted.
     dead: Option<u64>,
 }
 
@@ -44,19 +44,20 @@ impl Model for Segment {
     ghost invariant = { λ s. IsSealed s.rows s.lives.value s.hull s.dead };
 }
 
-/// What a delete made of a segment.
+/// What a delete left of a segment.
 #[derive(Drop)]
 pub struct Killed {
     /// The segment after it.
     pub segment: Segment,
-    /// How many versions died.
+    /// How many versions were deleted.
     pub removed: u64,
     /// The hull of their times.
     pub hull: Option<Hull>,
 }
 
 impl Segment {
-    /// The segment of rows that are born at a position. It shares them with the list whose part they are.
+    /// The segment of rows inserted at position `born`. It shares the rows with the list that they are part
+    /// of.
     pub fn seal(alloc: Global, rows: SharedSlice<Row>, born: u64) -> Result<Segment, NoMemory>
         ensures born { IfOk result (λ s. s ≡ map (newborn born) rows) }
     {
@@ -154,8 +155,8 @@ impl Segment {
         })
     }
 
-    /// Appends the rows of the span that are visible at a position, in the order of the versions.
-    /// Ticks once per version. After want of memory `out` has gained the first of these rows.
+    /// Appends the rows of the span that are visible at a position, in the order of the versions. Ticks once
+    /// per version. When out of memory, `out` has gained the first of these rows.
     pub fn scan<L>(
         &self,
         pos: u64,
@@ -185,8 +186,8 @@ impl Segment {
         self.hull
     }
 
-    /// The position at which the last version died, where none lives on. Where there is no version,
-    /// it is the first position.
+    /// The position of the last delete, if all versions are deleted. If there is no version, it is the first
+    /// position.
     pub fn died_out(&self) -> Option<u64>
         ensures dead { result ≡ died_out self.now }
     {

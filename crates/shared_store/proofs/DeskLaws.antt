@@ -1,4 +1,4 @@
--- A call of a desk is the call of the backend in the lock.
+-- A call of a store handle is the call of the backend in the lock.
 use Rattle.std.proofs.Common.{◌≡◌, ℕ, ◌≤◌, Bool, true, false, List, ◌++◌, Some, None, sym, refl, ap, ◌∙◌, subst, append-nil}
 use Rattle.std.specs.Prelude.{IsTrue, is_some, Option}
 use Rattle.std.proofs.lemmas.Bool.{true≢false}
@@ -87,7 +87,7 @@ module _ {m : List ℕ} {s t new : State} (r : Relabels m s t new) where
   answered_labelled (makes e a) DiskFault w = fails_labelled w
   answered_labelled (makes e a) NoMemory w = keeps_labelled w
 
--- ---- what a desk knows of the store's stop
+-- ---- what a store handle knows of the store's stop
 
 there_is : {A : Type 0} (o : Option A) → IsTrue (is_some o) → (x : A) × (o ≡ Some x)
 there_is None e = absurd (true≢false (sym e))
@@ -97,7 +97,7 @@ closed_last : {B : Type 0} (state : B → State) (desk : AtDesk B) (last : Optio
 closed_last state desk None d is = absurd (is_there is refl)
 closed_last state desk (Some left) d is = d.0 ∙ is
 
--- ---- one turn at the desk
+-- ---- one turn of a store handle
 
 module _ {B K : Type 0} (alone : Bool) (state : B → State) (kin : B → K) where
   module _ (desk : AtDesk B) (turn : Ticket B) (held : Held (Wrapped B)) (d : IsDesk state desk) (b : Begun alone state kin desk.store desk.pass turn held) where
@@ -208,10 +208,11 @@ module _ {B K : Type 0} (alone : Bool) (state : B → State) (kin : B → K) whe
     pub looked_ends : {Tells : History → Type 0} (k : Wrapped B) → StaysKept alone state kin held.value k → Looked alone (state held.value.backend) Tells (state k.backend) → CanEnd state desk.store turn (record held { value = k })
     looked_ends k s c = ends_from k s (begins_looked c) (λ e is. looked_still b.kept.is_alone c is)
 
--- ---- what a desk has seen
+-- ---- what a store handle has seen
 
 module _ {B : Type 0} (state : B → State) (desk : AtDesk B) {now : AtDesk B} (v : desk ≡ now) where
-  -- what stays as histories grow, and holds of what the desk has seen, holds of what its turn finds
+  -- a property that stays true as histories grow, and is true of what the handle has seen, is true of what its turn
+  -- finds
   pub holds_there : (P : History → Type 0) {h : History} → ((f g : History) → Begins f g → P f → P g) → Begins (history_of state desk.store desk.pass) h → P (desk_state state now).history → P h
   holds_there P {h} stays q p = stays (history_of state desk.store desk.pass) h q (subst (λ d. P (desk_state state d).history) (sym v) p)
 

@@ -1,4 +1,4 @@
--- How an alone backend goes on by each call.
+-- How each call continues the state of an alone backend.
 use Rattle.std.proofs.Common.{◌≡◌, ℕ, suc, ◌+◌, ◌≤◌, Bool, [], ◌∷◌, ◌++◌, Some, None, sym, refl, ap, ◌∙◌, subst, arith, append_assoc, append-nil}
 use Rattle.std.specs.Prelude.{IsTrue, is_some, Option}
 use Rattle.std.proofs.lemmas.Bool.{true≢false}
@@ -29,7 +29,7 @@ one_after q = let next : q + 1 ≡ suc q = omega arith in subst (λ r. positions
 one_later : (p q : ℕ) → p ≤ q → positions_between p q ++ (suc q ∷ []) ≡ positions_between p (suc q)
 one_later p q l = ap (λ ps. positions_between p q ++ ps) (sym (one_after q)) ∙ sym (positions_meet p q (suc q) l (omega arith))
 
--- what doesn't stand still goes on from itself
+-- a state that hasn't stopped continues itself
 pub goes_nowhere : (s : State) → s.failed ≡ None → GoesOn s s
 goes_nowhere s none = record {
   went = none;
@@ -89,7 +89,7 @@ answered_on (makes e a) (Refused q) g w = kept_on g w.2
 answered_on (makes e a) DiskFault g w = failed_on g w
 answered_on (makes e a) NoMemory g w = kept_on g w
 
--- where it stood still before a call it does so after it, by the same event
+-- if it had stopped before a call, it has stopped after it, by the same event
 answered_still : {A : Type 0} (act : Act A) (found : State) (outcome : Outcome A) (new : State) {e : Event} → Answered act found outcome new → found.failed ≡ Some e → (new.failed ≡ Some e) × (new.history ≡ found.history)
 answered_still (refuses r) found (Done a) new w is = absurd w
 answered_still (refuses r) found (Refused q) new w is = (w.1.failed ∙ is, w.1.history)

@@ -1,4 +1,4 @@
--- A desk, through which one thread uses the store.
+-- A store handle, through which one thread uses the store.
 use Rattle.std.specs.Prelude.{◌≡◌, ℕ, Option, Some, None}
 use Rattle.ts_model.specs.declared.events.Event.{Event}
 use Rattle.ts_model.specs.States.{State, stop_of}
@@ -6,13 +6,13 @@ use Rattle.turn_lock.specs.Pass.{shares_of, closed_of, made_of}
 use Rattle.shared_store.specs.Stores.{Ticket, Shared, IsPassOf, history_of}
 use Rattle.shared_store.specs.declared.turns.TurnEnd.{TurnEnd}
 
--- a desk as clauses see it: its store, its pass, and what its last call left, if it made one
+-- the value of a store handle in contracts: its store, its pass, and what its last call left, if it made one
 pub record AtDesk (B : Type 0) : Type 0 where
   pub store : Shared B
   pub pass : Ticket B
   pub last : Option (TurnEnd B)
 
--- what its owner knows a desk by
+-- what identifies a store handle to its owner
 pub record Place (B : Type 0) : Type 0 where
   pub store : Shared B
   pub shares : ℕ
@@ -20,7 +20,7 @@ pub record Place (B : Type 0) : Type 0 where
 abbrev pub place_of : {B : Type 0} → AtDesk B → Place B
 place_of desk = record { store = desk.store; shares = shares_of desk.pass }
 
--- a desk that has made no call
+-- a store handle that has made no call
 abbrev pub fresh_desk : {B : Type 0} → Shared B → Ticket B → AtDesk B
 fresh_desk store pass = record { store = store; pass = pass; last = None }
 
@@ -35,7 +35,7 @@ module _ {B : Type 0} (state : B → State) where
   faults_at first None = first
   faults_at first (Some left) = (state left.backend.value).faults
 
-  -- the state of a desk: what its pass has seen and made
+  -- the state of a store handle: what its pass has seen and made
   abbrev pub desk_state : AtDesk B → State
   desk_state desk = record {
     history = history_of state desk.store desk.pass;

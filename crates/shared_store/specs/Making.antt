@@ -17,7 +17,7 @@ module _ {B : Type 0} where
     pub pass_closed : closed_of pass ≡ None
     pub pass_made : made_of pass ≡ []
 
-  -- a store and its first pass, or the backend back
+  -- a store and its first pass, or the backend that was given
   abbrev pub Makes : {S J : Type 0} → B → ℕ → MadeStore B S J → Type 0
   Makes backend shares (Made store pass) = IsFirstPass backend shares store pass
   Makes backend shares (NoMemory back) = back ≡ backend

@@ -8,11 +8,11 @@ use Rattle.ts_model.specs.States.{State}
 use Rattle.turn_lock.specs.Pass.{Carried, Guarded, IsIdle, base_of, seen_of}
 use Rattle.shared_store.specs.Wrapped.{Wrapped}
 
--- a pass of a shared store as clauses see it
+-- the value of a shared store's pass in contracts
 abbrev pub Ticket : Type 0 → Type 0
 Ticket B = Carried (Wrapped B) (Snapshot B) Event
 
--- a shared store as clauses see it: its lock, the backend that it was made with, and the number of shares
+-- the value of a shared store in contracts: its lock, the backend that it was made with, and the number of shares
 pub record Shared (B : Type 0) : Type 0 where
   pub lock : TableId
   pub opened : Snapshot B

@@ -11,7 +11,7 @@ use Rattle.shared_store.specs.Wrapped.{Wrapped, IsKept, events_in}
 use Rattle.shared_store.specs.Stores.{Ticket, Shared, IsPassOf, history_of}
 
 module _ {B K : Type 0} (alone : Bool) (state : B → State) (kin : B → K) (store : Shared B) (old new : Ticket B) where
-  -- a turn began: what is held began with what the pass had seen, and is as it was where the pass had seen it closed
+  -- a turn began: what is held begins with what the pass had seen, and is unchanged if the pass had seen it closed
   pub record Begun (held : Held (Wrapped B)) : Type 0 where
     pub same : IsSamePass old new
     pub turn : IsTurnOf new held
@@ -25,7 +25,7 @@ module _ {B K : Type 0} (alone : Bool) (state : B → State) (kin : B → K) (st
         ((state held.value.backend).history ≡ history_of state store old)
 
 module _ {B : Type 0} (state : B → State) (store : Shared B) where
-  -- a turn of the pass may end: what is held goes on from what the turn found
+  -- a turn of the pass may end: what is held continues what the turn found
   pub record CanEnd (pass : Ticket B) (held : Held (Wrapped B)) : Type 0 where
     pub lock : pass.lock ≡ store.lock
     pub base : base_of pass ≡ Some store.opened
@@ -36,7 +36,7 @@ module _ {B : Type 0} (state : B → State) (store : Shared B) where
         StaysClosed (found_closed_of pass) (found_of pass) (state held.value.backend).failed
         (events_in state held.value)
 
-  -- a turn ended: the pass has seen what was given back, and made what the turn added
+  -- a turn ended: the pass has seen what was returned, and made what the turn added
   pub record Ended (old new : Ticket B) (k : Wrapped B) : Type 0 where
     pub of_store : IsPassOf store new
     pub shares : shares_of new ≡ shares_of old

@@ -10,28 +10,28 @@ use Rattle.ts_model.specs.States.{State, stands_still}
 use Rattle.turn_lock.specs.Positions.{positions_between}
 use Rattle.shared_store.specs.Histories.{events_after}
 
--- a backend as clauses see it: as it is, and as it was when it came into the lock
+-- the value of a backend in contracts: as it is, and as it was when it came into the lock
 pub record Wrapped (B : Type 0) : Type 0 where
   pub backend : B
   pub opened : Snapshot B
 
--- the numbers of the events by which one state goes on from another
+-- the numbers of the events that lead from one state to another
 abbrev pub positions_made : State → State → List ℕ
 positions_made old new = positions_between (position old.history) (position new.history)
 
--- how an alone backend went on from its state at the start, when it did not stand still
+-- how an alone backend continued its state at the start, if it had not stopped then
 pub record GoesOn (first now : State) : Type 0 where
   pub went : first.failed ≡ None
   pub begins : Begins first.history now.history
   -- it made each event since then
   pub made : now.made ≡ first.made ++ positions_made first now
   pub origin : now.origin ≡ first.origin
-  -- its count rose exactly where it stands still
+  -- its count rose exactly if it has stopped
   pub counted : now.failed ≡ None → now.faults ≡ first.faults
   pub fell : IsTrue (stands_still now) → Rose first.faults now.faults
 
 module _ {B K : Type 0} (alone : Bool) (state : B → State) (kin : B → K) where
-  -- the backend is alone, went on since it came into the lock, and is known by the same
+  -- the backend is alone, has continued its state since it came into the lock, and is of the same origin
   pub record IsKept (k : Wrapped B) : Type 0 where
     pub is_alone : IsTrue alone
     pub goes_on : GoesOn (state k.opened.value) (state k.backend)
@@ -48,7 +48,7 @@ module _ {B : Type 0} (alone : Bool) (state : B → State) where
   abbrev pub CalledIn : {A : Type 0} → Wrapped B → (History → Act A) → Outcome A → Wrapped B → Type 0
   CalledIn old act outcome new = Called alone (state old.backend) act outcome (state new.backend)
 
-  -- a call that looks was made of the backend, and tells this of the history that it found
+  -- a read call was made of the backend, and reports this of the history that it found
   abbrev pub LookedIn : Wrapped B → (History → Type 0) → Wrapped B → Type 0
   LookedIn old Tells new = Looked alone (state old.backend) Tells (state new.backend)
 

@@ -1,4 +1,4 @@
-//! A desk, through which one thread uses the store.
+//! A store handle, through which one thread uses the store.
 ghost use Rattle.std.specs.Prelude.{◌≡◌, Some};
 ghost use Rattle.turn_lock.specs.Pass.{shares_of};
 ghost use Rattle.shared_store.specs.Stores.{IsPassOf, shared_of};
@@ -12,9 +12,9 @@ use std::thread::Threads;
 use ts_model::{Backend, Committed, CutDone, Hyper, Op, Outcome, Shown, TableDef, ViewDef};
 use ts_schema::{NoMemory, Seq};
 
-/// A place at a shared store for one holder of a pass. It is a store: each call but `position` and
-/// `stopped` takes the turn of its pass, for which it may wait. Those two tell how the last call left the store,
-/// and nothing of what others did since.
+/// A store handle for the holder of a pass. It is a store: each call except `position` and `stopped` takes
+/// the turn of its pass, for which it may wait. Those two report how the last call left the store, and
+/// nothing that others did since.
 #[derive(Drop)]
 pub struct Desk<'a, B: Backend, R: Threads + Wait> {
     lock: &'a StoreLock<B>,
@@ -36,8 +36,8 @@ impl<'a, B: Backend, R: Threads + Wait> Model for Desk<'a, B, R> {
 }
 
 impl<B: Backend> SharedStore<B> {
-    /// A desk for the holder of the pass. It stands where the pass does. It is for callers that have the whole
-    /// store; a worker has its lock alone, and calls `desk_at`.
+    /// A store handle for the holder of the pass, at the position of the pass. It is for callers that have
+    /// the whole store; a worker has only its lock, and calls `desk_at`.
     pub fn desk<'a, R: Threads + Wait>(&'a self, rt: &'a R, pass: Pass<B>) -> Desk<'a, B, R>
         requires { IsPassOf self.now pass }
         ensures { result ≡ fresh_desk self.now pass }
@@ -46,7 +46,7 @@ impl<B: Backend> SharedStore<B> {
     }
 }
 
-/// A desk for the holder of the pass, by the lock of its store.
+/// A store handle for the holder of the pass, by the lock of its store.
 pub fn desk_at<'a, B: Backend, R: Threads + Wait>(
     lock: &'a StoreLock<B>,
     rt: &'a R,
@@ -64,7 +64,7 @@ pub fn desk_at<'a, B: Backend, R: Threads + Wait>(
 }
 
 impl<'a, B: Backend, R: Threads + Wait> Desk<'a, B, R> {
-    /// Gives the pass back.
+    /// Returns the pass.
     pub fn leave(self) -> Pass<B>
         ensures pass { result ≡ self.entry.pass }
         ensures store { IsPassOf self.entry.store result }

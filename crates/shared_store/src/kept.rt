@@ -57,7 +57,7 @@ impl<B: Backend> Kept<B> {
         backend
     }
 
-    // The position at which the backend stands still, if it does, and what it is.
+    // The position at which the backend has stopped, if it has, and what it is.
     pub(crate) fn turn_end(&self) -> TurnEnd<B>
         ensures stopped { result.stopped ≡ stop_of (B.state self.now.backend) }
         ensures backend { result.backend.value ≡ self.now.backend }

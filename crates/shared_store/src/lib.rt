@@ -1,5 +1,5 @@
-//! One backend that is alone, which several threads use, each through a desk of its own. A desk is a store too:
-//! each call of it takes its turn at the backend.
+//! One backend that is alone and that several threads use, each through its own store handle. A store handle
+//! is a store too: each of its calls takes its turn at the backend.
 #![tactic(auto)]
 
 mod calls;

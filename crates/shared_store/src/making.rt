@@ -9,7 +9,7 @@ use std::snapshot::Snapshot;
 use ts_model::Backend;
 use turn_lock::{MadeLock, TurnLock};
 
-/// A shared store with its first pass, or the backend back where memory ran out.
+/// A shared store with its first pass, or the backend if memory ran out.
 #[derive(Drop)]
 pub enum MadeStore<B: Backend> {
     Made {
@@ -30,7 +30,8 @@ fn keep<B: Backend>(backend: B) -> Kept<B>
 }
 
 impl<B: Backend> SharedStore<B> {
-    /// A store over a backend that is alone and doesn't stand still, and the first pass, which has all the shares.
+    /// A store over a backend that is alone and hasn't stopped, and the first pass, which has all the
+    /// shares.
     pub fn new(alloc: Global, backend: B, shares: u32) -> MadeStore<B>
         requires alone { IsTrue B.alone }
         requires going { (B.state backend).failed ≡ None }

@@ -23,7 +23,8 @@ impl<B: Backend> SharedStore<B> {
         self.lock.split(pass, shares)
     }
 
-    /// One pass of two. It has seen the longer history, which both began, and has made what both made.
+    /// Joins two passes. The result has seen the longer history, which begins with the other, and has made
+    /// what both made.
     pub fn join(&self, a: Pass<B>, b: Pass<B>) -> Pass<B>
         requires first { IsPassOf self.now a }
         requires second { IsPassOf self.now b }
@@ -38,8 +39,8 @@ impl<B: Backend> SharedStore<B> {
         self.lock.join(a, b)
     }
 
-    /// The backend, for the pass that has all the shares. It holds what the pass has seen, and the
-    /// pass has made each event since the start once.
+    /// Returns the backend to the holder of all the shares. It holds what the pass has seen, and the pass
+    /// has made each event since the start once.
     pub fn close(self, pass: Pass<B>) -> B
         requires pass { IsPassOf self pass }
         requires all { shares_of pass ≡ self.shares }

@@ -7,8 +7,8 @@ use std::marker::Model;
 use ts_model::Backend;
 use turn_lock::TurnLock;
 
-/// What one holder carries: shares of the right to the whole, the history that it has seen, and the
-/// numbers of the events that it made.
+/// An access token: shares of the right to the whole, the history that its holder has seen, and the numbers
+/// of the events that it made.
 pub type Pass<B> = turn_lock::Pass<Kept<B>>;
 
 /// The lock of a store, which threads share.

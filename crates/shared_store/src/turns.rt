@@ -12,7 +12,7 @@ use std::thread::Threads;
 use ts_model::Backend;
 use turn_lock::Held;
 
-/// What a turn left: the position at which the backend stands still, if it does, and what the backend is.
+/// What a turn left: the position at which the backend has stopped, if it has, and what the backend is.
 #[derive(Drop)]
 pub struct TurnEnd<B> {
     pub(crate) stopped: Option<u64>,
@@ -34,7 +34,7 @@ pub(crate) fn begin<B: Backend, R: Threads + Wait>(
     held
 }
 
-// Ends the turn of the pass, and tells what it left.
+// Ends the turn of the pass, and returns what it left.
 pub(crate) fn end<B: Backend>(
     lock: &StoreLock<B>,
     pass: &mut Pass<B>,

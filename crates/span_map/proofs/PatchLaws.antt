@@ -1,4 +1,4 @@
--- Edges with those of another map in place of their own within a span have the values of both.
+-- Edges whose part within a span is replaced by that of another map have the values of both.
 use Rattle.std.proofs.Common.{◌≡◌, ℕ, Bool, true, false, not, cond, nat_eq, ◌&&◌, ℤ, ◌≤ℤ◌, ◌<ℤ◌, int_lt, int_le, List, [], ◌∷◌, ◌++◌, ◌-◌, drop, take, Option, None, refl, sym, ap, ◌∙◌, subst, arith}
 use Rattle.std.specs.Option.{option_eq}
 use Rattle.std.proofs.lemmas.Int.{ints, by_lt_z}

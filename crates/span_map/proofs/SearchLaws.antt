@@ -14,7 +14,7 @@ lower_stands : (before : Before) (a b : Edge) → a.from <ℤ b.from → stands_
 lower_stands (Upto t) a b less h = grind (arith, ints)
 lower_stands (Below t) a b less h = grind (arith, ints)
 
--- the item at a place, whatever stands for none
+-- the item at a place, whatever the default
 same_item : (es : List Edge) (i : ℕ) (d e : Edge) → i < length es → e ≡ get_or es i e → get_or es i d ≡ e
 same_item [] i d e l is = absurd (omega (arith, l))
 same_item (x ∷ es) zero d e l is = sym is

@@ -1,4 +1,4 @@
--- Two maps combined by a rule, number by number, one edge after another.
+-- Two maps combined by a rule, number by number, one edge at a time.
 use Rattle.std.specs.Prelude.{◌≡◌, ℕ, cond, ℤ, nat_eq, nat_le, List, [], ◌∷◌, ◌++◌, Option, Some, None}
 use Rattle.std.specs.Int.{int_min}
 use Rattle.std.specs.Option.{option_eq}

@@ -3,7 +3,7 @@ use Rattle.std.specs.Prelude.{ℕ, ℤ, List, Option, None}
 use Rattle.span_map.specs.declared.edges.Edge.{Edge}
 use Rattle.span_map.specs.Edges.{value_from, piece_count}
 
--- what contracts see of a `SpanMap`: its edges, and how many more there is room for
+-- the value of a `SpanMap` in contracts: its edges, and for how many more there is room
 pub record MapValue : Type 0 where
   pub edges : List Edge
   pub room : ℕ

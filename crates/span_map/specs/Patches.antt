@@ -1,4 +1,4 @@
--- The values of one map in place of those of another within a span.
+-- The values of one map, replaced within a span by those of another.
 use Rattle.std.specs.Prelude.{◌≡◌, ℕ, cond, nat_eq, ℤ, List, [], ◌∷◌, ◌++◌, Option}
 use Rattle.std.specs.Option.{option_eq}
 use Rattle.ts_bucket.specs.Spans.{SpanValue, in_span}

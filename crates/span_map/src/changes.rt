@@ -8,9 +8,9 @@ ghost use Rattle.span_map.specs.Changes.{value_after};
 pub(crate) enum Change {
     /// It becomes this position.
     Set(u64),
-    /// It goes where it is at most this position.
+    /// It goes if it is at most this position.
     ClearUpto(u64),
-    /// It becomes this position where it was below or wasn't there.
+    /// It becomes this position if it was below or missing.
     Raise(u64),
 }
 

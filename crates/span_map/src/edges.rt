@@ -59,7 +59,7 @@ pub(crate) fn value_at(edges: &[Edge], t: i64) -> Option<u64>
     value_after(edges, places_upto(edges, t))
 }
 
-/// Whether the edge at place `i` is there and at `t`.
+/// Whether there is an edge at place `i`, and it is at `t`.
 fn is_at(edges: &[Edge], i: usize, t: i64) -> bool
     ensures { result ≡ begins_at t (drop i edges.now) }
 {
@@ -117,8 +117,8 @@ fn changed_edge(edge: Edge, span: Span, change: Change) -> Edge
     }
 }
 
-/// Changes the value of each edge from one place on and below another, and moves those that begin a
-/// new value together. Gives the place where the last of them ends.
+/// Changes the value of each edge from one place on and below another, and moves those that begin a new
+/// value together. Returns the place where the last of them ends.
 fn change_between(
     edges: &mut Vec<Edge>,
     first: usize,

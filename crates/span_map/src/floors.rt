@@ -63,7 +63,7 @@ fn run_after(run: Option<i64>, edge: Edge, span: Span, pos: u64) -> Option<i64>
     }
 }
 
-/// Assigns what is left of a run where an edge of the floor ends it.
+/// Assigns what is left of a run if an edge of the floor ends it.
 fn pass_edge(edges: &mut Vec<Edge>, run: Option<i64>, edge: Edge, span: Span, pos: u64)
     requires rising { IsRising edges.old.items }
     requires room { vec_len edges.old + 2 ≤ vec_capacity edges.old }

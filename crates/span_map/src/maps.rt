@@ -22,9 +22,9 @@ use ts_schema::{NoMemory, Seq};
 
 /// A partial function from whole numbers to positions, kept as edges: the numbers at which its value changes.
 ///
-/// A change takes no memory: the room that it asks for, in edges, is made by `reserve` before. `assign` and
-/// `clear_upto` ask for 2, `raise` for 3 and one more for each piece of the map, and `assign_above` for 3 and 3 more
-/// for each piece of the floor.
+/// A change allocates no memory: `reserve` must have made room for the edges that it needs. `assign` and
+/// `clear_upto` need 2, `raise` needs 3 and one more for each piece of the map, and `assign_above` needs 3
+/// and 3 more for each piece of the floor.
 #[derive(Drop, Debug)]
 pub struct SpanMap {
     edges: Vec<Edge>,
@@ -43,7 +43,7 @@ impl Model for SpanMap {
 }
 
 impl SpanMap {
-    /// The map with no value. It takes no memory.
+    /// The map with no value. It allocates no memory.
     pub fn new(alloc: Global) -> SpanMap
         ensures values { (t : ℤ) → at result t ≡ None }
         ensures pieces { piece_count_of result ≡ 0 }
@@ -96,7 +96,7 @@ impl SpanMap {
         value_at(&self.edges, t)
     }
 
-    /// The same map again. Its room may differ.
+    /// A copy of the map. Its room may differ.
     pub fn copy(&self) -> Result<SpanMap, NoMemory>
         ensures values { IfOk result (λ copy. (t : ℤ) → at copy t ≡ at self.now t) }
         ensures pieces { IfOk result (λ copy. piece_count_of copy ≡ piece_count_of self.now) }
@@ -127,7 +127,7 @@ impl SpanMap {
         change_values(&mut self.edges, span, Change::Set(pos));
     }
 
-    /// Takes away the values of the span that are at most `pos`.
+    /// Removes the values of the span that are at most `pos`.
     pub fn clear_upto(&mut self, span: Span, pos: u64)
         requires { 2 ≤ self.old.room }
         ensures values { ChangesWithin span (above pos) (at self.old) (at self.new) }
@@ -175,8 +175,8 @@ impl SpanMap {
         })
     }
 
-    /// The pieces within the span: each number of the span that has a value is in one of them, and
-    /// in no other, and has its value. They rise.
+    /// The pieces within the span, in rising order. Each number of the span that has a value is in exactly
+    /// one of them, which has its value.
     pub fn ranges(&self, span: Span) -> Result<Seq<Piece>, NoMemory>
         ensures values { IfOk result (λ pieces. IsPart span (at self.now) (piece_at pieces)) }
         ensures rising { IfOk result (λ pieces. ArePieces span.lo span.hi pieces) }

@@ -1,4 +1,4 @@
-//! Edges that give the values of one map in place of those of another within a span.
+//! Edges that replace the values of a map within a span by those of another.
 
 ghost use Rattle.std.specs.Prelude.{◌≡◌, ◌++◌, IfOk};
 ghost use Rattle.span_map.specs.Edges.{IsRising, last_value};

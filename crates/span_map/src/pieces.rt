@@ -18,7 +18,7 @@ pub struct Piece {
     pub pos: u64,
 }
 
-/// Appends the piece from one edge to the next, where it has numbers and a value.
+/// Appends the piece from one edge to the next, if it has numbers and a value.
 fn push_piece(pieces: &mut Vec<Piece>, start: Edge, end: Edge) -> Result<(), NoMemory>
     ensures { IfOk result (λ _. pieces.new.items ≡ pieces.old.items ++ piece_of start.from end.from start.value) }
 {

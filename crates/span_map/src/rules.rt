@@ -6,16 +6,16 @@ ghost use Rattle.span_map.specs.Combined.{combined_by};
 /// How the values that two maps have at a number are combined.
 #[derive(Clone, Copy, Debug, PartialEq, Eq)]
 pub enum Rule {
-    /// The value of the second map, and that of the first where the second has none.
+    /// The value of the second map, and that of the first if the second has none.
     Over,
     /// The later of the two.
     Later,
-    /// The value of the second map, where it is above that of the first, or the first has none.
+    /// The value of the second map, if it is above that of the first, or the first has none.
     Above,
-    /// The value of the second map, where it is at or above that of the first, or the first has
+    /// The value of the second map, if it is at or above that of the first, or the first has
     /// none.
     NotBelow,
-    /// The value of the second map, where the first has one.
+    /// The value of the second map, if the first has one.
     Where,
 }
 

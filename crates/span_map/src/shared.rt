@@ -1,4 +1,4 @@
-//! A map whose copies share it, and of which a change copies what it touches.
+//! A map that copies share, and of which a change copies what it touches.
 
 ghost use Rattle.std.specs.Prelude.{◌≡◌, ◌-◌, ◌≤◌, ◌<ℤ◌, ℤ, IfOk, None, Some, length, take, drop};
 ghost use Rattle.ts_bucket.specs.Positions.{above, later};
@@ -64,7 +64,7 @@ impl SharedMap {
         value_before(&self.edges, place(&self.edges, Before::Upto(t)))
     }
 
-    /// The same map again. It is a count.
+    /// Another owner of the same map. It only increments a reference count.
     pub fn copy(&self) -> Result<SharedMap, NoMemory>
         ensures values { IfOk result (λ copy. (t : ℤ) → at copy t ≡ at self.now t) }
     {
@@ -73,7 +73,7 @@ impl SharedMap {
         })
     }
 
-    /// The same map, its owner's alone. It costs all pieces.
+    /// A copy of the map that shares nothing. The cost grows with all pieces.
     pub fn own(&self) -> Result<SpanMap, NoMemory>
         ensures values { IfOk result (λ own. (t : ℤ) → at own t ≡ at self.now t) }
     {

@@ -1,4 +1,4 @@
-//! Numbers and ratios past what a script's sums come to.
+//! Numbers and ratios beyond the sums of any script.
 use std::test::Fail;
 use ts_num::{Datum, Frac, lowest, put_datum, put_int};
 

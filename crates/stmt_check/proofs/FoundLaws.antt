@@ -23,7 +23,7 @@ pub record StandsAt {X : Type 0} (k : ℕ) (items : List X) (n : ℕ) (P : X →
 further : {X : Type 0} (k : ℕ) (x : X) (xs : List X) (n : ℕ) (P : X → Type 0) → StandsAt (k + 1) xs n P → StandsAt k (x ∷ xs) n P
 further k x xs n P s = record { place = suc s.place; item = s.item; counted = (let e : n ≡ k + 1 + s.place = s.counted in omega (arith, e)); at = s.at; is = s.is }
 
--- counted from 0, an item stands at its number
+-- counted from 0, an item is at its number
 pub record Stands {X : Type 0} (items : List X) (n : ℕ) (P : X → Type 0) : Type 0 where
   pub item : X
   pub at : slice_get items n ≡ Some item

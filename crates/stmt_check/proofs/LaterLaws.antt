@@ -221,7 +221,7 @@ pub record Stays (g h : History) (s : Stmt) : Type 0 where
   pub passes : (pos : ℕ) → refusal_of pos (roster h) s ≡ None
   pub action : action_of (roster h) s ≡ action_of (roster g) s
 
--- a name stands for the same table, with the same columns
+-- a name refers to the same table, with the same columns
 pub record SameTable (g h : History) (name : List ℕ) : Type 0 where
   pub found : found_in (roster h) name ≡ found_in (roster g) name
   pub info : table_at (roster h) (found_in (roster h) name) ≡ table_at (roster g) (found_in (roster g) name)
@@ -232,7 +232,7 @@ hypertable_later g h p name b e =
     let stays = hyper_stays name there.0 b there.1 in
     record { found = stays ∙ sym there.1; info = ap (table_at (roster h)) stays ∙ hyper_info name there.0 b there.1 ∙ ap (table_at (roster g)) (sym there.1) }
 
--- a refusal, and an action, by what a name stands for
+-- a refusal, and an action, by what a name refers to
 of_table : {X : Type 0} (g h : History) (name : List ℕ) (by : Found → TableInfo → X) → SameTable g h name → by (found_in (roster h) name) (table_at (roster h) (found_in (roster h) name)) ≡ by (found_in (roster g) name) (table_at (roster g) (found_in (roster g) name))
 of_table g h name by s = ap (λ f. by f (table_at (roster h) (found_in (roster h) name))) s.found ∙ ap (by (found_in (roster g) name)) s.info
 
@@ -263,7 +263,7 @@ drop_later g h p table below b e =
       action = of_table g h table (λ f i. actions.Change (ops.Delete (number_of f) (drop_test (interval_of i.hyper) below ∷ []))) at;
     }
 
--- a name stands for the same aggregate
+-- a name refers to the same aggregate
 aggregate_later : (g h : History) (p : ℕ) (name : List ℕ) → Begins g h → all_allowed h ≡ true → view_refusal p (found_in (roster g) name) ≡ None → found_in (roster h) name ≡ found_in (roster g) name
 aggregate_later g h p name b ok e =
     let there = view_needed p (found_in (roster g) name) e in

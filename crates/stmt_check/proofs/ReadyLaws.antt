@@ -80,7 +80,7 @@ apart_before (n ∷ before) name behind e =
     middle false true z h = absurd cc
     middle false false z h = refl
 
--- a name that isn't taken stands for nothing
+-- a name that isn't taken refers to nothing
 free_tables : (name : List ℕ) (k : ℕ) (ts : List TableInfo) → position_from (λ t. same_name t.def.name name) k ts ≡ None → table_from name k ts ≡ found.None
 free_tables name k [] e = refl
 free_tables name k (t ∷ ts) e = here (same_name t.def.name name) (free_tables name (k + 1) ts) e

@@ -76,7 +76,7 @@ none_at test (d ∷ cols) j c e at = here test d cols j c (or_parts (test d.name
     here test d cols zero c both rest at = let same : d ≡ c = cc in ap (λ (x : Column). test x.name) (sym same) ∙ both.0
     here test d cols (suc i) c both rest at = rest i at
 
--- a column stands at its own name, where the names of columns are apart
+-- a column is found by its own name, if the names of columns are distinct
 column_stands : (k : ℕ) (cols : List Column) (j : ℕ) (c : Column) → all_apart (map (λ d. d.name) cols) ≡ true → slice_get cols j ≡ Some c → column_from c.name k cols ≡ Some (k + j)
 column_stands k [] j c a e = absurd cc
 column_stands k (d ∷ cols) zero c a e =

@@ -1,4 +1,4 @@
--- What a statement's names stand for stays as a history grows, and so does what the statement asks for.
+-- What a statement's names refer to stays the same as a history grows, and so does what the statement requests.
 use Rattle.std.proofs.Common.{◌≡◌, ◌∙◌, refl, sym, ap, subst, ℕ, zero, suc, ◌+◌, Bool, true, false, cond, not, List, [], ◌∷◌, ◌++◌, Option, Some, None, is_some, inl, inr}
 use Rattle.std.specs.Prelude.{◌⊎◌, nat_lt, length}
 use Rattle.std.proofs.lemmas.Bool.{and_parts, not-true}

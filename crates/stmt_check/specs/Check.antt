@@ -69,7 +69,7 @@ rows_query_refusal pos roster (found.Plain n) tests = None
 rows_query_refusal pos roster (found.Hyper n) tests = tests_refusal pos (table_at roster (found.Hyper n)) tests
 rows_query_refusal pos roster (found.View n) tests = starts_refusal pos (view_at roster (found.View n)) tests
 
--- the refusals of a statement's names and values, by what its relation stands for
+-- the refusals of a statement's names and values, by what the name of its relation refers to
 abbrev pub refusal_of : ℕ → Roster → Stmt → Option Refusal
 refusal_of pos roster (stmts.Table name cols) = table_refusal pos roster name cols
 refusal_of pos roster (stmts.Hyper table col interval) =

@@ -1,4 +1,4 @@
--- What a name stands for, where a statement needs a relation of a kind.
+-- What a name refers to, where a statement needs a relation of a kind.
 use Rattle.std.specs.Prelude.{◌≡◌, ℕ, ◌<◌, length, Some, Result, Ok, Err, ⊤}
 use Rattle.ts_model.specs.declared.rosters.Roster.{Roster}
 use Rattle.ts_catalog.specs.declared.relations.Found.{Found}

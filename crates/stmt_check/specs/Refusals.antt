@@ -39,14 +39,14 @@ name_refusal pos roster name there =
     refusal_if pos name_taken (not (finds_nothing (found_in roster name)))
     ⊳ marked_refusal pos too_many (suc most_relations) (nat_le most_relations there)
 
--- where a hypertable is needed: the name stands for nothing, or for something else
+-- where a hypertable is needed: the name refers to nothing, or to something else
 abbrev pub hypertable_refusal : ℕ → Found → Option Refusal
 hypertable_refusal pos found.None = refusal_if pos no_relation true
 hypertable_refusal pos (found.Plain n) = refusal_if pos not_hypertable true
 hypertable_refusal pos (found.Hyper n) = None
 hypertable_refusal pos (found.View n) = refusal_if pos not_hypertable true
 
--- where a table is to become a hypertable: the name stands for nothing, for an aggregate, or for a hypertable
+-- where a table will become a hypertable: the name refers to nothing, to an aggregate, or to a hypertable
 abbrev pub plain_refusal : ℕ → Found → Option Refusal
 plain_refusal pos found.None = refusal_if pos no_relation true
 plain_refusal pos (found.Plain n) = None

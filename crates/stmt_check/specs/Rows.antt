@@ -33,7 +33,7 @@ rule_of at cols name =
     let place = unwrap_or (column_from name 0 cols) 0 in
     rule_at at (slice_index_or cols place blank_column) place
 
--- the rule of each value of a row: values stand for the columns listed, or for all in declared order
+-- the rule of each value of a row: the values are for the columns listed, or for all in declared order
 abbrev pub value_rules : ℕ → List Column → Option (List (List ℕ)) → List Rule
 value_rules at cols None = rules_from at 0 cols
 value_rules at cols (Some names) = map (rule_of at cols) names
@@ -60,7 +60,7 @@ abbrev pub leaves_out : ℕ → Option (List (List ℕ)) → ℕ → List Column
 leaves_out at names k [] = false
 leaves_out at names k (c ∷ cs) = ((c.must || at == k) && is_none (place_in names k c)) || leaves_out at names (k + 1) cs
 
--- one value: a time lies in the range of times, and NULL stands only where it may
+-- one value: a time is in the range of times, and NULL is only where it may be
 abbrev pub value_refusal : ℕ → Rule → Option ℤ → Option Refusal
 value_refusal pos rule None = refusal_if pos null_value rule.must
 value_refusal pos rule (Some v) = refusal_if pos bad_time (rule.time && not (is_time v))
@@ -108,7 +108,7 @@ others_of shape values = map (value_at values) shape.others
 abbrev pub row_of : Option ℕ → List (Option ℕ) → List (Option ℤ) → Row
 row_of time others values = record { at = unwrap_or (value_at values time) (nonneg 0); vals = map (value_at values) others }
 
--- what the values of an INSERT's rows stand for
+-- what the values of an INSERT's rows are for
 abbrev pub shape_of : ℕ → List Column → Option (List (List ℕ)) → ℕ → Shape
 shape_of at cols names count = record {
   rules = value_rules at cols names;

@@ -21,7 +21,7 @@ is_among name names = list_any (λ other. same_name other name) names
 abbrev pub is_column : List ℕ → List Column → Bool
 is_column name cols = list_any (λ c. same_name c.name name) cols
 
--- the columns of a table, in order after those before: none is named twice, and there are no more than there may be
+-- the columns of a table, in order after those before: none is named twice, and there aren't too many
 abbrev pub columns_refusal : ℕ → ℕ → List Column → List Column → Option Refusal
 columns_refusal pos count before [] = None
 columns_refusal pos count before (c ∷ cs) =

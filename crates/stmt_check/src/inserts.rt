@@ -26,7 +26,7 @@ pub(crate) struct Rule {
     must: bool,
 }
 
-/// What the values of an INSERT's rows stand for.
+/// What the values of an INSERT's rows are for.
 #[derive(Drop, Debug)]
 pub(crate) struct Shape {
     /// The rule of each value.
@@ -89,7 +89,7 @@ pub(crate) fn has_name(names: &[Name], name: &Name) -> bool
     names.iter().any(|other| *other == *name)
 }
 
-/// What the values stand for.
+/// What the values are for.
 fn shape_for(
     alloc: Global,
     at: u32,
@@ -287,7 +287,7 @@ fn check_values(pos: u64, rules: &[Rule], values: &[Option<i64>]) -> Result<(), 
     Ok(())
 }
 
-/// That a time lies in the range of times, and NULL stands only where it may.
+/// Checks that a time is in the range of times, and that NULL is only where it may be.
 fn check_value(pos: u64, rule: Rule, value: Option<i64>) -> Result<(), ResolveStop>
     ensures { Passes (value_refusal pos rule value) result }
 {

@@ -116,7 +116,7 @@ rows_go_on rows longer vs ws s m r total longer-is ws-is e m-is read so_far =
     ap (λ x. more (parts separators.Comma) row x r) (longer-is ∙ ap (λ w. rows ++ w ∷ []) ws-is)
     ∙ more_turn (parts separators.Comma) row rows s m r vs total forward-row e m-is read so_far
 
--- ---- a reader that goes on behind what was read
+-- ---- a reader that continues after what was read
 
 pub read_before : (text : List ℕ) (at : ℕ) (old : Cursor) → text ≡ old.text → at ≡ old.at → stream text at ≡ ahead old
 read_before text at old text-is at-is = ap (λ t. stream t at) text-is ∙ ap (stream old.text) at-is

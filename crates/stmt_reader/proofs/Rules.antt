@@ -272,6 +272,6 @@ reads_bind n {p = p} {q = q} {L = L} {M = M} {c = c} {d = d} r t apart = record 
   agrees = λ ts b left le m free. bind_agrees n p q L M c d ts b left r t apart le m free;
 }
 
--- one after the other, where the first never goes on
+-- in order, if the first never continues
 pub reads_then : (n : ℕ) {A B : Type 0} {p : Parser A} {q : A → Parser B} {L : Rule A} {M : A → Rule B} {d : Seen → Bool} → Reads n p L none → ((a : A) → Reads n (q a) (M a) d) → Reads n (bind p q) (sequence L M) d
 reads_then n {M = M} {d = d} r t = reads_bind n r t (λ a. avoids-none (M a) d)

@@ -9,7 +9,7 @@ use ts_schema::NoMemory;
 pub enum Fault {
     /// No token begins here.
     NoToken(u32),
-    /// No statement goes on with the token here, or the end comes here before the statement is whole.
+    /// No statement continues with the token here, or the text ends here before the statement is complete.
     Syntax(u32),
     /// The number here isn't an i64.
     BadNumber(u32),

@@ -155,7 +155,7 @@ impl Reader<'_> {
         }
     }
 
-    /// `[, read_mode_setting]`; without it an aggregate shows materialised buckets only.
+    /// `[, read_mode_setting]`; without it an aggregate shows materialized buckets only.
     #[tactic(auto, unfolding(crate::specs::Reading::mode, crate::specs::Reading::takes))]
     fn mode(&mut self) -> Result<bool, ReadError>
         ensures { Gives result (spec.mode (ahead self.old)) (ahead self.new) }

@@ -18,7 +18,7 @@ pub enum Separator {
     And,
 }
 
-/// What a reader may read at one go.
+/// What a reader may read in one call.
 pub trait Phrase {
     /// What the tokens in front say, and the tokens after them.
     ghost phrase: { Parser Self };

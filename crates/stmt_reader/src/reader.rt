@@ -1,4 +1,4 @@
-//! A reader of the tokens of a line, one after the other.
+//! A reader of the tokens of a line, in order.
 ghost use Rattle.std.specs.Prelude.{◌≡◌, ◌≤◌, length, if◌then◌else◌, option_map};
 ghost use Rattle.stmt_syntax.specs.Limits.{longest_line};
 ghost use Rattle.stmt_tokens.specs.Bytes.{lower};
@@ -18,9 +18,9 @@ use ts_schema::{Cmp, Name};
 /// A reader over the text of a line. It knows the token that comes next, and never goes back.
 /// Contracts see the text and how many of its bytes were read.
 ///
-/// `is_at_..` looks at the next token, and `takes_..` goes past it where it is the one that is named. A method that
-/// answers `Result` reads what it is named for and goes past that; else it answers the first fault with its place,
-/// or `ReadError::Memory`, and no clause says how far it has read then.
+/// `is_at_..` checks the next token, and `takes_..` moves past it if it is the one named. A method that
+/// returns `Result` reads what it is named for and moves past that. Otherwise it returns the first fault with
+/// its place, or `ReadError::Memory`, and no clause says how far it has read then.
 #[derive(Drop)]
 pub struct Reader<'a> {
     alloc: Global,
@@ -79,7 +79,7 @@ impl<'a> Reader<'a> {
         self.at
     }
 
-    /// Goes on behind this many bytes of the text.
+    /// Continues after this many bytes of the text.
     pub(crate) fn go_on_behind(&mut self, read_len: usize)
         requires within { read_len ≤ length self.old.text }
         ensures goes { self.new ≡ record { text = self.old.text; at = read_len } }

@@ -21,8 +21,8 @@ pub enum ReadStmt {
     Stmt(Stmt),
     /// No token begins at this place.
     NoToken(u32),
-    /// The tokens up to the one at this place begin no statement, or the end stands at this place and
-    /// the statement isn't whole.
+    /// The tokens up to the one at this place begin no statement, or the text ends at this place and the
+    /// statement isn't complete.
     Syntax(u32),
     /// The number at this place isn't an i64.
     BadNumber(u32),

@@ -54,7 +54,7 @@ fn mark_behind(text: &[u8], skip: usize, mark: Mark) -> Option<usize>
     Some(found.end)
 }
 
-/// The same, wherever the mark stands. It stays a function of its own, since marks seldom stand so.
+/// The same for every mark, after any blanks. It is a separate function, since few marks need it.
 #[inline(never)]
 fn mark_behind_blanks(text: &[u8], skip: usize, mark: Mark) -> Option<usize>
     requires within { skip ≤ length text.now }
@@ -71,8 +71,8 @@ fn mark_behind_blanks(text: &[u8], skip: usize, mark: Mark) -> Option<usize>
     Some(end)
 }
 
-/// The byte behind the row that comes after the first `skip` bytes of a text, where one does. `values` gets the
-/// row's values in place of its own.
+/// The byte after the row that follows the first `skip` bytes of a text, if there is a row. Replaces `values`
+/// with the values of the row.
 pub(crate) fn row_behind(
     text: &[u8],
     skip: usize,

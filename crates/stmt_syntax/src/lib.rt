@@ -1,5 +1,5 @@
-//! Statements as they are written: what stands in one, how long its text may be, and what holds of each that a
-//! text has.
+//! Statements as they are written: what a statement has, how long its text may be, and what is true of each
+//! statement that has a text.
 //!
 //! - `statements`: what is written in a statement.
 //! - `limits`: how long lines and inputs may be.

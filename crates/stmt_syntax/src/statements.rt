@@ -21,7 +21,7 @@ pub enum Stmt {
     /// `CREATE MATERIALIZED VIEW`
     View {
         name: Name,
-        /// Whether the aggregate shows materialised buckets only.
+        /// Whether the aggregate shows materialized buckets only.
         only: bool,
         /// Whether it is refreshed after it was made: not so exactly for `WITH NO DATA`.
         filled: bool,

@@ -28,7 +28,7 @@ parts false false true n s e len skip end h = record { has = refl; lens = cc; sk
 
 -- ---- names
 
--- a byte that goes on with a session's name goes on with a name
+-- a byte that continues a session's name continues a name
 tail_of : (letter digit bar : Bool) → ((letter || digit) || bar) ≡ true → ((letter || bar) || digit) ≡ true
 tail_of true digit bar h = refl
 tail_of false true true h = refl

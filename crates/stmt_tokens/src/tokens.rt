@@ -90,7 +90,7 @@ impl Mark {
         self.number() == mark.number()
     }
 
-    /// The comparison that it stands for.
+    /// The comparison that it represents.
     pub fn comparison(self) -> Option<Cmp>
         ensures { result ≡ comparison_of_mark self }
     {
@@ -206,7 +206,7 @@ impl<'a> Token<'a> {
         }
     }
 
-    /// The comparison that it stands for.
+    /// The comparison that it represents.
     pub fn comparison(self) -> Option<Cmp>
         ensures { result ≡ comparison_of (view self.entry) }
     {
@@ -396,8 +396,7 @@ fn lone_mark(text: &[u8], skip: usize) -> Option<Mark>
     }
 }
 
-/// What comes after the blanks that stand there. It stays a function of its own, so that what looks for a mark
-/// stays short.
+/// What follows the blanks there. It is a separate function to keep the search for a mark short.
 #[inline(never)]
 fn look_behind_blanks(text: &[u8], skip: usize) -> NextToken<'_>
     requires within { skip ≤ length text.now }

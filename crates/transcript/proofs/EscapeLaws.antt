@@ -31,7 +31,7 @@ at_least m n h = grind (arith, nat_tests)
 
 -- ---- a byte
 
--- what stands for it, by whether it has a short escape, and whether it is a control character
+-- how it is written, by whether it has a short escape, and whether it is a control character
 chosen : ℕ → Bool → Bool → List ℕ
 chosen byte short control = cond short (92 ∷ escape_letter byte ∷ []) (cond control (92 ∷ 117 ∷ 48 ∷ 48 ∷ digit_char (byte / 16) ∷ digit_char (byte % 16) ∷ []) (byte ∷ []))
 

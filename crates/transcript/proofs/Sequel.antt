@@ -73,7 +73,7 @@ pub wrote_some : (old mid new : Option (List ℕ)) (before page text : List ℕ)
 wrote_some old mid new before page text (Ok done) none g part = tt
 wrote_some old mid new before page text (Err fault) none g part = wrote_part old mid new before page text none g part
 
--- the count goes on from one that stayed
+-- the count rises from one that stayed
 pub then_counted : (a b c : ℕ) (fault : Bool) → b ≡ a → Counted b c fault → Counted a c fault
 then_counted a b c fault same h = subst (λ n. Counted n c fault) same h
 

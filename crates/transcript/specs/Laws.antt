@@ -1,4 +1,4 @@
--- What the text of a transcript is read as, and which lines a session of a transcript may have.
+-- The transcript that a text is read as, and the lines that a session of a transcript may have.
 use Rattle.std.specs.Prelude.{◌≡◌, ◌≤◌, ◌<◌, ◌^◌, ℕ, List, length, take, IsTrue}
 use Rattle.stmt_syntax.specs.Limits.{longest_line}
 use Rattle.stmt_tokens.specs.Lines.{line_kind, session_name}
@@ -23,15 +23,15 @@ AsciiReadsBack =
 abbrev pub ReadsAsOne : Type 0
 ReadsAsOne = (text : List ℕ) (t u : Transcript) → IsReading text t → IsReading text u → t ≡ u
 
--- the name of a session is a good one, and the line of an input in which it speaks is one of its lines up to the
--- comment: ASCII, and told apart as the whole line is
+-- the name of a session is valid, and the line of an input in which it speaks is one of its lines up to the comment:
+-- ASCII, and of the same kind as the whole line
 pub record IsSoundLine (line : List ℕ) (len skip end : ℕ) : Type 0 where
   pub named : IsTrue (is_session_name (session_name line len skip))
   pub spoken : IsTrue (is_line_of (session_name line len skip) (take end line))
   pub ascii : IsTrue (is_ascii_text (take end line))
   pub kind : line_kind (take end line) ≡ Stmt len skip end
 
--- so it is with every line in which a session speaks
+-- so is every line in which a session speaks
 abbrev pub LinesAreSound : Type 0
 LinesAreSound =
     (line : List ℕ) (len skip end : ℕ) → length line ≤ longest_line → IsTrue (is_one_line line)

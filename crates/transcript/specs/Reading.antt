@@ -1,4 +1,4 @@
--- What a text is read as.
+-- The transcript that a text is read as.
 use Rattle.std.specs.Prelude.{◌≡◌, ℕ, List, [], ◌∷◌, Option, Some, option_map, option_and_then, IsUtf8, IsTrue, false, ⊤}
 use Rattle.serde_json.specs.Data.{Data, Items, no_items, item}
 use Rattle.serde_json.specs.Find.{as_str, as_array, as_number, as_u64}
@@ -13,8 +13,8 @@ use Rattle.transcript.specs.declared.transcripts.Exchange.{Exchange}
 use Rattle.transcript.specs.declared.transcripts.SessionTranscript.{SessionTranscript}
 use Rattle.transcript.specs.declared.transcripts.Transcript.{Transcript}
 
--- the text is JSON with the value of the transcript, where of equal keys the last stands. Every session of it has a
--- good name of its own and says only its own lines
+-- the text is JSON with the value of the transcript; the last of equal keys counts. Every session has a separate,
+-- valid name and only lines of that session
 pub record IsReading (text : List ℕ) (t : Transcript) : Type 0 where
   pub utf8 : IsUtf8 text
   pub value : read text ≡ Some (transcript_data t)

@@ -1,4 +1,4 @@
--- What a transcript of a run is.
+-- When the names and lines of a transcript are sound.
 use Rattle.std.specs.Prelude.{ℕ, Bool, false, true, not, ◌&&◌, ◌==◌, List, [], ◌∷◌, length, map, bytes_eq, nat_le}
 use Rattle.std.specs.List.{list_all, list_any}
 use Rattle.stmt_syntax.specs.Limits.{longest_line}
@@ -37,17 +37,17 @@ speaks_in name line NotAscii = false
 speaks_in name line NoSession = false
 speaks_in name line (Stmt len skip end) = bytes_eq (session_name line len skip) name
 
--- one line, no longer than a line may be, in which the session speaks, as the lines of an input are told apart. A
--- comment may stand in it, and is no part of what the session says
+-- one line within the length limit in which the session speaks, classified as the lines of an input are. It may
+-- contain a comment, which is no part of what the session says
 abbrev pub is_line_of : List ℕ → List ℕ → Bool
 is_line_of name line = nat_le (length line) longest_line && is_one_line line && speaks_in name line (line_kind line)
 
 -- ---- a transcript
 
--- a good name, and lines of that session
+-- a valid name, and lines of that session
 abbrev pub is_sound_talk : SessionTranscript → Bool
 is_sound_talk t = is_session_name t.name && list_all (λ e. is_line_of t.name e.line) t.replies
 
--- every session has a good name of its own and says only its own lines
+-- every session has a separate, valid name and only lines of that session
 abbrev pub is_sound : Transcript → Bool
 is_sound t = list_all is_sound_talk t.sessions && are_apart (map (λ s. s.name) t.sessions)

@@ -1,4 +1,4 @@
-//! Texts as they stand between the quotes of a JSON string.
+//! Texts as they are written between the quotes of a JSON string.
 ghost use Rattle.std.specs.Prelude.{◌≡◌, ◌<◌, ◌≤◌, ◌++◌, length, take, is_err, IfOk, MatchResult};
 ghost use Rattle.std.specs.List.{prefix_len};
 ghost use Rattle.std.specs.Char.{digit_char};
@@ -30,8 +30,8 @@ pub(crate) fn send_escaped<K: Sink>(
     Ok(())
 }
 
-/// Sends the front of a text that has bytes: those that are written as they are, or one escape. It answers
-/// how many bytes these were.
+/// Sends the front of a text that isn't empty: the bytes that are written as they are, or one escape. Returns how
+/// many bytes these were.
 fn send_front<K: Sink>(text: &[u8], page: &mut Page, sink: &mut K) -> Result<usize, WriteFault>
     requires some { 0 < length text.now }
     ensures sent { MatchResult result
@@ -94,7 +94,7 @@ fn send_byte<K: Sink>(byte: u8, page: &mut Page, sink: &mut K) -> Result<(), Wri
     }
 }
 
-/// The letter of a byte's short escape, or 0 where it has none.
+/// The letter of a byte's short escape, or 0 if it has none.
 fn escape_letter(byte: u8) -> u8
     ensures { result ≡ escape_letter byte }
 {

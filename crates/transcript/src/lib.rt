@@ -1,14 +1,14 @@
-//! Transcripts of a parallel run: what was replied to each line of each session, as one JSON text,
-//! written in pieces and read back.
+//! Transcripts of a parallel run: each line of each session with its reply, as one JSON text. It is written in
+//! pieces and read back.
 //!
-//! - `transcripts`: what a transcript holds.
-//! - `shape`, `ascii`: whether its names and lines are good, and whether its texts are ASCII.
+//! - `transcripts`: the parts of a transcript.
+//! - `shape`, `ascii`: whether its names and lines are valid, and whether its texts are ASCII.
 //! - `reading`: a transcript read from its text.
 //! - `members`: the parts of a JSON value.
-//! - `sending`: the text of a transcript sent to a sink.
+//! - `sending`: sends the text of a transcript to a sink.
 //! - `pieces`, `escapes`: the pieces of that text, and its strings.
 //! - `send_buffer`: a text written in pages.
-//! - `laws`: what stands between a transcript, its text, and the lines of an input.
+//! - `laws`: laws of a transcript, its text, and the lines of an input.
 #![tactic(auto)]
 
 mod ascii;

@@ -1,4 +1,4 @@
-//! The pieces of a transcript's text, sent one after another.
+//! Sends the pieces of a transcript's text in order.
 ghost use Rattle.std.specs.Prelude.{◌≡◌, is_err};
 ghost use Rattle.std.specs.List.{flat_map};
 ghost use Rattle.serde_json.specs.Written.{comma_if};
@@ -19,7 +19,7 @@ pub(crate) enum Piece<'a> {
     Escaped(&'a [u8]),
 }
 
-/// Sends pieces one after another.
+/// Sends pieces in order.
 pub(crate) fn send_pieces<K: Sink>(
     pieces: &[Piece<'_>],
     page: &mut Page,
@@ -50,7 +50,7 @@ fn send_piece<K: Sink>(piece: &Piece<'_>, page: &mut Page, sink: &mut K) -> Resu
     }
 }
 
-/// A comma, where something stands before.
+/// A comma, if something comes before.
 pub(crate) fn comma(later: bool) -> &'static [u8]
     ensures { result.now ≡ comma_if later }
 {

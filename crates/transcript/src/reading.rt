@@ -11,26 +11,26 @@ use serde_json::Value;
 use std::alloc::Global;
 use ts_schema::{NoMemory, Seq};
 
-/// What a text is read as.
+/// The result of reading a text.
 #[derive(Drop, Debug)]
 pub enum ReadTranscript {
-    /// The transcript whose text it is.
+    /// The transcript that the text represents.
     Transcript(Kept),
-    /// The text is no JSON, or its value isn't that of a transcript.
+    /// The text isn't JSON, or its value isn't that of a transcript.
     BadText,
-    /// There was no memory.
+    /// Memory ran out.
     NoMemory,
 }
 
-/// Reads a transcript: a JSON text of an object with the members `sessions` and `start` alone, in which
-/// every session has the members `name` and `replies` and every reply `line` and `reply`. Of equal keys
-/// the last stands. `start` is a number of 64 bits without a point or an exponent.
+/// Reads a transcript: a JSON text of an object with the members `sessions` and `start` only, in which every
+/// session has the members `name` and `replies`, and every reply `line` and `reply`. The last of equal keys
+/// counts. `start` is a number of 64 bits without a point or an exponent.
 ///
-/// A session has a name of 1 to 16 bytes, a letter from `a` to `z` and then such letters, digits and `_`, and no
-/// name comes twice. Each of its lines is one in which that session speaks, as the lines of an input are told
-/// apart: without a line feed, of at most 65,536 bytes, ASCII up to its comment. It may have a comment.
+/// A session has a name of 1 to 16 bytes: a letter from `a` to `z`, and then such letters, digits and `_`. No name
+/// comes twice. Each of its lines is one in which that session speaks, by the rules for the lines of an input: no
+/// line feed, at most 65,536 bytes, and ASCII up to its comment. It may have a comment.
 ///
-/// Beside the text it takes some 24 bytes of memory for each byte of a text of short replies.
+/// Besides the text, it takes about 24 bytes of memory for each byte of a text of short replies.
 pub fn read_transcript(alloc: Global, text: &[u8]) -> ReadTranscript
     ensures read { Reads text.now result }
 {
@@ -41,7 +41,7 @@ pub fn read_transcript(alloc: Global, text: &[u8]) -> ReadTranscript
     }
 }
 
-/// The sound transcript whose data a value is.
+/// The sound transcript that a value represents.
 fn sound_transcript(alloc: Global, value: Value) -> ReadTranscript
     ensures answers { Answers (view value) result }
 {
@@ -52,7 +52,7 @@ fn sound_transcript(alloc: Global, value: Value) -> ReadTranscript
     }
 }
 
-/// The transcript, where it is sound.
+/// The transcript, if it is sound.
 fn if_sound(alloc: Global, transcript: Kept) -> ReadTranscript
     ensures answers { AnswersSound transcript result }
 {
@@ -63,7 +63,7 @@ fn if_sound(alloc: Global, transcript: Kept) -> ReadTranscript
     }
 }
 
-/// The transcript whose data a value is.
+/// The transcript that a value represents.
 fn transcript_in(alloc: Global, value: Value) -> Result<Option<Kept>, NoMemory>
     ensures read { IfOk result (λ read. read ≡ transcript_in (view value)) }
 {
@@ -80,7 +80,7 @@ fn transcript_in(alloc: Global, value: Value) -> Result<Option<Kept>, NoMemory>
 }
 
 #[tactic(auto, using(crate::proofs::Values::talk_before, crate::proofs::Values::no_talk, crate::proofs::Values::first_talk))]
-/// The talks whose data an array is.
+/// The sessions that an array represents.
 fn sessions_in(alloc: Global, value: Value) -> Result<Option<Seq<SessionTranscript>>, NoMemory>
     ensures read { IfOk result (λ read. read ≡ option_and_then talks_in (as_array (view value))) }
 {
@@ -97,7 +97,7 @@ fn sessions_in(alloc: Global, value: Value) -> Result<Option<Seq<SessionTranscri
     Ok(Some(talks))
 }
 
-/// The talk whose data a value is.
+/// The session that a value represents.
 fn session_in(alloc: Global, value: Value) -> Result<Option<SessionTranscript>, NoMemory>
     ensures read { IfOk result (λ read. read ≡ talk_in (view value)) }
 {
@@ -117,7 +117,7 @@ fn session_in(alloc: Global, value: Value) -> Result<Option<SessionTranscript>, 
 }
 
 #[tactic(auto, using(crate::proofs::Values::exchange_before, crate::proofs::Values::no_exchange, crate::proofs::Values::first_exchange))]
-/// The exchanges whose data an array is.
+/// The exchanges that an array represents.
 fn exchanges_in(alloc: Global, value: Value) -> Result<Option<Seq<Exchange>>, NoMemory>
     ensures read { IfOk result
         (λ read. read ≡ option_and_then exchanges_in (as_array (view value))) }
@@ -135,7 +135,7 @@ fn exchanges_in(alloc: Global, value: Value) -> Result<Option<Seq<Exchange>>, No
     Ok(Some(exchanges))
 }
 
-/// The exchange whose data a value is.
+/// The exchange that a value represents.
 fn exchange_in(value: Value) -> Option<Exchange>
     ensures read { result ≡ exchange_in (view value) }
 {

@@ -1,4 +1,4 @@
-//! A text written in pages, so that a short piece of it costs no write of its own.
+//! A text written in pages, so that a short piece of it costs no separate write.
 ghost use Rattle.std.specs.Prelude.{◌≡◌, [], OnErr, OnOk, is_err};
 ghost use Rattle.std.specs.Io.KnownBytes.{Appends};
 ghost use Rattle.ts_io.specs.Faults.{Counted};
@@ -11,10 +11,10 @@ use ts_io::{Sink, WriteFault, write_whole};
 /// How many bytes a page has.
 const PAGE_BYTES: usize = 4_096;
 
-/// The bytes of a text that wait to be written together.
+/// The bytes of a text that will be written together.
 pub(crate) type Page = ArrayVec<u8, PAGE_BYTES>;
 
-/// Writes what waits in the page.
+/// Writes the bytes of the page.
 pub(crate) fn flush<K: Sink>(page: &mut Page, sink: &mut K) -> Result<(), WriteFault>
     ensures all { OnOk result (Appends (K.written sink.old) (K.written sink.new) page.old.items) }
     ensures part { OnErr result (AppendsPart (K.written sink.old) (K.written sink.new) page.old.items) }
@@ -30,7 +30,7 @@ pub(crate) fn flush<K: Sink>(page: &mut Page, sink: &mut K) -> Result<(), WriteF
     }
 }
 
-/// Sends a piece of a text: it waits in the page, or what waits there is written, and it after that.
+/// Sends a piece of a text: adds it to the page if it fits, or else writes the page first.
 pub(crate) fn send<K: Sink>(piece: &[u8], page: &mut Page, sink: &mut K) -> Result<(), WriteFault>
     ensures sent { Sends result (K.written sink.old) (K.written sink.new) page.old.items page.new.items piece.now }
     ensures counted { Counted (K.faults sink.old) (K.faults sink.new) (is_err result) }
@@ -41,7 +41,7 @@ pub(crate) fn send<K: Sink>(piece: &[u8], page: &mut Page, sink: &mut K) -> Resu
     }
 }
 
-/// Sends a piece for which the page has no room.
+/// Sends a piece that doesn't fit the page.
 fn send_past<K: Sink>(piece: &[u8], page: &mut Page, sink: &mut K) -> Result<(), WriteFault>
     ensures sent { Sends result (K.written sink.old) (K.written sink.new) page.old.items page.new.items piece.now }
     ensures counted { Counted (K.faults sink.old) (K.faults sink.new) (is_err result) }

@@ -1,5 +1,5 @@
-//! The text of a transcript sent to a sink piece by piece. It takes no memory, so that none is wanted once
-//! a byte is written.
+//! Sends the text of a transcript to a sink piece by piece. It needs no memory, so memory can't run out once a
+//! byte is written.
 ghost use Rattle.std.specs.Prelude.{◌≡◌, ◌++◌, codes, false, is_err, OnErr, OnOk};
 ghost use Rattle.std.specs.Io.KnownBytes.{Appends};
 ghost use Rattle.serde_json.specs.Written.{comma_if, compact_text, items_text};
@@ -15,8 +15,8 @@ use crate::transcripts::{Exchange, SessionTranscript, Transcript};
 use itoa::Buffer;
 use ts_io::{Sink, WriteFault};
 
-/// Writes the text of a transcript: the compact JSON text of its value and a line feed. After a fault a
-/// prefix of the text was written.
+/// Writes the text of a transcript: the compact JSON text of its value and a line feed. After a fault, a prefix of
+/// the text was written.
 pub fn send_transcript<K: Sink>(transcript: &Transcript, sink: &mut K) -> Result<(), WriteFault>
     ensures all { OnOk result
         (Appends (K.written sink.old) (K.written sink.new) (transcript_text transcript.now)) }
@@ -47,7 +47,7 @@ fn send_whole<K: Sink>(
     }
 }
 
-/// Sends the text of a transcript behind its first bracket.
+/// Sends the text of a transcript after its first bracket.
 fn send_after_head<K: Sink>(
     transcript: &Transcript,
     page: &mut Page,
@@ -79,7 +79,7 @@ fn send_start<K: Sink>(start: u64, page: &mut Page, sink: &mut K) -> Result<(), 
     send_pieces(&pieces, page, sink)
 }
 
-/// Sends the talks with commas between them, and the closing bracket.
+/// Sends the sessions with commas between them, and the closing bracket.
 fn send_sessions<K: Sink>(
     talks: &[SessionTranscript],
     page: &mut Page,
@@ -102,7 +102,7 @@ fn send_sessions<K: Sink>(
     send(b"]", page, sink)
 }
 
-/// Sends a talk, behind a comma where one stands before it.
+/// Sends a session, with a comma before it if another comes before.
 fn send_session<K: Sink>(
     later: bool,
     talk: &SessionTranscript,
@@ -119,7 +119,7 @@ fn send_session<K: Sink>(
     }
 }
 
-/// Sends a talk up to its first exchange.
+/// Sends a session up to its first exchange.
 fn send_session_head<K: Sink>(
     later: bool,
     name: &[u8],
@@ -139,7 +139,7 @@ fn send_session_head<K: Sink>(
     send_pieces(&pieces, page, sink)
 }
 
-/// Sends the exchanges of a talk, and its end.
+/// Sends the exchanges of a session, and its end.
 fn send_session_rest<K: Sink>(
     exchanges: &[Exchange],
     page: &mut Page,
@@ -178,7 +178,7 @@ fn send_exchanges<K: Sink>(
     send(b"]", page, sink)
 }
 
-/// Sends an exchange, behind a comma where one stands before it.
+/// Sends an exchange, with a comma before it if another comes before.
 fn send_exchange<K: Sink>(
     later: bool,
     exchange: &Exchange,

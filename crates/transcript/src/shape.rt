@@ -1,4 +1,4 @@
-//! Whether a transcript's names and lines are good.
+//! Whether a transcript's names and lines are valid.
 ghost use Rattle.std.specs.Prelude.{◌≡◌, ◌≤◌, IfOk, length, map, suc};
 ghost use Rattle.std.specs.List.{list_all};
 ghost use Rattle.stmt_syntax.specs.Limits.{longest_line};
@@ -12,7 +12,7 @@ use stmt_tokens::{LineKind, split_line};
 use ts_io::LINE_LIMIT;
 use ts_schema::NoMemory;
 
-/// Whether every session has a good name of its own and says only its own lines.
+/// Whether every session has a separate, valid name and only lines of that session.
 pub(crate) fn is_sound(alloc: Global, transcript: &Transcript) -> Result<bool, NoMemory>
     ensures sound { IfOk result (λ sound. sound ≡ is_sound transcript.now) }
 {
@@ -86,8 +86,7 @@ fn continues_session(byte: u8) -> bool
     matches!(byte, b'a'..=b'z' | b'0'..=b'9' | b'_')
 }
 
-/// Whether the text is one line in which the session with the name speaks, as the lines of an input are
-/// told apart.
+/// Whether the text is one line in which the session with the name speaks, by the rules for the lines of an input.
 fn is_line_of(name: &[u8], line: &[u8]) -> bool
     ensures { result ≡ is_line_of name.now line.now }
 {
@@ -113,7 +112,7 @@ fn speaks_in(name: &[u8], line: &[u8]) -> bool
     }
 }
 
-/// The name of the session that speaks in a line. It stands before the colon, the last of the bytes to
+/// The name of the session that speaks in a line. It comes before the colon, which is the last of the bytes to
 /// skip.
 fn session_name(line: &[u8], name_len: u32, skip: u32) -> &[u8]
     requires colon { suc name_len ≤ skip }

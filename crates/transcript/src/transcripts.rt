@@ -1,7 +1,7 @@
-//! What a transcript holds.
+//! The parts of a transcript.
 use ts_schema::Seq;
 
-/// A line and what was replied to it.
+/// An exchange: a line and its reply.
 #[derive(Drop, Debug)]
 pub struct Exchange {
     /// The line up to its comment, without its line end.
@@ -10,7 +10,7 @@ pub struct Exchange {
     pub reply: Seq<u8>,
 }
 
-/// What one session said.
+/// The exchanges of one session.
 #[derive(Drop, Debug)]
 pub struct SessionTranscript {
     /// The name of the session.
@@ -19,7 +19,7 @@ pub struct SessionTranscript {
     pub replies: Seq<Exchange>,
 }
 
-/// What all sessions of a run said.
+/// The exchanges of all sessions of a run.
 #[derive(Drop, Debug)]
 pub struct Transcript {
     /// The position at which the run began.

@@ -1,4 +1,4 @@
--- What is found by a name stands at its number.
+-- What is found by a name is at its number.
 use Rattle.std.proofs.Common.{◌≡◌, refl, sym, subst, ℕ, suc, ◌+◌, true, false, if◌then◌else◌, List, [], ◌∷◌, is_some, arith}
 use Rattle.std.specs.Cmp.Lexicographic.{same_text}
 use Rattle.ts_model.specs.declared.rosters.Roster.{Roster}

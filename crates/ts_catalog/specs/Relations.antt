@@ -1,4 +1,4 @@
--- What a name stands for.
+-- What a name refers to.
 use Rattle.std.specs.Prelude.{◌≡◌, ℕ, ◌+◌, ◌<◌, ◌^◌, true, false, if◌then◌else◌, List, [], ◌∷◌, length, slice_get, Some, is_some}
 use Rattle.ts_model.specs.declared.rosters.Roster.{Roster}
 use Rattle.ts_model.specs.declared.tables.TableInfo.{TableInfo}
@@ -28,7 +28,7 @@ or_else (found.Plain n) b = found.Plain n
 or_else (found.Hyper n) b = found.Hyper n
 or_else (found.View n) b = found.View n
 
--- what a name stands for: a table, or else an aggregate
+-- what a name refers to: a table, or otherwise an aggregate
 abbrev pub found_in : Roster → List ℕ → Found
 found_in roster name = or_else (table_from name 0 roster.tables) (view_from name 0 roster.views)
 

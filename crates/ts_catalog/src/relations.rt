@@ -5,8 +5,8 @@ ghost use Rattle.ts_catalog.specs.Relations.{CanBeNumbered, IsThere, found_in, o
 use ts_model::{Roster, TableInfo, ViewDef};
 use ts_schema::Name;
 
-/// What a name stands for. The number of a table or of an aggregate is its place in the roster's list of them,
-/// which counts from 0.
+/// What a name refers to. The number of a table or of an aggregate is its place in the roster's list of them,
+/// counted from 0.
 #[derive(Clone, Copy, Debug, PartialEq, Eq)]
 pub enum Found {
     /// No relation has this name.
@@ -19,7 +19,7 @@ pub enum Found {
     View(u32),
 }
 
-/// What a name stands for in a roster.
+/// What a name refers to in a roster.
 #[tactic(auto, using(crate::proofs::Numbers::found_is_there))]
 pub fn find(roster: &Roster, name: &Name) -> Found
     requires { CanBeNumbered roster.now }

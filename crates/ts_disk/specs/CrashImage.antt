@@ -21,7 +21,7 @@ pub record Torn (at n : ℕ) (old new : List ℕ) : Type 0 where
 abbrev pub Follows : (List ℕ → List ℕ → Type 0) → (List ℕ → Type 0) → (List ℕ → Type 0) → Type 0
 Follows step old new = (c : List ℕ) → new c → (d : List ℕ) × old d × step d c
 
--- a crash leaves no more than it did
+-- a crash leaves only what it might have left before
 abbrev pub LeavesNoMore : (List ℕ → Type 0) → (List ℕ → Type 0) → Type 0
 LeavesNoMore old new = (c : List ℕ) → new c → old c
 
@@ -31,7 +31,7 @@ Only file outcomes = (c : List ℕ) → outcomes c → c ≡ file
 
 -- ---- moments
 
--- time goes on: a crash since t might have left what it might have left before, or what it may leave now
+-- time passes: a crash since t might have left what it might have left before, or what it may leave now
 pub record Elapses (before now : ℕ) (past since : ℕ → List ℕ → Type 0) (may_leave : List ℕ → Type 0) : Type 0 where
   pub later : before ≤ now
   pub nothing_else : (t : ℕ) (c : List ℕ) → t ≤ before → since t c → past t c ⊎ may_leave c

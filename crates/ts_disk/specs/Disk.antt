@@ -1,26 +1,26 @@
--- What the calls of a disk do to the bytes that it tells, and what stays.
+-- What the calls of a disk do to its known bytes, and what stays.
 use Rattle.std.specs.Prelude.{◌≡◌, ℕ, ◌≤◌, List, Option, None, Some, IsSomeAnd, IfSome, Result, MatchResult, length, take, drop}
 use Rattle.ts_schema.specs.Faults.{Rose}
 use Rattle.ts_disk.specs.CrashImage.{Torn, file_after_write}
 
--- the count of faults stays where a call succeeds, and rises where it fails
+-- the count of faults stays if a call succeeds, and rises if it fails
 abbrev pub Counted : {T E : Type 0} → ℕ → ℕ → Result T E → Type 0
 Counted before now result = MatchResult result (λ _. now ≡ before) (λ _. Rose before now)
 
--- told bytes have n bytes
+-- if the bytes are known, there are n of them
 abbrev pub HasLength : Option (List ℕ) → ℕ → Type 0
 HasLength told n = IfSome told (λ file. n ≡ length file)
 
--- told bytes hold a range from this place on
+-- if the bytes are known, there are at least `end` of them
 abbrev pub HasRange : Option (List ℕ) → ℕ → Type 0
 HasRange told end = IfSome told (λ file. end ≤ length file)
 
--- these are the told bytes from this place on
+-- if the bytes are known, these are in them from this place on
 abbrev pub IsRange : Option (List ℕ) → ℕ → List ℕ → Type 0
 IsRange told at bytes = IfSome told (λ file. bytes ≡ take (length bytes) (drop at file))
 
--- a write puts its piece at its place; one that failed may have put any bytes into its range and past the old end, and
--- leaves the others as they were; what isn't told stays so
+-- a write puts its piece at its place; one that failed may have put any bytes into its range and past the old end,
+-- and leaves the others as they were; unknown bytes stay unknown
 abbrev pub Writes : {T E : Type 0} → Option (List ℕ) → ℕ → List ℕ → Result T E → Option (List ℕ) → Type 0
 Writes None at piece result new = new ≡ None
 Writes (Some file) at piece result new =

@@ -55,7 +55,7 @@ is_counted (After calls) call = true
 abbrev pub made_after : Plan → DiskCall → ℕ → ℕ
 made_after plan call made = if is_counted plan call then one_more made else made
 
--- whether a call fails, where so many are made with it: the nth of its kind alone, or all but the first ones
+-- whether a call fails that is the call with this number: only the nth of its kind, or all but the first ones
 abbrev pub is_failing : Plan → DiskCall → ℕ → Bool
 is_failing (Once kind nth) call made = same_kind kind call && made == nth
 is_failing (After calls) call made = nat_lt calls made

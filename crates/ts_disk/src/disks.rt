@@ -10,14 +10,14 @@ pub const MOST_BYTES: u64 = 1 << 62;
 #[derive(Clone, Copy, Debug, PartialEq, Eq)]
 pub struct Failed;
 
-/// Bytes by their places, of which a crash may lose what wasn't synced, with a count of its faults.
+/// Bytes by their places, with a count of failed calls. A crash may lose what wasn't synced.
 ///
 /// Between two syncs each written range, and the part past the old end, may hold any bytes after a
 /// crash, and the length may be any number from the old to the new one. Bytes outside stay. After a
 /// sync that succeeds a crash leaves what a read gives. After a write that failed a read, too, may give
 /// any bytes in its range and past the old end.
 pub trait Disk {
-    /// The bytes that reads give, where they are told.
+    /// The bytes that reads give, if they are known.
     ghost bytes: { Self → Option (List ℕ) };
 
     /// What a crash at this moment may leave.
@@ -32,18 +32,18 @@ pub trait Disk {
     /// How many calls have failed.
     ghost faults: { Self → ℕ };
 
-    /// How many calls have failed. At `u64::MAX` the count stands still.
+    /// Returns how many calls have failed, at most `u64::MAX`.
     fn faults(&self) -> u64
         ensures { result ≡ faults self.now };
 
-    /// How many bytes there are.
+    /// Returns how many bytes there are.
     fn len(&mut self) -> Result<u64, Failed>
         ensures length { IfOk result (λ n. HasLength (bytes self.old) n) }
         ensures most { IfOk result (λ n. n ≤ MOST_BYTES) }
         ensures kept { Keeps bytes may_leave moment left_since self.old self.new }
         ensures counted { Counted (faults self.old) (faults self.new) result };
 
-    /// Fills `into` with the bytes from place `at` on. Where it fails `into` may hold any bytes.
+    /// Fills `into` with the bytes from place `at` on. If it fails, `into` may hold any bytes.
     fn read_at(&mut self, at: u64, into: &mut [u8]) -> Result<(), Failed>
         requires most { at + length into.old ≤ MOST_BYTES }
         requires range { HasRange (bytes self.old) (at + length into.old) }
@@ -63,7 +63,7 @@ pub trait Disk {
             (may_leave self.new) }
         ensures counted { Counted (faults self.old) (faults self.new) result };
 
-    /// Puts all that was written onto the disk. Once this succeeds, a crash leaves what a read gives.
+    /// Writes all bytes through to the disk. Once this succeeds, a crash leaves what a read gives.
     fn sync(&mut self) -> Result<(), Failed>
         ensures same { bytes self.new ≡ bytes self.old }
         ensures durable { OnOk result (IfSome (bytes self.old) (λ file. Only file (may_leave self.new))) }

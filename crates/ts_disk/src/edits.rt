@@ -4,7 +4,7 @@ ghost use Rattle.ts_disk.specs.CrashImage.{file_after_write};
 
 use ts_schema::NoMemory;
 
-/// Writes a piece at a place, where there is room for it.
+/// Writes a piece at a place, if there is room for it.
 pub fn write_over(bytes: &mut Vec<u8>, at: usize, piece: &[u8])
     requires range { at ≤ length bytes.old.items }
     requires room { vec_len bytes.old + length piece.now ≤ vec_capacity bytes.old }

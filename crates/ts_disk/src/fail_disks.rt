@@ -32,7 +32,7 @@ pub enum DiskCall {
 pub enum Plan {
     /// The call of this kind with this number, counted from 1, and no other.
     Once { kind: DiskCall, nth: u64 },
-    /// Every call after so many.
+    /// Every call after this many.
     After { calls: u64 },
 }
 
@@ -41,7 +41,7 @@ pub enum Plan {
 pub struct FailDisk {
     disk: MemDisk,
     plan: Plan,
-    /// How many calls of those that the plan counts there were.
+    /// How many calls were made, of those that the plan counts.
     made: u64,
     faults: u64,
 }
@@ -55,8 +55,8 @@ impl Model for FailDisk {
 }
 
 impl FailDisk {
-    /// A disk with these bytes, all of them on the disk. The `nth` call of this kind, counted from 1,
-    /// fails, and the disk goes on. It takes no memory.
+    /// A disk with these bytes, all of them on the disk. The `nth` call of this kind, counted from 1, fails. The
+    /// other calls are those of a `MemDisk`. Takes no memory.
     pub fn new(alloc: Global, bytes: Vec<u8>, kind: DiskCall, nth: u64) -> FailDisk
         ensures made { result ≡ record {
           disk = record { first = bytes.items; acts = []; faults = 0 };
@@ -73,8 +73,8 @@ impl FailDisk {
         }
     }
 
-    /// A disk with these bytes, all of them on the disk. So many calls pass, and then every call fails.
-    /// It takes no memory.
+    /// A disk with these bytes, all of them on the disk. The first `calls` calls are those of a `MemDisk`, and
+    /// then every call fails. Takes no memory.
     pub fn stop_after(alloc: Global, bytes: Vec<u8>, calls: u64) -> FailDisk
         ensures made { result ≡ record {
           disk = record { first = bytes.items; acts = []; faults = 0 };
@@ -91,7 +91,7 @@ impl FailDisk {
         }
     }
 
-    /// The disk that it holds, for tests that look at its bytes and at what a crash would leave.
+    /// Returns the disk that it holds, for tests that check its bytes and what a crash would leave.
     pub fn inner(&self) -> &MemDisk
         ensures { result.now ≡ self.now.disk }
     {
@@ -125,7 +125,7 @@ fn is_same(a: DiskCall, b: DiskCall) -> bool
     a == b
 }
 
-/// Counts one more fault where a call failed.
+/// Counts one more fault if a call failed.
 fn count_failed<T>(faults: &mut u64, answer: &Result<T, Failed>)
     ensures { faults.new ≡ (if is_ok answer.now then faults.old else one_more faults.old) }
 {

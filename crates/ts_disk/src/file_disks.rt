@@ -11,18 +11,18 @@ use std::os::unix::fs::FileExt;
 /// By how many bytes the file grows at a time, so that few syncs have to wait for new blocks.
 const STEP: u64 = 1 << 18;
 
-/// What one write puts into grown bytes.
+/// The zeros that one write adds as the file grows.
 const ZEROS: [u8; 4096] = [0; 4096];
 
 /// An open file as a disk, by positioned reads and writes and data syncs, with a count of its errors.
-/// Contracts see the count alone: of a file they promise neither what a read gives nor what a crash leaves.
+/// Contracts see only the count: of a file they promise neither what a read gives nor what a crash leaves.
 ///
-/// A write past the end that doesn't begin at place 0 may leave zeros behind its bytes: the file grows
-/// ahead in steps.
+/// A write past the end that doesn't begin at place 0 may leave zeros after its bytes: the file grows ahead
+/// in steps.
 #[derive(Drop)]
 pub struct FileDisk<F> {
     file: F,
-    /// The file has at least so many bytes.
+    /// The file has at least this many bytes.
     room: u64,
     faults: u64,
 }
@@ -36,7 +36,7 @@ impl<F> Model for FileDisk<F> {
 }
 
 impl<F: FileExt + OpenFile> FileDisk<F> {
-    /// The disk of this file, which was opened to be read and written.
+    /// The disk of this file, which must be open for reading and writing.
     pub fn new(file: F) -> FileDisk<F>
         ensures no_fault { result ≡ 0 }
     {
@@ -55,8 +55,8 @@ impl<F: FileExt + OpenFile> FileDisk<F> {
         Failed
     }
 
-    /// Writes a piece, and zeros behind it where it goes past the end and not from place 0. The first
-    /// bytes of a file are written alone, since a crash may leave any length up to the new one.
+    /// Writes a piece, and zeros after it if it goes past the end and doesn't begin at place 0. The first bytes
+    /// of a file are written without zeros, since a crash may leave any length up to the new one.
     fn write_and_grow(&mut self, at: u64, piece: &[u8], end: u64) -> io::Result<()>
         requires within { end ≤ MOST_BYTES }
         ensures { self.new ≡ self.old }
@@ -69,7 +69,7 @@ impl<F: FileExt + OpenFile> FileDisk<F> {
         Ok(())
     }
 
-    /// Puts zeros from place `end` on up to a whole number of steps, and gives the new length.
+    /// Writes zeros from place `end` on up to a whole number of steps, and returns the new length.
     fn grow(&self, end: u64) -> io::Result<u64>
         requires within { end ≤ MOST_BYTES }
     {

@@ -16,9 +16,9 @@ use std::alloc::Global;
 use std::marker::Model;
 use ts_schema::{NoMemory, Seq};
 
-/// A disk in memory. It tells its bytes, and keeps a record of all its writes and syncs, so that what a
-/// crash at each moment may leave is exactly what the model of a disk says. A call fails only where it
-/// finds no memory, or goes beyond `MOST_BYTES`.
+/// A disk in memory. Its bytes are known, and it records all its writes and syncs, so what a crash at each
+/// moment may leave is exactly what the model of a disk says. A call fails only if memory runs out or it goes
+/// beyond `MOST_BYTES`.
 #[derive(Drop)]
 pub struct MemDisk {
     alloc: Global,
@@ -26,7 +26,7 @@ pub struct MemDisk {
     first: Vec<u8>,
     /// What was done since.
     acts: Vec<Act>,
-    /// Whether the bytes are in `bytes`; else they are still those at first.
+    /// Whether the bytes are in `bytes`. Otherwise they are still those at first.
     is_changed: bool,
     bytes: Vec<u8>,
     faults: u64,
@@ -48,7 +48,7 @@ impl Model for MemDisk {
 }
 
 impl MemDisk {
-    /// A disk with these bytes, all of them on the disk. It takes no memory.
+    /// A disk with these bytes, all of them on the disk. Takes no memory.
     pub fn new(alloc: Global, bytes: Vec<u8>) -> MemDisk
         ensures made { result ≡ record { first = bytes.items; acts = []; faults = 0 } }
     {
@@ -62,7 +62,7 @@ impl MemDisk {
         }
     }
 
-    /// The bytes that a read gives.
+    /// Returns the bytes that a read gives.
     pub fn bytes(&self) -> &[u8]
         ensures { result.now ≡ content self.now }
     {
@@ -73,10 +73,10 @@ impl MemDisk {
         }
     }
 
-    /// Appends one of the images that a crash at this moment may leave, for tests. Write number `i` since the
-    /// last sync, from 0, is kept where bit `i mod 63` of `pick` is 1. Kept writes are applied in order to the
-    /// bytes of that sync, and a gap is filled with zeros. Where bit 63 is 1 the last write that is kept
-    /// has only its first half, rounded up.
+    /// Appends to `out` one of the images that a crash at this moment may leave, for tests. Write number `i`
+    /// since the last sync, from 0, is kept if bit `i mod 63` of `pick` is 1. Kept writes are applied in order to
+    /// the bytes of that sync, and a gap is filled with zeros. If bit 63 is 1, only the first half, rounded up,
+    /// of the last kept write is applied.
     pub fn crash(&self, pick: u64, out: &mut Vec<u8>) -> Result<(), NoMemory>
         ensures picked { OnOk result (out.new.items ≡ out.old.items ++ image_picked pick (state_of self.now)) }
         ensures image { IsImage (state_of self.now) (image_picked pick (state_of self.now)) }

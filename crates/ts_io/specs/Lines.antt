@@ -1,7 +1,7 @@
 -- The lines of a text.
 use Rattle.std.specs.Prelude.{◌≡◌, ℕ, ◌<◌, List, [], ◌∷◌, length, take, slice_index, ◌==◌, if◌then◌else◌, nat_le}
 
--- the byte put in front of the first line, or a line of its own where there is none
+-- the byte put in front of the first line, or as a line if there is none
 abbrev pub onto_first : ℕ → List (List ℕ) → List (List ℕ)
 onto_first b [] = (b ∷ []) ∷ []
 onto_first b (line ∷ lines) = (b ∷ line) ∷ lines
@@ -25,6 +25,6 @@ ended_lines (b ∷ text) = if b == 10 then [] ∷ ended_lines text else onto_end
 abbrev pub lines_within : ℕ → List ℕ → List (List ℕ)
 lines_within n text = if nat_le (length text) n then lines_of text else ended_lines (take n text)
 
--- the first line end of the text stands at place n
+-- the first line end of the text is at place n
 abbrev pub IsFirstEnd : List ℕ → ℕ → Type 0
 IsFirstEnd text n = (n < length text) × (slice_index text n ≡ 10) × (ended_lines (take n text) ≡ [])

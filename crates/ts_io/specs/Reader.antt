@@ -29,7 +29,7 @@ Answers End n text m rest line = (lines_within n text ≡ []) × (text ≡ []) �
 Answers InputLong n text m rest line = (lines_within n text ≡ []) × (n < length text)
 Answers ReadFault n text m rest line = ⊤
 
--- the same, where the text to come is told
+-- the same, if the text to come is known
 abbrev pub ReadsLine : LineEnd → ℕ → Option (List ℕ) → ℕ → Option (List ℕ) → List ℕ → Type 0
 ReadsLine end n None m new line = ⊤
 ReadsLine end n (Some text) m None line = ⊥

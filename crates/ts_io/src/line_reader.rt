@@ -103,9 +103,10 @@ impl Lines {
         &self.bytes[self.line_from..self.line_to]
     }
 
-    /// The next line. It asks the source only where it holds no whole line and the source hasn't told
-    /// its end, and takes no memory. Each call is to have the same source, which hasn't told its end before the
-    /// first. After `End`, `InputLong` or `ReadFault` there is no other line, and this may not be called again.
+    /// Finds the next line. Reads from the source only if it holds no whole line and the source hasn't told
+    /// its end. Takes no memory. Each call must have the same source, which hasn't told its end before the
+    /// first. After `End`, `InputLong` or `ReadFault` there is no other line, and this may not be called
+    /// again.
     pub fn next<S: Source>(&mut self, source: &mut S) -> LineEnd
         requires is_open { self.old.is_open ≡ true }
         requires follows { Follows self.old (S.ended source.old) (S.left source.old) }

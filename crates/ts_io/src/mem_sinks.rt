@@ -9,8 +9,8 @@ use crate::sinks::{Put, Sink};
 use std::alloc::Global;
 use std::marker::Model;
 
-/// A sink in memory. It tells its bytes, takes a bounded number at each call, and fails at the calls
-/// that it is told and where it finds no memory.
+/// A sink in memory. Contracts know its bytes. It takes a bounded number at each call, and fails at the calls
+/// that it is given and when it is out of memory.
 #[derive(Drop)]
 pub struct MemSink {
     bytes: Vec<u8>,

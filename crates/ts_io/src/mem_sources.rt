@@ -8,8 +8,8 @@ use crate::schedules::{Schedule, count_call, count_fault};
 use crate::sources::{Got, Source, tells_end};
 use std::marker::Model;
 
-/// A source in memory. It tells its bytes, gives a bounded number at each call, and fails at the
-/// calls that it is told.
+/// A source in memory. Contracts know its bytes. It gives a bounded number at each call, and fails at the
+/// calls that it is given.
 #[derive(Drop)]
 pub struct MemSource {
     bytes: Vec<u8>,

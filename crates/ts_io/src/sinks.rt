@@ -14,13 +14,13 @@ pub enum Put {
 
 /// Takes bytes in order, and counts its faults.
 pub trait Sink {
-    /// The bytes that were written, where they are told.
+    /// The bytes that were written, if they are known.
     ghost written: { Self → Option (List ℕ) };
 
     /// How many calls have failed.
     ghost faults: { Self → ℕ };
 
-    /// How many calls have failed. At `u64::MAX` the count stands still.
+    /// How many calls have failed, at most `u64::MAX`.
     fn faults(&self) -> u64
         ensures { result ≡ faults self.now };
 

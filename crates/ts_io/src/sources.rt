@@ -25,7 +25,7 @@ pub(crate) fn tells_end(got: Got, into: &[u8]) -> bool
 
 /// Gives bytes in order, and counts its faults.
 pub trait Source {
-    /// The bytes that are left, where they are told.
+    /// The bytes that are left, if they are known.
     ghost left: { Self → Option (List ℕ) };
 
     /// Whether it has told its end.
@@ -34,7 +34,7 @@ pub trait Source {
     /// How many calls have failed.
     ghost faults: { Self → ℕ };
 
-    /// How many calls have failed. At `u64::MAX` the count stands still.
+    /// How many calls have failed, at most `u64::MAX`.
     fn faults(&self) -> u64
         ensures { result ≡ faults self.now };
 

@@ -1,4 +1,4 @@
-//! Readers and writers of std, as standard input and standard output are, as a source and a sink.
+//! Readers and writers of std, such as standard input and standard output, as a source and a sink.
 ghost use Rattle.std.specs.Prelude.{◌≡◌, ◌≢◌, ◌<◌, ◌≤◌, false, length, take, IfErr, IfOk, OnErr};
 ghost use Rattle.std.specs.Bool.{OnFalse};
 ghost use Rattle.std.specs.Io.{ReadsAtMost, WritesAtMost};
@@ -14,8 +14,8 @@ use std::marker::Model;
 /// How often a call that a signal interrupts is made again before it counts as failed.
 const TRIES: u32 = 1_000;
 
-/// A reader of std, as standard input is, with a count of its errors. It tells the bytes that the
-/// reader tells, and no more.
+/// A reader of std, such as standard input, with a count of its errors. Contracts know exactly the bytes that
+/// they know of the reader.
 #[derive(Drop)]
 pub struct StdinSource<R> {
     reader: R,
@@ -103,8 +103,8 @@ fn read_retrying<R: Read>(reader: &mut R, into: &mut [u8]) -> io::Result<usize>
     Err(io::Error::from(ErrorKind::TimedOut))
 }
 
-/// A writer of std, as standard output is, with a count of its errors. It tells the bytes that the
-/// writer tells, and no more.
+/// A writer of std, such as standard output, with a count of its errors. Contracts know exactly the bytes
+/// that they know of the writer.
 #[derive(Drop)]
 pub struct StdoutSink<W> {
     writer: W,

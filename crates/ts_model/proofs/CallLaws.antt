@@ -1,4 +1,5 @@
--- Laws of calls: what a call leaves begins with what was seen, what an alone store finds, and that a store that stands still goes on standing still.
+-- Laws of calls: what a call leaves begins with what was seen; what an alone store finds; a stopped store stays
+-- stopped.
 use Rattle.std.specs.Prelude.{Bool, true}
 use Rattle.std.proofs.Common.{sym, refl, subst}
 use Rattle.ts_model.specs.declared.outcomes.Outcome.{Outcome}

@@ -1,4 +1,4 @@
--- Whether an aggregate shows materialised rows only plays no part in what is stale, nor in what stood in a bucket.
+-- Whether an aggregate shows materialized rows only has no effect on what is stale, or on what was in a bucket.
 use Rattle.std.proofs.Common.{◌≡◌, ℕ, suc, Bool, ◌&&◌, cond, ℤ, Option, Some, None, refl, ap, ◌∙◌}
 use Rattle.ts_num.specs.Aggregates.{greater}
 use Rattle.ts_bucket.specs.Positions.{later, is_above}

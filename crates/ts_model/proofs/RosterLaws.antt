@@ -23,7 +23,7 @@ slice_get-append [] ys i x e = absurd (cc)
 slice_get-append (z ∷ xs) ys zero x e = e
 slice_get-append (z ∷ xs) ys (suc i) x e = slice_get-append xs ys i x e
 
--- what stands at place i after a change at place j is what stood there, or that changed
+-- what is at place i after a change at place j is what was there, or that changed
 pub slice_get-change_at : {X : Type 0} (xs : List X) (j i : ℕ) (f : X → X) (x : X) → slice_get xs i ≡ Some x → (changed : Bool) × (slice_get (change_at xs j f) i ≡ Some (cond changed (f x) x))
 slice_get-change_at [] j i f x e = absurd (cc)
 slice_get-change_at (z ∷ xs) zero zero f x e = let same_item : z ≡ x = cc in (true, ap (λ y. Some (f y)) same_item)

@@ -46,7 +46,7 @@ get_pushed [] y (suc i) x e = absurd (cc)
 get_pushed (z ∷ xs) y zero x e = inl e
 get_pushed (z ∷ xs) y (suc i) x e = get_pushed xs y i x e
 
--- what stands at a place of a changed list is what stood there, or that changed, and then it is the place of the change
+-- what is at a place of a changed list is what was there, or that changed, and then it is the place of the change
 pub data Stood {X : Type 0} (xs : List X) (j i : ℕ) (f : X → X) (x : X) : Type 0 where
   as_before : slice_get xs i ≡ Some x → Stood xs j i f x
   changed : (was : X) → slice_get xs i ≡ Some was → j ≡ i → x ≡ f was → Stood xs j i f x

@@ -285,7 +285,7 @@ span_within i n k span e =
 pub span_told : (i : Image) (n k : ℕ) → k ≤ i.pos → span_of_cut n (resumed i) k ≡ span_among n i.waiting k
 span_told i n k l = cond-true (nat_le k i.pos) (span_among n i.waiting k) None (le-leb k i.pos l)
 
--- what is known of a refresh is told by the lists
+-- what is known of a refresh is in the lists
 pub known_among : (i : Image) (k : ℕ) (q : Pending) → is_known q ≡ true → pending (resumed i) k ≡ q → pending_among i.waiting i.done k ≡ q
 known_among i k q known e =
     elim (nat_le k i.pos) as (λ t. cond t (pending_among i.waiting i.done k) Unknown ≡ q → pending_among i.waiting i.done k ≡ q) [

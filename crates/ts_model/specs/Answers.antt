@@ -50,8 +50,8 @@ abbrev pub left_by : ℕ → ViewDef → History → ℤ → Option ℕ → List
 left_by n def h b None = []
 left_by n def h b (Some s) = scratch_at n def h s b
 
--- what an aggregate shows of a bucket: where it is stale, what its last refresh has left; else the aggregation from
--- scratch, but nothing at or above the watermark where it shows materialised rows only
+-- what an aggregate shows of a bucket: if it is stale, what its last refresh has left; otherwise the aggregation from
+-- scratch, but nothing at or above the watermark if it shows materialized rows only
 abbrev pub shown : ℕ → ViewDef → History → ℤ → List (List Datum)
 shown n def h b =
     cond (stale n def h b) (left_by n def h b (last n h b))

@@ -104,8 +104,8 @@ act_of_finish cut snap h = finish_of cut snap h (pending h cut)
 
 -- ---- what a call answers and leaves
 
--- what a call that does this at the history that it found answers, and the state that it leaves. An event is refused
--- as E24 exactly where the store stands still
+-- what a call that does this at the history that it found answers, and the state that it leaves. An event is refused as
+-- E24 exactly if the store has stopped
 abbrev pub Answered : {A : Type 0} → Act A → State → Outcome A → State → Type 0
 Answered (refuses r) found (Done a) new = ⊥
 Answered (refuses r) found (Refused q) new = (q ≡ r) × Keeps found new

@@ -8,7 +8,7 @@ use Rattle.ts_model.specs.declared.events.Event.{Event}
 use Rattle.ts_model.specs.declared.images.Image.{Image}
 
 infixl 20 ◌▸◌ ◌▸▸◌
--- a history is empty, begins with a saved image, or is a history and one more event
+-- a history is empty, begins with a checkpoint image, or is a history and one more event
 pub data History : Type 0 where
   start : History
   resumed : Image → History

@@ -98,7 +98,7 @@ not_aggregate = 22
 abbrev pub too_many_sessions : ℕ
 too_many_sessions = 23
 
--- an event would be made, and the store stands still
+-- the call would append an event, and the store has stopped
 abbrev pub stopped : ℕ
 stopped = 24
 
@@ -123,6 +123,6 @@ bad_rollup = 28
 abbrev pub bad_unit : ℕ
 bad_unit = 29
 
--- an event would be made, and the history is at its end
+-- the call would append an event, and the history is at its end
 abbrev pub history_full : ℕ
 history_full = 30

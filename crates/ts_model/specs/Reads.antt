@@ -54,8 +54,8 @@ rows_near_in (Some hyper) stored spans = rows_near hyper.interval stored spans
 abbrev pub live_buckets : ℕ → ViewDef → History → Span → List ℤ
 live_buckets n def h starts = filter (λ b. not (is_below b (watermark n def h))) (buckets_in def.fold.width starts)
 
--- the reads of an aggregate: the rows in chunks that meet a bucket asked for at or above the watermark, and none
--- where it shows materialised rows only
+-- the reads of an aggregate: the rows in chunks that meet a requested bucket at or above the watermark, and none if it
+-- shows materialized rows only
 abbrev pub reads_of_view : ℕ → History → Span → Option ViewDef → ℕ
 reads_of_view n h starts None = 0
 reads_of_view n h starts (Some def) =

@@ -1,4 +1,4 @@
--- Saved images: what an image keeps, table by table, aggregate by aggregate and bucket by bucket.
+-- Checkpoint images: what an image keeps, table by table, aggregate by aggregate and bucket by bucket.
 use Rattle.std.specs.Prelude.{ℕ, Bool, ◌&&◌, cond, ◌==◌, List, [], ◌∷◌, ◌++◌, map, filter, slice_get, ℤ, Option, Some, None, unwrap_or}
 use Rattle.std.specs.Ordering.{int_eq}
 use Rattle.ts_num.specs.Aggregates.{greater}

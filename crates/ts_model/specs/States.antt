@@ -16,7 +16,7 @@ pub record Origin : Type 0 where
 pub record State : Type 0 where
   -- the history that it has seen
   pub history : History
-  -- the event at whose append the disk failed. A store with one stands still at the end of its history
+  -- the event at whose append the disk failed. A store with one has stopped at the end of its history
   pub failed : Option Event
   -- the count of faults
   pub faults : ℕ
@@ -27,12 +27,12 @@ pub record State : Type 0 where
 abbrev pub stands_still : State → Bool
 stands_still s = is_some s.failed
 
--- the position at which a store stands still, if it does
+-- the position at which a store has stopped, if it has
 abbrev pub stop_of : State → Option ℕ
 stop_of s = cond (stands_still s) (Some (position s.history)) None
 
--- what a call finds, where a state was seen before: others may have gone on meanwhile, unless the store is alone or
--- stood still
+-- what a call finds, if a state was seen before: others may have continued meanwhile, unless the store is alone or had
+-- stopped
 pub record Found (alone : Bool) (old found : State) : Type 0 where
   pub alone_found : IsTrue alone → found ≡ old
   pub begins : Begins old.history found.history
@@ -40,7 +40,7 @@ pub record Found (alone : Bool) (old found : State) : Type 0 where
   pub still_failed : IsTrue (stands_still old) → found.failed ≡ old.failed
   pub made : found.made ≡ old.made
   pub origin : found.origin ≡ old.origin
-  -- the count hasn't fallen since the start, and it rose where the store stands still
+  -- the count hasn't fallen since the start, and it rose if the store has stopped
   pub counted : found.origin.faults ≤ found.faults
   pub fell : IsTrue (stands_still found) → Rose found.origin.faults found.faults
 
@@ -52,7 +52,7 @@ pub record Keeps (found new : State) : Type 0 where
   pub made : new.made ≡ found.made
   pub origin : new.origin ≡ found.origin
 
--- an event was made, and counted among those made
+-- an event was appended, and counted among those of this value
 pub record Makes (e : Event) (found new : State) : Type 0 where
   pub went_on : found.failed ≡ None
   pub history : new.history ≡ found.history ▸ e
@@ -61,7 +61,7 @@ pub record Makes (e : Event) (found new : State) : Type 0 where
   pub made : new.made ≡ found.made ++ (suc (position found.history) ∷ [])
   pub origin : new.origin ≡ found.origin
 
--- the disk failed at an event, and from now on the store stands still
+-- the disk failed at an event, and from now on the store has stopped
 pub record Fails (e : Event) (found new : State) : Type 0 where
   pub went_on : found.failed ≡ None
   pub history : new.history ≡ found.history

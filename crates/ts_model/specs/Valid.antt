@@ -92,7 +92,7 @@ abbrev pub dirty_fits : ViewDef → List SavedLast → List Span → Bool
 dirty_fits def ls ss =
     list_all (λ s. span_fits s (Some def) && has_lasts def.fold.width ls s) ss && spans_rise ss
 
--- a least or a greatest value is told exactly where there are values
+-- there is a least or a greatest value exactly if there are values
 abbrev pub is_told : ℕ → Option ℤ → Bool
 is_told zero o = is_none o
 is_told (suc n) o = is_some o

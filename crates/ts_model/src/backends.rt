@@ -6,16 +6,16 @@ use crate::tables::{Hyper, TableDef};
 use crate::views::ViewDef;
 use ts_schema::{NoMemory, Seq};
 
-/// A store of a history, which others may change too between two calls unless it is alone.
+/// A store of a history. Others may change it too between two calls, unless it is alone.
 ///
-/// Contracts see one record, its state: the history that it has seen; the event at which its disk failed,
-/// if it did, from where on it stands still; a count of faults; the numbers of the events that calls of
-/// this value made; and how it was opened. Each call finds a history that begins with the one seen, and
-/// makes at most one event. Beside the state stands what its owner knows it by, which no call changes.
+/// Contracts see one record, its state: the history that it has seen; the event at which its disk failed, if
+/// it did, so that it has stopped; a count of faults; the numbers of the events that calls of this value
+/// appended; and how it was opened. Each call finds a history that begins with the one seen, and appends at
+/// most one event. Beside the state there is what its owner knows it by, which no call changes.
 ///
-/// A call that makes an event answers the event's number, alone or with more. After the refusals that stand at the
-/// call, one that would make an event is refused as `E30` where the history is at its end, and then as `E24` where
-/// the store stands still. A refused call changes nothing.
+/// A call that appends an event returns the event's number, possibly with more. The refusals named at a
+/// call come first. Then a call that would append an event is refused as `E30` if the history is at its end,
+/// and then as `E24` if the store has stopped. A refused call changes nothing.
 pub trait Backend {
     ghost use Rattle.std.specs.Prelude.{◌≡◌, ℕ, Bool, IsTrue, IsSome};
     ghost use Rattle.std.specs.Option.{ForSome};
@@ -44,27 +44,26 @@ pub trait Backend {
         ensures looked { Looked alone (state self.old) (Snapped Self.Shot.stands result) (state self.new) }
         ensures kin { kin self.new ≡ kin self.old };
 
-    /// Makes a table. It is refused as `E07` where the name is taken, and as `E21` where there are 64
-    /// tables.
+    /// Creates a table. It is refused as `E07` if the name is taken, and as `E21` if there are 64 tables.
     fn make_table(&mut self, def: TableDef) -> Outcome<u64>
         requires { IsTrue (sound (state self.old).history (Table def)) }
         ensures called { Called alone (state self.old) (making_table def) result (state self.new) }
         ensures kin { kin self.new ≡ kin self.old };
 
-    /// Makes a table a hypertable. It is refused as `E07` where it is one.
+    /// Makes a table a hypertable. It is refused as `E07` if it is one.
     fn make_hyper(&mut self, table: u32, hyper: Hyper) -> Outcome<u64>
         requires { IsTrue (sound (state self.old).history (HyperMade table hyper)) }
         ensures called { Called alone (state self.old) (making_hyper table hyper) result (state self.new) }
         ensures kin { kin self.new ≡ kin self.old };
 
-    /// Makes an aggregate. It is refused as `E07` where the name is taken, and as `E21` where there are
-    /// 64 aggregates.
+    /// Creates an aggregate. It is refused as `E07` if the name is taken, and as `E21` if there are 64
+    /// aggregates.
     fn make_view(&mut self, def: ViewDef) -> Outcome<u64>
         requires { IsTrue (sound (state self.old).history (View def)) }
         ensures called { Called alone (state self.old) (making_view def) result (state self.new) }
         ensures kin { kin self.new ≡ kin self.old };
 
-    /// Sets an aggregate to show materialised rows only, or new rows too.
+    /// Sets an aggregate to show materialized rows only, or new rows too.
     fn set_mode(&mut self, view: u32, only: bool) -> Outcome<u64>
         requires { IsTrue (sound (state self.old).history (Mode view only)) }
         ensures called { Called alone (state self.old) (setting_mode view only) result (state self.new) }
@@ -76,11 +75,11 @@ pub trait Backend {
         ensures called { Called alone (state self.old) (act_of_commit ops) result (state self.new) }
         ensures kin { kin self.new ≡ kin self.old };
 
-    /// Begins a refresh of the whole buckets of the window from `lo` on and below `hi`. Without `lo` it starts at the
-    /// first bucket. Without `hi` it ends at the watermark or at the end of the bucket of the table's greatest time,
-    /// whichever is greater. Where no whole bucket lies in the window, the call is refused as `E15` if `hi` is given,
-    /// and else answers `CutDone::Nothing` and makes no event. See `refresh_continuous_aggregate` in the API reference
-    /// of TimescaleDB.
+    /// Begins a refresh of the whole buckets of the window from `lo` on and below `hi`. Without `lo` it
+    /// starts at the first bucket. Without `hi` it ends at the watermark or at the end of the bucket of the
+    /// table's greatest time, whichever is greater. If the window holds no whole bucket, the call is refused
+    /// as `E15` if `hi` is given, and otherwise returns `CutDone::Nothing` and appends no event. See
+    /// `refresh_continuous_aggregate` in the API reference of TimescaleDB.
     fn cut(&mut self, view: u32, lo: Option<i64>, hi: Option<i64>) -> Outcome<CutDone>
         requires view { IsSome (view_of (roster (state self.old).history) view) }
         requires low { ForSome lo (λ t. IsTrue (is_time t)) }
@@ -88,8 +87,8 @@ pub trait Backend {
         ensures called { Called alone (state self.old) (act_of_cut view lo hi) result (state self.new) }
         ensures kin { kin self.new ≡ kin self.old };
 
-    /// Finishes the refresh that the job was made for. It is refused as `E19` where it was finished. The
-    /// job is given up on every answer.
+    /// Finishes the refresh that the job was created for. It is refused as `E19` if it is finished already.
+    /// The job is given up, whatever the outcome.
     fn finish(&mut self, job: <Self::Shot as Shown>::Job) -> Outcome<u64>
         requires { Self.Shot.fits job (state self.old).history }
         ensures called { Called alone (state self.old)

@@ -76,7 +76,7 @@ pub const NOT_AGGREGATE: u8 = 22;
 /// `E23`: the session would be the 65th.
 pub const TOO_MANY_SESSIONS: u8 = 23;
 
-/// `E24`: an event would be made, and the store stands still.
+/// `E24`: the call would append an event, and the store has stopped.
 pub const STOPPED: u8 = 24;
 
 /// `E25`: an image is too long.
@@ -95,7 +95,7 @@ pub const BAD_ROLLUP: u8 = 28;
 /// month or a year.
 pub const BAD_UNIT: u8 = 29;
 
-/// `E30`: an event would be made, and the history is at its end.
+/// `E30`: the call would append an event, and the history is at its end.
 pub const HISTORY_FULL: u8 = 30;
 
 /// States that these numbers are those of the definitions. It does nothing.

@@ -24,7 +24,7 @@ pub enum Event {
     Hyper { table: u32, hyper: Hyper },
     /// An aggregate was made.
     View(ViewDef),
-    /// An aggregate was set to show materialised rows only, or to show new rows too.
+    /// An aggregate was set to show materialized rows only, or to show new rows too.
     Mode { view: u32, only: bool },
     /// Operations took effect, in order.
     Commit(Seq<Op>),

@@ -1,15 +1,15 @@
 //! Places at which a test may hold a worker.
 
-/// What a worker tells of its progress. Both calls return and answer nothing.
+/// Calls by which a worker reports its progress. They return nothing.
 pub trait Gate {
     /// Called by the worker of this session directly before each finish of a refresh.
     fn between(&self, session: u32);
 
-    /// Called by the worker of this session after each reply was made.
+    /// Called by the worker of this session after each reply.
     fn answered(&self, session: u32);
 }
 
-/// The gate that holds nobody.
+/// The worker hook that holds no worker.
 #[derive(Clone, Copy, Debug)]
 pub struct NoGate;
 

@@ -1,4 +1,4 @@
-//! Saved images: what a later start of a history begins with, in place of its events so far.
+//! Checkpoint images: what a later start of a history begins with, instead of its events so far.
 ghost use Rattle.std.specs.Prelude.{◌≡◌, IfOk};
 
 use crate::events::Event;

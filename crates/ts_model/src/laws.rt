@@ -160,8 +160,8 @@ pub fn finishes_raise_the_watermark()
     ensures { FinishesMark }
 {}
 
-/// Whether an aggregate shows materialised rows only plays no part in what is stale, nor in what stood in
-/// a bucket.
+/// Whether an aggregate shows materialized rows only has no effect on what is stale, or on what was in a
+/// bucket.
 pub fn modes_play_no_part()
     ensures { ModePlaysNoPart }
 {}

@@ -6,8 +6,8 @@ use crate::rosters::Roster;
 use std::thread::Threads;
 use ts_schema::{NoMemory, Seq, Steps};
 
-/// A snapshot of a history. It need not store one: that it stands for a history is a relation between
-/// what it holds and that history, and each of its promises is for every history that it stands for.
+/// A snapshot of a history. It need not store one: `stands` relates what it holds to the histories that it
+/// represents, and each of its promises is for every such history.
 pub trait Shown {
     ghost use Rattle.std.specs.Prelude.{◌≡◌, ℕ, IsTrue, IfOk};
     ghost use Rattle.std.specs.Thread.{IsSync};
@@ -21,7 +21,7 @@ pub trait Shown {
     ghost use Rattle.ts_model.specs.Sound.{sound};
     ghost use Rattle.ts_model.specs.Reads.{reads, job_reads};
 
-    /// What a snapshot makes for a refresh that waits, and a store takes to finish it.
+    /// What a snapshot creates for a pending refresh, and what a store needs to finish it.
     type Job;
 
     ghost stands: { Self → History → Type 0 };
@@ -40,11 +40,11 @@ pub trait Shown {
     fn roster(&self) -> &Roster
         ensures { (h : History) → stands self.now h → result.now ≡ roster h };
 
-    /// What became of the refresh with this number.
+    /// The outcome of the refresh with this number.
     fn pending(&self, cut: u64) -> Pending
         ensures { (h : History) → stands self.now h → result ≡ pending h cut };
 
-    /// What the query shows. It counts one step for each stored row that it looks at.
+    /// What the query shows. Counts one step for each stored row that it reads.
     fn answer<R: Threads + Sync, L>(
         &self,
         rt: &R,
@@ -56,9 +56,9 @@ pub trait Shown {
         ensures shown { (h : History) → stands self.now h → IfOk result (λ a. a ≡ answer query.now h) }
         ensures read { (h : History) → stands self.now h → Ticks result (reads query.now h) steps.old steps.new };
 
-    /// What the query would show directly after one commit of these operations, and with none of them
-    /// what it shows. Nothing is committed, and the snapshot stays as it is. It counts one step for
-    /// each stored row that it looks at, those of the operations among them.
+    /// What the query would show directly after one commit of these operations; without operations, what it
+    /// shows. Commits nothing, and leaves the snapshot as it is. Counts one step for each stored row that it
+    /// reads, including those of the operations.
     fn answer_with<R: Threads + Sync, L>(
         &self,
         rt: &R,
@@ -74,8 +74,8 @@ pub trait Shown {
         ensures read { (h : History) → stands self.now h
             → Ticks result (reads query.now (with_queue ops.now h)) steps.old steps.new };
 
-    /// A job for the refresh with this number, which waits, from the rows of this snapshot. It counts
-    /// one step for each stored row that it looks at.
+    /// A job for the pending refresh with this number, from the rows of this snapshot. Counts one step for
+    /// each stored row that it reads.
     fn start_job<R: Threads + Sync, L>(
         &self,
         rt: &R,

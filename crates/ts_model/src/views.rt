@@ -38,7 +38,7 @@ pub struct ViewDef {
     pub fold: Fold,
     /// The names of its output columns: the bucket, the keys, the aggregates.
     pub names: Seq<Name>,
-    /// Whether it shows materialised rows only.
+    /// Whether it shows materialized rows only.
     pub only: bool,
 }
 

@@ -1,4 +1,4 @@
-//! The decimal digits of a number, put behind what stands in a vector that has room for them.
+//! The decimal digits of a number, appended to a vector that has room for them.
 ghost use Rattle.std.specs.Prelude.{◌≡◌, ◌+◌, ◌<◌, ◌≤◌, [], ◌∷◌, ◌++◌, decimal, vec_capacity, vec_len};
 ghost use Rattle.ts_num.specs.Digits.{eight_digits, four_digits, two_digits};
 

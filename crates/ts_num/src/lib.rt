@@ -1,6 +1,6 @@
 //! Numbers that an answer shows: whole numbers, NULLs and exact ratios, with their decimal text.
 //!
-//! - `digits`: the digits of a number, put behind what stands in a vector.
+//! - `digits`: the digits of a number, appended to a vector.
 //! - `ends`: the greater of two numbers that may be missing.
 //! - `fractions`: a fraction, and the one in lowest terms of a sum over a count.
 //! - `texts`: what a number and a value look like in an answer.

@@ -1,10 +1,10 @@
 use Rattle.std.specs.Prelude.{◌≡◌, ℕ, ◌+◌, ◌-◌, ◌^◌, ◌≤◌, min, Result, MatchResult}
 
--- a count of 64 bits one higher, which stands still at the type's end
+-- a count of 64 bits one higher, at most the type's greatest value
 abbrev pub one_more : ℕ → ℕ
 one_more n = min (n + 1) (2 ^ 64 - 1)
 
--- a count of 64 bits higher by m, which stands still at the type's end
+-- a count of 64 bits higher by m, at most the type's greatest value
 abbrev pub raised_by : ℕ → ℕ → ℕ
 raised_by m n = min (n + m) (2 ^ 64 - 1)
 

@@ -1,4 +1,4 @@
-//! The one answer for want of memory.
+//! The one answer when memory runs out.
 use std::alloc::{AllocError, AllocFailed};
 
 /// A growth was refused. Whatever the call was lent is as before the call, unless the call says

@@ -28,7 +28,7 @@ impl<T> Model for SharedSlice<T> {
 }
 
 impl<T: Drop> SharedSlice<T> {
-    /// All items of a list, as a block of their own. One of more than 2^32 - 1 items is answered as want of memory.
+    /// All items of a list, in a new block. Fails as out of memory for more than 2^32 - 1 items.
     pub fn of(alloc: Global, items: Seq<T>) -> Result<SharedSlice<T>, NoMemory>
         ensures items { IfOk result (λ s. s ≡ items) }
     {
@@ -40,8 +40,8 @@ impl<T: Drop> SharedSlice<T> {
         })
     }
 
-    /// The items of a block from place `from` on and below place `to`. A place above 2^32 - 1 is answered as want
-    /// of memory.
+    /// The items of a block from place `from` on and below place `to`. Fails as out of memory for a place
+    /// above 2^32 - 1.
     pub fn part(block: &Arc<Seq<T>>, from: usize, to: usize) -> Result<SharedSlice<T>, NoMemory>
         requires order { from ≤ to }
         requires within { to ≤ length (arc_value block.now) }

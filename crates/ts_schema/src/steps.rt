@@ -21,7 +21,7 @@ impl<L> Model for Steps<L> {
 }
 
 impl<L> Steps<L> {
-    /// A count that stands at 0.
+    /// A count of 0.
     pub fn new(name: L) -> Steps<L>
         ensures zero { result ≡ 0 }
     {

@@ -122,7 +122,7 @@ fn value_at(numbers: &[i64], nulls: &[bool], i: usize) -> Option<i64>
     unless_marked(is_marked(nulls, i), numbers[i])
 }
 
-/// Whether NULL stands at a place, from the marks.
+/// Whether the value at place `i` is NULL, by the marks.
 #[inline(always)]
 fn is_marked(nulls: &[bool], i: usize) -> bool
     ensures { result ≡ slice_index_or nulls.now i false }
@@ -158,7 +158,7 @@ impl Model for Values {
 }
 
 impl Values {
-    /// All values of a block. One of more than 2^32 - 1 values is answered as want of memory.
+    /// All values of a block. Fails as out of memory for more than 2^32 - 1 values.
     pub fn of(alloc: Global, block: ValueBlock) -> Result<Values, NoMemory>
         ensures items { IfOk result (λ s. s ≡ block) }
     {
@@ -170,8 +170,8 @@ impl Values {
         })
     }
 
-    /// The values of a block from place `from` on and below place `to`. A place above 2^32 - 1 is answered as
-    /// want of memory.
+    /// The values of a block from place `from` on and below place `to`. Fails as out of memory for a place
+    /// above 2^32 - 1.
     #[inline(always)]
     pub fn part(block: &Arc<ValueBlock>, from: usize, to: usize) -> Result<Values, NoMemory>
         requires order { from ≤ to }

@@ -1,4 +1,4 @@
--- Deeds: each leads on to what comes next, and a statement is carried out from one on.
+-- Store calls: each leads to what comes next, and a statement is carried out from any of them.
 use Rattle.std.proofs.Common.{◌≡◌, ℕ, ◌≤◌, Bool, true, false, List, length, Option, Some, None, sym, refl, ◌∙◌, ap, subst, inr, arith}
 use Rattle.std.specs.Prelude.{ℤ, Result, Ok, Err, IsTrue, OnOk}
 use Rattle.std.specs.Result.{IsErr}
@@ -55,7 +55,7 @@ use Rattle.ts_sessions.proofs.NameCheckWalks.{looked_breaks, looked_only, looked
 use Rattle.ts_sessions.proofs.ViewWalks.{done_outcome, made_is_named, number_named, view_stays, was_made}
 use Rattle.ts_sessions.proofs.WalkLaws.{break_together, breaks_first, breaks_seen, not_begun, put_together, walks_as, walks_break, walks_seen}
 
--- ---- one deed
+-- ---- one store call
 
 -- what was walked leads to what follows
 pub walk_leads : {A B : Type 0} (alone failed : Bool) (old : State) (first : Procedure A) (mid : State) (a : A) (next : A → Procedure B) → Walks alone failed old first mid a → Leads alone failed old (followed_by first next) mid (next a)
@@ -70,7 +70,7 @@ broken_off alone old p read deed (Err e) new before after i b rose = (b, rose)
 
 -- ---- calls
 
--- a call broke off for want of memory
+-- a call broke off because it ran out of memory
 pub call_broken : {T J : Type 0} (shown : Shown T J) (alone : Bool) (old : State) (deed : Deed T J) (result : Result (Meeting T) NoMemory) (new : State) → IsErr result → ((p : Places) (read : ℕ) → Breaks alone old (rest p read old.history deed) new) → MeetsTo shown alone old deed result new
 call_broken shown alone old deed (Ok m) new i b = absurd (true≢false (sym i))
 call_broken shown alone old deed (Err e) new i b = b
@@ -139,7 +139,7 @@ pub joined_turn : {T J : Type 0} (line : Option Said) (p : Places) (read : ℕ) 
 joined_turn None p read t u s c = sym (ap (λ q. record { places = places_after q p; said = u.said; reads = read }) c ∙ ap (λ q. record { places = places_after t.change p; said = q; reads = read }) s)
 joined_turn (Some line) p read t u s c = sym (ap (λ q. record { places = places_after q p; said = u.said; reads = read }) c ∙ ap (λ q. record { places = places_after t.change p; said = q; reads = read }) s)
 
--- what follows a deed came to its end
+-- what follows a store call came to its end
 after_walk : {T J : Type 0} (alone : Bool) (old : State) (procedure : Procedure (Turn Places)) (p : Places) (total : ℕ) (a : DeedOutcome T J) (t : Completion T J) (mid : State) (left : Procedure (Turn Places)) (result : Result (Completion T J) NoMemory) (new : State) → Leads alone a.failed old procedure mid (with_line a.said left) → Walks alone t.failed mid left new (turn_of p total t) → Joins a.said a.failed t result → EndsAt alone old procedure p total result new
 after_walk alone old procedure p total a t mid left (Ok u) new w v j =
     subst (λ z. Walks alone z old procedure new (turn_of p total u)) (sym j.2)
@@ -156,7 +156,7 @@ counts_any a (Err e) had total before after k = tt
 pub ended : {T J : Type 0} (alone : Bool) (s : State) (p : Places) (read : ℕ) (next : Next T J) (t : Completion T J) (n : ℕ) → next ≡ nexts.End t → t.failed ≡ false → CarriesOut alone s p read next (Ok t) s n n
 ended alone s p read next t n e f = subst (λ q. CarriesOut alone s p read q (Ok t) s n n) (sym e) (record { total = read; ends = (f, refl, refl); counted = λ from had. had; rose = omega arith })
 
--- a statement that went on after a deed
+-- a statement that continued after a store call
 pub went_on : {T J : Type 0} (alone : Bool) (old : State) (p : Places) (read : ℕ) (next : Next T J) (deed : Deed T J) (a : DeedOutcome T J) (mid : State) (t : Completion T J) (result : Result (Completion T J) NoMemory) (new : State) (before between after : ℕ) → next ≡ nexts.Deed deed → Goes alone old p read deed a mid before between → ((had : ℕ) → CarriesOut alone mid p had a.next (Ok t) new between after) → Joins a.said a.failed t result → CarriesOut alone old p read next result new before after
 went_on alone old p read next deed a mid t result new before between after e w z j =
     let later = z w.read_then in
@@ -169,7 +169,7 @@ went_on alone old p read next deed a mid t result new before between after e w z
       rose = omega (arith, w.rose, up);
     })
 
--- a statement that broke off: at a deed, or later
+-- a statement that broke off: at a store call, or later
 pub broken_here : {T J : Type 0} (alone : Bool) (old : State) (p : Places) (read : ℕ) (next : Next T J) (deed : Deed T J) (e : NoMemory) (result : Result (Completion T J) NoMemory) (new : State) (before after : ℕ) → next ≡ nexts.Deed deed → IsErr result → Advances alone old p read deed (Err e) new before after → CarriesOut alone old p read next result new before after
 broken_here alone old p read next deed e (Ok t) new before after is i w = absurd (true≢false (sym i))
 broken_here alone old p read next deed e (Err x) new before after is i w =
@@ -202,7 +202,7 @@ look_leads alone old Reports mid shown f l = record {
   breaks = λ new b. looked_breaks alone old Reports mid shown f new l b;
 }
 
--- what begins with a look goes on from a state that was looked at
+-- a procedure that begins with a look may begin at the state that the look found
 pub seen_leads : {A : Type 0} (alone : Bool) (old mid : State) (shown : History → Bool) (f : History → Procedure A) → Sees alone old mid → Leads alone false old (sees shown f) mid (sees shown f)
 seen_leads alone old mid shown f s = record {
   walks = λ failed new y w. walks_seen alone failed old mid shown f new y s w;

@@ -30,7 +30,7 @@ quiet alone old procedure p result new n short e = record { read = 0; ends = e; 
 pub broken : {T J : Type 0} (alone : Bool) (old : State) (procedure : Procedure (Turn Places)) (p : Places) (e : NoMemory) (new : State) (before after : ℕ) → before ≤ after → Breaks alone old procedure new → Ends {T = T} {J = J} alone old procedure p (Err e) new before after
 broken alone old procedure p e new before after le b = record { read = 0; ends = b; counted = le }
 
--- ---- early ends for want of memory
+-- ---- early ends out of memory
 
 pub broken_by : {T J : Type 0} (alone : Bool) (old : State) (procedure : Procedure (Turn Places)) (p : Places) (result : Result (Completion T J) NoMemory) (new : State) (before after : ℕ) → IsErr result → before ≤ after → Breaks alone old procedure new → Ends alone old procedure p result new before after
 broken_by alone old procedure p (Ok t) new before after i le b = absurd (true≢false (sym i))

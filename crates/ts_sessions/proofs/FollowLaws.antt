@@ -1,4 +1,4 @@
--- What follows the call of a deed leaves what the call left.
+-- What follows a store call leaves what the call left.
 use Rattle.std.proofs.Common.{◌≡◌, ℕ, ◌≤◌, ◌<◌, ◌^◌, Some, None, sym, refl, ap, ◌∙◌, subst, arith}
 use Rattle.std.specs.Prelude.{Result, Ok, Err, IfOk, IsTrue}
 use Rattle.ts_schema.specs.Counts.{raised_by}

@@ -19,13 +19,13 @@ use Rattle.ts_sessions.proofs.StateLaws.{goes_failed, goes_made, goes_seen}
 use Rattle.ts_sessions.proofs.WalkLaws.{goes_walks}
 use Rattle.ts_sessions.proofs.MadeLaws.{seen_made}
 
--- ---- where a store stands still
+-- ---- a store that has stopped
 
 pub seen_still : (alone : Bool) (old found : State) → IsTrue (stands_still old) → Sees alone old found → found.history ≡ old.history
 seen_still alone old found s (inl e) = ap (λ x. x.history) e
 seen_still alone old found s (inr f) = f.still_there s
 
--- where a store stands still a walk leaves its history
+-- if the store has stopped, a walk leaves its history as it is
 pub history_stays : {A : Type 0} (alone failed : Bool) (old : State) (procedure : Procedure A) (new : State) (y : A) → IsTrue (stands_still old) → Walks alone failed old procedure new y → new.history ≡ old.history
 history_stays alone failed old (sees shown f) new y s w = history_stays alone failed w.mid (f w.mid.history) new y ((goes_seen alone old w.mid w.first).still s) w.rest ∙ seen_still alone old w.mid s w.first
 history_stays alone failed old (adds e next stop) new y s (inl w) = history_stays alone failed old stop new y s w.1
@@ -105,7 +105,7 @@ made_so alone failed old mid at so_far e next stop new y here m on g =
       within = g.within;
     }
 
--- where the store stands still
+-- if the store has stopped
 still_so : {A : Type 0} (old mid new : State) (at : ℕ) (so_far : List (ℕ × Event)) (e : Event) (next stop : Procedure A) (y : A) → mid.history ≡ old.history → mid.made ≡ old.made → stop_of new ≡ Some at → GivenSo mid new at so_far stop y → GivenSo old new at so_far (adds e next stop) y
 still_so old mid new at so_far e next stop y same_history same_made stopped g = record {
   looks = g.looks;

@@ -1,4 +1,4 @@
--- Deeds that finish a refresh with what a session holds.
+-- Store calls that finish a refresh with what a session holds.
 use Rattle.std.proofs.Common.{◌≡◌, ℕ, Bool, false, Option, Some, None, sym, refl, ◌∙◌, ap, subst}
 use Rattle.std.specs.Prelude.{ℤ, Result, Ok, Err, IfOk, IsTrue}
 use Rattle.ts_schema.specs.declared.memory.NoMemory.{NoMemory}

@@ -155,7 +155,7 @@ pub finish_lost : (alone failed : Bool) (old : State) (c at : ℕ) (new : State)
 finish_lost alone failed old c at new y k w =
     finish_lost_at alone failed w.mid c at (pending w.mid.history c) new y refl (known_stays c (goes_seen alone old w.mid w.first).begins k) w.rest
 
--- a finish of such a refresh is refused: by its finish, or as an event of a store that stands still
+-- a finish of such a refresh is refused: it was finished before, or the store has stopped or its history is full
 lost_waiting : (alone failed : Bool) (mid : State) (p : Places) (c at : ℕ) (room : Bool) (new : State) (y : Turn Places) → (stands_still mid || not room) ≡ true → failed ≡ false → new ≡ mid → y ≡ refuses p (refusal (cond room stopped history_full) mid.history 0) → Walks alone failed mid (ending_as (finish_turn p c at) (tries_at mid.history (cond room (makes (Built c at) (suc (position mid.history))) (refuses_call (refusal history_full mid.history 0))))) new y
 lost_waiting alone failed mid p c at true new y lost f n_is y_is = inl (still (stands_still mid) lost, (f, n_is, y_is))
   where

@@ -83,9 +83,9 @@ left_changes {T} {J} shown p bytes stmt h pos r m op (Ok n) e f i is pass k =
     })
 left_changes shown p bytes stmt h pos r m op (Err x) e f i is pass k = tt
 
--- ---- deeds
+-- ---- store calls
 
--- a deed is meant outside a block alone
+-- only outside a block do names resolve to a store call
 abbrev MeantOutside : {T J : Type 0} → Block → Resolved T J → Type 0
 MeantOutside b (meant.Does deed) = b ≡ none
 MeantOutside b other = Unit {0}

@@ -52,7 +52,7 @@ Names N made h (sees shown f) = (g : History) → Names N made g (f g)
 Names N made h (adds e next stop) = Names N (made ++ suc (position h) ∷ []) (h ▸ e) next × Names N made h stop
 Names N made h (ends a) = N made a
 
--- what was made after the first of these numbers, and that what came of it goes with it
+-- the events made after the first of these numbers, with the proof that the outcome names them
 record Made {A : Type 0} (N : List ℕ → A → Type 0) (base new : List ℕ) (y : A) : Type 0 where
   all : List ℕ
   is : new ≡ base ++ all
@@ -94,7 +94,7 @@ abbrev made_of : {A : Type 0} → (A → List ℕ) → Result A Refusal → List
 made_of of (Ok a) = of a
 made_of of (Err r) = []
 
--- after what was made before, what came of a call says the rest
+-- after the events made before, the outcome of a call names the rest
 abbrev Adds : {A : Type 0} → (A → List ℕ) → List ℕ → List ℕ → Result A Refusal → Type 0
 Adds of before all y = all ≡ before ++ made_of of y
 

@@ -92,7 +92,7 @@ module _ {T J : Type 0} (shown : Shown T J) (bytes : ℕ) (stmt : Stmt) (h : His
       let kind : kind_of stmt ≡ kinds.Changes = subst (IsMeant (roster h) (kind_of stmt)) is (is_meant pos r m e f i) in
       subst (λ k. block_refusal b k ≡ None) kind pass
 
--- ---- deeds and operations
+-- ---- store calls and operations
 
 -- what is meant can be done
 abbrev pub MeantFits : {T J : Type 0} → Shown T J → Block → ℕ → State → Resolved T J → Type 0
@@ -163,7 +163,7 @@ named_left {T} {J} shown p bytes b h stmt look pass k = read_left (upper_read (p
     read_left uppers.NotUpper = checked_left (refusal_of (position h) (roster h) stmt)
     read_left uppers.NoMemory = checked_left (refusal_of (position h) (roster h) stmt)
 
--- an event outside a block, with a look of its own
+-- an event outside a block, with a separate look
 event_left : {T J : Type 0} (shown : Shown T J) (alone : Bool) (s : State) (p : Places) (bytes : ℕ) (a : Action) → makes_event (kind_of_action a) ≡ true → IsSound s.history bytes a → Leads alone false s (looks (λ h. acts p bytes h a)) s (meant_left {T = T} {J = J} p bytes none s.history (asked_by (roster s.history) a))
 event_left shown alone s p bytes (actions.Table def) e k = leads_same alone s (looks (λ h. acts p bytes h (actions.Table def)))
 event_left shown alone s p bytes (actions.Hyper t hyper) e k = leads_same alone s (looks (λ h. acts p bytes h (actions.Hyper t hyper)))
@@ -193,7 +193,7 @@ first_leads {T} {J} shown alone old mid p bytes stmt e sound ok s =
     (saw_leads alone old mid (λ g. is_some (refusal_of (position g) (roster g) stmt)) (λ g. unless p (refusal_of (position g) (roster g) stmt) (looks (λ k. acts p bytes k (action_of (roster g) stmt)))) s)
     (first_left shown alone mid p bytes stmt r e sound ok refl))
 
--- a statement goes on from what its names were looked at in
+-- a statement continues from the history in which its names were resolved
 pub looked_leads : {T J : Type 0} (shown : Shown T J) (alone : Bool) (old mid : State) (p : Places) (bytes : ℕ) (stmt : Stmt) → IsTrue (looks_at_names (kind_of stmt)) → block_refusal p.block (kind_of stmt) ≡ None → AsksSoundly bytes stmt → IsTrue (all_allowed (read_at p.block mid.history)) → Sees alone old mid → Leads alone false old (performs p bytes stmt) mid (left_of shown p bytes stmt (read_at p.block mid.history))
 looked_leads {T} {J} shown alone old mid p bytes stmt look pass sound ok s =
     performs_holds (λ d. Leads alone false old d mid (left_of shown p bytes stmt (read_at p.block mid.history))) p bytes stmt first
@@ -220,7 +220,7 @@ seen_opens shown bytes alone s p stmt h pos r m like result before after e f i i
     opens_as shown bytes alone s (left_of shown p bytes stmt h) (meant_left p bytes p.block h like) p result s before after
     (ap (meant_left p bytes p.block h) (sym (i ∙ ap (λ x. meant_by x r stmt) e ∙ ap (λ x. meant_by (position h) x stmt) f) ∙ is)) o
 
--- a deed
+-- a store call
 pub does_opens : {T J : Type 0} (shown : Shown T J) (bytes : ℕ) (alone : Bool) (s : State) (p : Places) (deed : Deed T J) (n : ℕ) → n < 2 ^ 64 → DeedFits shown deed s × (p.block ≡ none) → Opens shown bytes alone s (rest p 0 (read_at p.block s.history) deed) p (nexts.Deed deed) s n n
 does_opens shown bytes alone s p deed n short k =
     subst (λ b. Opens shown bytes alone s (rest p 0 (read_at b s.history) deed) p (nexts.Deed deed) s n n) (sym k.1)

@@ -1,4 +1,4 @@
--- The checks of a statement refuse it with the position looked at, and never because the store stands still.
+-- The checks of a statement refuse it with the position of the look, and never because the store has stopped.
 use Rattle.std.proofs.Common.{◌≡◌, ℕ, suc, ◌+◌, ◌<◌, ◌==◌, Bool, true, false, List, [], ◌∷◌, ◌++◌, length, Option, Some, None, refl, arith}
 use Rattle.std.specs.Prelude.{ℤ, not, nat_le, is_none, is_some, ◌&&◌, ⊤}
 use Rattle.std.proofs.lemmas.Bool.{and_parts, eqb-false, not-true}
@@ -41,13 +41,13 @@ Other (Some r) = IsOther r.code
 pub below : (code : ℕ) → code < stopped → IsOther code
 below code lt e = absurd (omega (arith, lt, e))
 
--- a refusal that a look at a position comes to: it isn't E24, and its text has the position
+-- a refusal that results from a look at a position: it isn't E24, and its text has the position
 pub record IsLooked (pos : ℕ) (r : Refusal) : Type 0 where
   pub other : IsOther r.code
   pub shown : shows_position r.code ≡ true
   pub at : r.pos ≡ pos
 
--- a refusal, if there is one, is one that a look at this position comes to
+-- a refusal, if there is one, results from a look at this position
 abbrev pub Looked : ℕ → Option Refusal → Type 0
 Looked pos None = ⊤
 Looked pos (Some r) = IsLooked pos r

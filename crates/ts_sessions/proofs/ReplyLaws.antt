@@ -163,7 +163,7 @@ read_walks alone failed old p bytes (Err f) new y ok w = w
 
 -- ---- alone
 
--- a procedure comes to the same over a history that nobody else changes
+-- two procedures have the same result on a history that nobody else changes
 record SameAlone {A : Type 0} (h : History) (d e : Procedure A) : Type 0 where
   history : history_after d h ≡ history_after e h
   end : end_of_walk d h ≡ end_of_walk e h

@@ -47,7 +47,7 @@ steady_said base h (is_refused r) g = tt
 steady_said base h (returns a) g = tt
 steady_said base h (makes e a) g = (refl, tt, tt)
 
--- a call with a look of its own
+-- a call with a separate look
 steady_call : {A B : Type 0} (fresh : Bool) (base : History) (act : History → Act A) (then : Result A Refusal → Procedure B) → ((h : History) (r : Result A Refusal) → Steady true h (then r)) → Steady fresh base (followed_by (tries act) then)
 steady_call fresh base act then s = λ h b. (λ _. steady_tries h h (act h) then (s h), λ no_look. absurd (true≢false no_look))
 

@@ -1,4 +1,4 @@
--- What a line comes to, by what its statement came to and what was answered.
+-- The result of a line, by the result of its statement and the reply.
 use Rattle.std.proofs.Common.{◌≡◌, ℕ, ◌+◌, ◌<◌, ◌≤◌, ◌^◌, ◌++◌, Bool, true, false, List, Option, Some, None, sym, refl, ap, ◌∙◌, subst, arith}
 use Rattle.std.specs.Prelude.{Ok}
 use Rattle.ts_model.specs.History.{History}

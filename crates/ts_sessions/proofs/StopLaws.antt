@@ -115,13 +115,13 @@ module _ {A : Type 0} where
 
 -- ---- calls
 
--- a call is never refused because its store stands still
+-- a call is never refused because its store has stopped
 abbrev Plain : {A : Type 0} → Act A → Type 0
 Plain (is_refused r) = IsOther r.code
 Plain (returns a) = ⊤
 Plain (makes e a) = ⊤
 
--- a call, and what follows by what came of it
+-- a call, and what follows each of its outcomes
 module _ {A B : Type 0} (N : Option ℕ → B → Type 0) (h : History) (then : Result A Refusal → Procedure B) where
   meets_tries : (act : Act A) → Plain act → ((r : Refusal) → IsOther r.code → Meets N (Some (position h)) (then (Err r))) → ((p : ℕ) (a : A) → Meets N (Some p) (then (Ok a))) → EndsSo (N (Some (position h))) (then (Err (refusal stopped h 0))) → Meets N (Some (position h)) (followed_by (tries_at h act) then)
   meets_tries (is_refused r) plain refused done stop = refused r plain

@@ -56,7 +56,7 @@ walks_parted alone failed old (adds e n stop) next new y (inr (inr w)) =
     }
 walks_parted alone failed old (ends x) next new y w = record { mid = old; end = x; failed_first = false; failed_then = failed; fell = refl; walks_first = (refl, refl, refl); walks_then = w }
 
--- ---- where a store stands still
+-- ---- a store that has stopped
 
 -- a store that stopped by a state stopped there for good
 pub stops_on : (mid new : State) (later : Option ℕ) → GoesOn mid new → (IsTrue (stands_still mid) → new.history ≡ mid.history) → StopsLater (stop_of new) later → StopsLater (stop_of mid) later

@@ -9,7 +9,7 @@ use Rattle.ts_sessions.specs.Held.{GoesOn}
 use Rattle.ts_sessions.specs.Walks.{Walks, Breaks, Sees}
 use Rattle.ts_sessions.proofs.StateLaws.{sees_trans, goes_trans, goes_same, goes_seen, goes_made, goes_failed}
 
--- ---- what a walk leaves goes on from where it began
+-- ---- the state after a walk continues the state before it
 
 pub goes_walks : {A : Type 0} (alone failed : Bool) (old : State) (procedure : Procedure A) (new : State) (y : A) → Walks alone failed old procedure new y → GoesOn old new
 goes_walks alone failed old (sees shown f) new y w = goes_trans old w.mid new (goes_seen alone old w.mid w.first) (goes_walks alone failed w.mid (f w.mid.history) new y w.rest)
@@ -53,7 +53,7 @@ breaks_first alone old (ends a) next new b = subst (λ s. Breaks alone old (next
 
 -- ---- one after the other
 
--- where a store stands still no disk fails
+-- if a store has stopped, its disk fails no more
 no_fall : {A : Type 0} (alone : Bool) (old : State) (procedure : Procedure A) (new : State) (y : A) → IsTrue (stands_still old) → Walks alone true old procedure new y → ⊥
 no_fall alone old (sees shown f) new y s w = no_fall alone w.mid (f w.mid.history) new y ((goes_seen alone old w.mid w.first).still s) w.rest
 no_fall alone old (adds e next stop) new y s (inl w) = no_fall alone old stop new y s w.1
@@ -61,7 +61,7 @@ no_fall alone old (adds e next stop) new y s (inr (inl w)) = absurd (true≢fals
 no_fall alone old (adds e next stop) new y s (inr (inr w)) = absurd (true≢false (sym (subst (λ x. IsTrue (is_some x)) w.1.first.went_on s)))
 no_fall alone old (ends a) new y s w = absurd (true≢false w.0)
 
--- where the disk failed in a walk, the store stands still after it
+-- if the disk failed in a walk, the store has stopped after it
 fallen_stands : {A : Type 0} (alone : Bool) (old : State) (procedure : Procedure A) (new : State) (y : A) → Walks alone true old procedure new y → IsTrue (stands_still new)
 fallen_stands alone old (sees shown f) new y w = fallen_stands alone w.mid (f w.mid.history) new y w.rest
 fallen_stands alone old (adds e next stop) new y (inl w) = fallen_stands alone old stop new y w.1
@@ -71,7 +71,7 @@ fallen_stands alone old (adds e next stop) new y (inr (inr w)) =
     (goes_walks alone false w.1.mid stop new y w.1.rest).still here
 fallen_stands alone old (ends a) new y w = absurd (true≢false w.0)
 
--- a procedure after which the store stands still: what follows takes no fault
+-- a procedure without a disk fault, and what follows it
 put_after : {A B : Type 0} (alone failed : Bool) (old : State) (first : Procedure A) (mid : State) (a : A) (next : A → Procedure B) (new : State) (y : B) → Walks alone false old first mid a → Walks alone failed mid (next a) new y → Walks alone failed old (followed_by first next) new y
 put_after alone failed old (sees shown f) mid a next new y w v = record { mid = w.mid; first = w.first; rest = put_after alone failed w.mid (f w.mid.history) mid a next new y w.rest v }
 put_after alone failed old (adds e n stop) mid a next new y (inl w) v = inl (w.0, put_after alone failed old stop mid a next new y w.1 v)

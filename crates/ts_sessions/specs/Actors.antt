@@ -1,4 +1,4 @@
--- What the replies of those who execute the lines of sessions tell of what the lines do.
+-- What the replies of actors say about what their lines do.
 use Rattle.std.specs.Prelude.{◌≡◌, ◌≤◌, ℕ, Bool, true, List, [], ◌++◌, Option, Result, Ok, Err}
 use Rattle.ts_model.specs.declared.events.Event.{Event}
 use Rattle.ts_model.specs.Allowed.{all_allowed}
@@ -66,7 +66,7 @@ module _ {P : Type 0} (within : P → Block) where
           → StopsLater (stop_of new) stop → Walks alone failed old (does p text skip) new y
           → IsGivenOver all stop old new at (reply p text skip) y
 
-      -- what lines did is told by the replies to them. They are E24 only at stops, and name the events that were made
+      -- the replies report what the lines did. They are E24 only at stops, and name the events that were made
       pub record TellsReplies : Type 0 where
         pub answered : LinesAreAnswered
         pub began : BlocksBegin

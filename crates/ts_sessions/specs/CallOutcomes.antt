@@ -1,4 +1,4 @@
--- What comes of the answer of a call.
+-- The outcome of a store call.
 use Rattle.std.specs.Prelude.{◌≡◌, ℕ, Result, Ok, Err, ⊤}
 use Rattle.ts_schema.specs.declared.memory.NoMemory.{NoMemory}
 use Rattle.ts_model.specs.declared.outcomes.Outcome.{Outcome}

@@ -1,4 +1,4 @@
--- What the call of a deed came to, and what is left of its statement there.
+-- The outcomes of store calls, and what is left of a statement after each.
 use Rattle.std.specs.Prelude.{◌≡◌, ℕ, ◌≤◌, ◌<◌, Bool, None, Result, Ok, Err, IsTrue, ⊤}
 use Rattle.ts_schema.specs.Counts.{raised_by}
 use Rattle.ts_schema.specs.declared.memory.NoMemory.{NoMemory}
@@ -24,8 +24,8 @@ use Rattle.ts_sessions.specs.Walks.{Breaks}
 
 -- ---- what a call leaves
 
--- what is left of a statement of a session with these places, which had read so many rows, where its call came to this
--- and this history was seen
+-- what is left of a statement after a call with this outcome: p is the session state, `read` how many rows it had
+-- read, and h the history that the call saw
 abbrev pub left_after : {T : Type 0} → Places → ℕ → History → CallOutcome T → Procedure (Turn Places)
 left_after p read h (outcomes.Number line r) = ends (turn_of_line p (says line) r)
 left_after p read h (outcomes.Commit leaves r) = ends (turn_of_commit p (left_by leaves p) r)
@@ -36,7 +36,7 @@ left_after p read h (outcomes.Cut asked then r) = cut_left p asked.min then r
 left_after p read h (outcomes.Finish f r) = ends (turn_of_finish p read f r)
 left_after p read h (outcomes.Look then shot) = look_left p h then
 
--- how many meetings with the store were left at most, before the call
+-- the most store calls that were left before the call
 abbrev pub meets_left : {T : Type 0} → CallOutcome T → ℕ
 meets_left (outcomes.Number line r) = 1
 meets_left (outcomes.Commit leaves r) = 1
@@ -46,23 +46,23 @@ meets_left (outcomes.Cut asked then r) = cut_meets then
 meets_left (outcomes.Finish f r) = 1
 meets_left (outcomes.Look then shot) = look_meets then
 
--- of so many rows read, those that what is left goes on from
+-- of so many rows read, those that the rest of the statement still counts
 abbrev pub spent_after : {T : Type 0} → ℕ → CallOutcome T → ℕ
 spent_after read (outcomes.Finish f r) = spent_by read f
 spent_after read other = 0
 
--- what it came to goes with the history that was seen: an aggregate that was made is there under its name, one that is
--- to be refreshed is there, and a snapshot is one of an allowed history
+-- the outcome fits the history that the call saw: an aggregate that was made exists under its name, one to be
+-- refreshed exists, and a snapshot is one of an allowed history
 abbrev pub OutcomeFits : {T J : Type 0} → Shown T J → History → CallOutcome T → Type 0
 OutcomeFits shown h (outcomes.View new filled r) = MadeFits r h new.name
 OutcomeFits shown h (outcomes.Found asked made) = IsAsked h asked
 OutcomeFits shown h (outcomes.Look then shot) = shown.stands shot h × IsTrue (all_allowed h)
 OutcomeFits shown h other = ⊤
 
--- ---- the two halves of the law: a call leads from what is left of a deed to what it leaves, and what follows it is
--- just that
+-- ---- the two halves of the law: a call leads from the rest of a statement to what the call leaves, and what follows
+-- the call is exactly that
 
--- the call of a deed came to this at some history that a world went on to
+-- a store call had this outcome at a history
 pub record AnswersDeed {T J : Type 0} (shown : Shown T J) (h : History) (deed : Deed T J) (outcome : CallOutcome T) : Type 0 where
   pub fits : OutcomeFits shown h outcome
   pub left_so : meets_left outcome ≡ left deed
@@ -75,7 +75,7 @@ pub record Meets {T J : Type 0} (shown : Shown T J) (alone : Bool) (old : State)
       → Leads alone m.failed old (rest p read old.history deed) new (left_after p read new.history m.outcome)
   pub answers : AnswersDeed shown new.history deed m.outcome
 
--- so, or the statement broke off for want of memory
+-- the same, or the statement ran out of memory
 abbrev pub MeetsTo :
     {T J : Type 0} → Shown T J → Bool → State → Deed T J → Result (Meeting T) NoMemory → State → Type 0
 MeetsTo shown alone old deed (Ok m) new = Meets shown alone old deed m new

@@ -1,4 +1,4 @@
--- When the block of a session had begun whose line is given over a history.
+-- The block of a session whose line is given over a history had begun by the end of that history.
 use Rattle.std.specs.Prelude.{ℕ, List, [], Option}
 use Rattle.ts_model.specs.declared.events.Event.{Event}
 use Rattle.ts_model.specs.History.{History}

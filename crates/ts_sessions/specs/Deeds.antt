@@ -1,4 +1,4 @@
--- What a statement is to do with its store next, and what is left of its procedure there.
+-- The store calls of a statement, and what is left of its procedure at each.
 use Rattle.std.specs.Prelude.{◌≡◌, ℕ, ◌==◌, ◌≤◌, ◌<◌, ℤ, Bool, true, false, cond, ◌||◌, List, [], ◌∷◌, length, Option, Some, None, option_map, Result, Ok, Err, IfSome, IsSome, IsTrue, ⊤}
 use Rattle.std.specs.Option.{ForSome}
 use Rattle.std.specs.Map.{remove_entry}
@@ -80,7 +80,7 @@ abbrev pub at_in : FinishSource → ℕ
 at_in (finishing.Begun begun at) = at
 at_in (finishing.Held cut at) = at
 
--- what a finish comes to, in a statement that read so many rows
+-- the result of a finish, in a statement that read so many rows
 abbrev pub turn_of_finish : Places → ℕ → FinishSource → Result ℕ Refusal → Turn Places
 turn_of_finish p read (finishing.Begun begun at) r =
     turn_of_refresh (cuts begun.cut p) begun.cut begun.span begun.min (record { at = at; reads = read }) r
@@ -214,7 +214,7 @@ abbrev pub left_next : {T J : Type 0} → Next T J → ℕ
 left_next (nexts.Deed d) = left d
 left_next (nexts.End t) = 0
 
--- of so many rows read, those that what is left goes on from
+-- of so many rows read, those that the rest of the statement still counts
 abbrev pub spent_by : ℕ → FinishSource → ℕ
 spent_by read (finishing.Begun begun at) = read
 spent_by read (finishing.Held cut at) = 0
@@ -234,8 +234,8 @@ pub record IsAsked (h : History) (asked : RefreshRequest) : Type 0 where
   pub low : ForSome asked.lo (λ t. IsTrue (is_time t))
   pub high : ForSome asked.hi (λ t. IsTrue (is_time t))
 
--- what a deed needs of the state that it is done at: the aggregate of a refresh is there and its bounds are times, a
--- job is that of its refresh and snapshot, an event is sound, and an aggregate that is filled is there under its name
+-- what a store call needs of the state at which it is made: the aggregate of a refresh exists and its bounds are times,
+-- a job is that of its refresh and snapshot, an event is sound, and an aggregate to be filled exists under its name
 abbrev pub DeedFits : {T J : Type 0} → Shown T J → Deed T J → State → Type 0
 DeedFits shown (deeds.Cut asked then) s = IsAsked s.history asked
 DeedFits shown (deeds.Finish job f) s = IsJobOf shown (cut_in f) (at_in f) s.history job
@@ -260,9 +260,9 @@ abbrev pub NextFits : {T J : Type 0} → Shown T J → ℕ → Next T J → Stat
 NextFits shown bytes (nexts.Deed d) s = DeedFits shown d s
 NextFits shown bytes (nexts.End t) s = EndFits shown bytes t s
 
--- this comes next of a statement. It leaves what is left by the places and by the rows read so far, of which it counts
--- those that it goes on from; it goes with a state that has what it needs; and it meets the store less often than
--- the deed before it
+-- `next` comes next in a statement. What is left of it is `left_then`, by the session state and the rows read so far;
+-- `rows` says which of these rows it counts. It fits each state that meets its needs. It leaves fewer store calls than
+-- `before`
 pub record FollowsReading {T J : Type 0} (shown : Shown T J) (next : Next T J) (before : ℕ) (needs : State → Type 0)
     (rows : ℕ → ℕ) (left_then : Places → ℕ → History → Procedure (Turn Places)) : Type 0 where
   pub rest : (p : Places) (read : ℕ) (h : History) → rest_next p (rows read) h next ≡ left_then p read h
@@ -292,7 +292,7 @@ pub record Leads {A : Type 0} (alone failed : Bool) (old : State) (procedure : P
       → Walks alone failed_then mid left new y → Walks alone (failed || failed_then) old procedure new y
   pub breaks : (new : State) → Breaks alone mid left new → Breaks alone old procedure new
 
--- a deed was done, and this comes next
+-- a store call was made, with this outcome
 pub record Goes {T J : Type 0} (alone : Bool) (old : State) (p : Places) (read : ℕ) (deed : Deed T J)
     (a : DeedOutcome T J) (new : State) (before after : ℕ) : Type 0 where
   pub read_then : ℕ
@@ -301,7 +301,7 @@ pub record Goes {T J : Type 0} (alone : Bool) (old : State) (p : Places) (read :
   pub counted : (from : ℕ) → before ≡ raised_by (spent read deed) from → after ≡ raised_by read_then from
   pub rose : before ≤ after
 
--- so, or the statement broke off for want of memory
+-- the same, or the statement ran out of memory
 abbrev pub Advances :
     {T J : Type 0} → Bool → State → Places → ℕ → Deed T J → Result (DeedOutcome T J) NoMemory → State → ℕ → ℕ → Type 0
 Advances alone old p read deed (Ok a) new before after = Goes alone old p read deed a new before after
@@ -358,7 +358,7 @@ pub record Takes {T J : Type 0} (shown : Shown T J) (meant : Option ℕ) (next :
       → Spares meant (places_in old) (places_in u)
       × ((s h : State) → HoldsOf shown old s → GoesOn s h → HoldsOf shown u h)
 
--- what comes next stands for a procedure of a session that holds what it has to
+-- what comes next represents this procedure, of a session with state p at this store state
 abbrev pub StandsFor : {T J : Type 0} → Next T J → Places → State → Procedure (Turn Places) → Type 0
 StandsFor next p s procedure = (alone : Bool) → Leads alone false s procedure s (rest_next p 0 s.history next)
 
@@ -374,7 +374,7 @@ pub record Opens {T J : Type 0} (shown : Shown T J) (bytes : ℕ) (alone : Bool)
   pub fits : NextFits shown bytes next new
   pub counted : after ≡ raised_by read before
 
--- so, or the statement broke off for want of memory
+-- the same, or the statement ran out of memory
 abbrev pub OpensTo :
     {T J : Type 0} → Shown T J → ℕ → Bool → State → Procedure (Turn Places) → Places → Result (Next T J) NoMemory
     → State → ℕ → ℕ → Type 0

@@ -1,4 +1,4 @@
--- What a procedure comes to over a whole history.
+-- The result of a procedure over a whole history.
 use Rattle.std.specs.Prelude.{◌≡◌, ℕ, suc, ◌≤◌, ◌<◌, true, false, List, [], ◌∷◌, ◌++◌, ◌⊎◌, map, Option, Some, None, IfSome}
 use Rattle.ts_model.specs.declared.events.Event.{Event}
 use Rattle.ts_model.specs.History.{History, event_at, position, prefix}

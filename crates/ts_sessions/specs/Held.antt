@@ -1,4 +1,4 @@
--- What a session holds, and that it goes with what its store has seen.
+-- What a session holds, and that it fits the state of its store.
 use Rattle.std.specs.Prelude.{◌≡◌, ℕ, ◌+◌, ◌≤◌, Bool, true, false, not, ◌||◌, List, [], ◌∷◌, ◌++◌, map, Option, Some, None, IsTrue, ⊤}
 use Rattle.std.specs.List.{AllByRecursion}
 use Rattle.ts_model.specs.declared.events.Op.{Op}
@@ -52,7 +52,7 @@ bytes_queued (reading at) = 0
 abbrev pub waiting_bytes : {T J : Type 0} → Session T J → ℕ
 waiting_bytes s = bytes_queued (places_in s).block
 
--- operations wait in a write block alone
+-- only a write block queues operations
 abbrev pub WaitsInside : BlockKind → ℕ → Type 0
 WaitsInside Outside n = n ≡ 0
 WaitsInside WriteBlock n = ⊤
@@ -70,12 +70,12 @@ most_queued = longest_input
 
 -- ---- what goes with a state
 
--- a store went on from a state: its history grew, and where it stood still it does
+-- a store continued from a state: its history is the same or longer, and if it had stopped, it still has
 pub record GoesOn (old new : State) : Type 0 where
   pub begins : Begins old.history new.history
   pub still : IsTrue (stands_still old) → IsTrue (stands_still new)
 
--- the snapshot of a read block stands for what was seen when the block began, and the queue of a write block can be
+-- the snapshot of a read block is that of the history at which the block began, and the queue of a write block can be
 -- committed
 abbrev pub HoldsBlock : {T : Type 0} → (T → History → Type 0) → Open T → History → Type 0
 HoldsBlock stands Nothing h = ⊤
@@ -88,7 +88,7 @@ is_finished (Waiting n) = false
 is_finished (Finished f) = true
 is_finished Unknown = false
 
--- no refresh with this number can be finished any more: it was finished, or the store stands still, or its history
+-- no refresh with this number can be finished any more: it was finished, or the store has stopped, or its history
 -- is full
 abbrev pub is_lost : State → ℕ → Bool
 is_lost s c = is_finished (pending s.history c) || (stands_still s || not (has_room s.history))

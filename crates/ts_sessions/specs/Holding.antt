@@ -1,4 +1,4 @@
--- What a session holds goes with what its store has seen.
+-- What a session holds fits the state of its store.
 use Rattle.std.proofs.Common.{◌≡◌, ℕ, ◌≤◌, ◌==◌, Bool, true, false, cond, nat_le, List, [], ◌∷◌, Option, Some, None, sym, refl, ap, ◌∙◌, subst, arith}
 use Rattle.std.specs.Prelude.{IsTrue, ◌||◌, not, suc}
 use Rattle.std.proofs.lemmas.Bool.{true≢false, leb-true, le-ltb, ltb-false, not-true}
@@ -135,7 +135,7 @@ snapshots_on shown fits_on g h [] on k = tt
 snapshots_on shown fits_on g h (e ∷ es) on k =
     (job_on shown fits_on g h e.0 e.1.at e.1.job on k.0, snapshots_on shown fits_on g h es on k.1)
 
--- what a session holds goes on going with what its store has seen
+-- what a session holds still fits the state of its store when the store continues
 pub holds_on :
     {T J : Type 0} (shown : Shown T J)
     (fits_on : (job : J) (g h : History) → Begins g h → shown.fits job g → shown.fits job h)

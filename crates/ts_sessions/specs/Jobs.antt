@@ -17,7 +17,7 @@ took_of at (Some job) = Job at job
 abbrev pub without_job : {J : Type 0} → ℕ → ℕ → List (ℕ × Snapshot J) → List (ℕ × Snapshot J)
 without_job c at entries = set_value (is_at (nat_cmp c)) entries (record { at = at; job = None })
 
--- the snapshot for a refresh has this job, and stands in place of one that was held
+-- the snapshot for a refresh has this job, and replaces one that was held
 abbrev pub with_job : {J : Type 0} → ℕ → ℕ → J → List (ℕ × Snapshot J) → List (ℕ × Snapshot J)
 with_job c at job entries = insert_entry nat_cmp entries c (record { at = at; job = Some job })
 

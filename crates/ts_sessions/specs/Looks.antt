@@ -1,4 +1,4 @@
--- The positions of the looks that a reply prints.
+-- The read positions that a reply prints.
 use Rattle.std.specs.Prelude.{ℕ, zero, suc, Bool, true, false, cond, List, [], ◌∷◌}
 use Rattle.ts_model.specs.declared.outcomes.Refusal.{Refusal}
 use Rattle.result_text.specs.declared.refusals.Tail.{Tail}
@@ -12,7 +12,7 @@ abbrev pub before : ℕ → ℕ
 before zero = zero
 before (suc p) = p
 
--- the text of a refusal with this tail has the position looked at
+-- the text of a refusal with this tail has the read position
 abbrev pub has_position : Tail → Bool
 has_position Bare = false
 has_position Place = false
@@ -53,7 +53,7 @@ told_before (said.Policy number pos) more = pos ∷ more
 told_before (said.Tick time due) more = more
 told_before (said.Fault refusal) more = refusal_told refusal more
 
--- the looks that a reply tells, in order
+-- the read positions that a reply prints, in order
 abbrev pub looks_told : List Said → List ℕ
 looks_told [] = []
 looks_told (s ∷ lines) = told_before s (looks_told lines)

@@ -12,7 +12,7 @@ use Rattle.ts_sessions.specs.Deeds.{end_of_block, hold_of, begin_write_block, sa
 use Rattle.ts_sessions.specs.Places.{Places}
 use Rattle.ts_sessions.specs.Step.{given_up, refresh_meant}
 
--- that of a statement of a session with these places
+-- what a statement of a session with this state does first
 abbrev pub opening_of : {T J : Type 0} → Places → Stmt → Opening T J
 opening_of p (stmts.Snap number) = openings.Next (nexts.Deed (hold_of (refresh_meant p number)))
 opening_of p (stmts.Finish number) = openings.Finish number

@@ -1,4 +1,4 @@
--- What a session carries from one line to the next, and what a line comes to.
+-- The state that a session keeps between lines, and the result of a line.
 use Rattle.std.specs.Prelude.{ℕ, List, [], ◌∷◌, length, Option, Some, None}
 use Rattle.std.specs.Ordering.{nat_cmp}
 use Rattle.std.specs.Map.{lookup, remove_entry}
@@ -23,19 +23,19 @@ block_kind none = Outside
 block_kind (writing ops bytes) = Write
 block_kind (reading at) = Read
 
--- the operations that wait in a block
+-- the operations queued in a block
 abbrev pub queue_in : Block → List Op
 queue_in none = []
 queue_in (writing ops bytes) = ops
 queue_in (reading at) = []
 
--- how many operations wait, where it is a write block
+-- how many operations are queued, if it is a write block
 abbrev pub queue_count : Block → Option ℕ
 queue_count none = None
 queue_count (writing ops bytes) = Some (length ops)
 queue_count (reading at) = None
 
--- what a session carries from one line to the next
+-- session state: what a session keeps between lines
 pub record Places : Type 0 where
   pub block : Block
   -- the last refresh that it cut
@@ -43,7 +43,7 @@ pub record Places : Type 0 where
   -- the refreshes that it holds a snapshot for, each with the position of the snapshot, in rising order
   pub held : List (ℕ × ℕ)
 
--- the places of a session at its first line
+-- the state of a session at its first line
 abbrev pub no_places : Places
 no_places = record { block = none; cut = None; held = [] }
 
@@ -59,7 +59,7 @@ enters b p = record p { block = b }
 abbrev pub cuts : ℕ → Places → Places
 cuts c p = record p { cut = Some c }
 
--- the session holds a snapshot at this position for a refresh, in place of one that it held
+-- the session holds a snapshot at this position for a refresh, instead of one that it held
 abbrev pub holds : ℕ → ℕ → Places → Places
 holds c at p = record p { held = insert_entry nat_cmp p.held c at }
 
@@ -67,16 +67,16 @@ holds c at p = record p { held = insert_entry nat_cmp p.held c at }
 abbrev pub gives_up : ℕ → Places → Places
 gives_up c p = record p { held = remove_entry (is_at (nat_cmp c)) p.held }
 
--- what a line comes to
+-- the result of a line
 pub record Turn (P : Type 0) : Type 0 where
-  -- the places of its session after it
+  -- the state of its session after it
   pub places : P
   -- the lines of its reply
   pub said : List Said
-  -- how many stored rows it looked at
+  -- how many stored rows it read
   pub reads : ℕ
 
--- these places, and one line
+-- this session state, and one line
 abbrev pub turns : {P : Type 0} → P → Said → Turn P
 turns p s = record { places = p; said = s ∷ []; reads = 0 }
 

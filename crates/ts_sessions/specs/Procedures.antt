@@ -1,4 +1,4 @@
--- Procedures: what a statement does, as a tree of looks at a history, events, and what comes of it.
+-- Procedures: what a statement does, as a tree of looks at a history, events, and results.
 use Rattle.std.specs.Prelude.{Bool, true, Result, Ok, Err}
 use Rattle.ts_model.specs.declared.events.Event.{Event}
 use Rattle.ts_model.specs.declared.outcomes.Refusal.{Refusal}
@@ -8,10 +8,10 @@ use Rattle.ts_model.specs.Numbers.{stopped}
 
 -- what a statement does, up to what it ends with
 pub data Procedure (A : Type 0) : Type 0 where
-  -- looks at the history, and goes on by what is there. The test says of which histories the reply prints the
-  -- position; of any other what follows is the same at each longer history
+  -- looks at the history, and continues by what is there. The test says of which histories the reply prints the
+  -- position; of any other, what follows is the same at each longer history
   sees : (History → Bool) → (History → Procedure A) → Procedure A
-  -- makes an event directly after the last look; what follows, and what follows where the store stands still
+  -- makes an event directly after the last look; what follows, and what follows if the store has stopped
   adds : Event → Procedure A → Procedure A → Procedure A
   -- ends with this
   ends : A → Procedure A
@@ -30,8 +30,8 @@ followed_by (ends a) k = k a
 abbrev pub ending_as : {A B : Type 0} → (A → B) → Procedure A → Procedure B
 ending_as f procedure = followed_by procedure (λ a. ends (f a))
 
--- what a call comes to at the history that it found: a refusal, which is E24 where an event was to be made and the
--- store stands still, or what it says
+-- the outcome of a call at the history that it found: what it returns, or a refusal. The refusal is E24 if the call
+-- would make an event and the store has stopped
 abbrev pub tries_at : {A : Type 0} → History → Act A → Procedure (Result A Refusal)
 tries_at h (refuses r) = ends (Err r)
 tries_at h (returns a) = ends (Ok a)

@@ -1,4 +1,4 @@
--- What the reply to a line says: the step of its session, with each name looked at where its event is made.
+-- What the reply to a line says: the step of its session, with each name resolved where its event is made.
 use Rattle.std.specs.Prelude.{ℕ, List, length}
 use Rattle.stmt_syntax.specs.declared.statements.Stmt.{Stmt}
 use Rattle.stmt_reader.specs.Reading.{statement}

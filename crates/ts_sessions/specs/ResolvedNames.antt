@@ -34,7 +34,7 @@ use Rattle.ts_sessions.specs.Places.{Block, Places, Turn, none, queue_count, rea
 use Rattle.ts_sessions.specs.Procedures.{Procedure, ends, looks}
 use Rattle.ts_sessions.specs.Step.{answers, calendar_plan, changes, in_form, least_start, plan_of, roll_up_plan, shown_in, unit_of}
 
--- what a statement of this kind does stands in a history by names
+-- statements of this kind have names, which a history resolves
 abbrev pub looks_at_names : StatementKind → Bool
 looks_at_names kinds.Defines = true
 looks_at_names kinds.Changes = true
@@ -78,7 +78,7 @@ meant_by pos r stmt = read_as pos r stmt (upper_read pos r stmt)
 
 -- ---- what is left
 
--- an operation from a text of so many bytes: outside a block its event has a look of its own
+-- an operation from a text of so many bytes: outside a block its event has a separate look
 abbrev pub change_left : Places → ℕ → Op → Block → History → Procedure (Turn Places)
 change_left p bytes op none h = looks (λ g. changes p bytes g op p.block)
 change_left p bytes op (writing ops n) h = changes p bytes h op p.block
@@ -108,8 +108,8 @@ answered_line b h plan =
     said.Answered (in_form (roster h) plan.form (answer plan.query (shown_in b h))) (position h) (queue_count b)
     plan.min
 
--- what comes next where names were looked at: outside a block a deed, or an end that changes nothing; in a read block
--- only such an end
+-- what comes next after names were resolved: outside a block a store call, or an end that changes nothing; in a read
+-- block only such an end
 abbrev pub LeftIn : {T J : Type 0} → Block → Next T J → Type 0
 LeftIn none (nexts.Deed d) = ⊤
 LeftIn none (nexts.End t) = t.change ≡ changed.Nothing

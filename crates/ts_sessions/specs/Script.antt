@@ -52,12 +52,12 @@ pub record LineResult (P : Type 0) : Type 0 where
 
 -- ---- sessions
 
--- the places of the session with a name, where it has appeared
+-- the state of the session with a name, if it has appeared
 abbrev pub places_of : {P : Type 0} → List ℕ → List (List ℕ × P) → Option P
 places_of name [] = None
 places_of name (entry ∷ sessions) = cond (same_name entry.0 name) (Some entry.1) (places_of name sessions)
 
--- the session with a name has these places now; one that is new comes last
+-- the session with a name has this state now; a new session comes last
 abbrev pub with_places : {P : Type 0} → List ℕ → P → List (List ℕ × P) → List (List ℕ × P)
 with_places name p [] = (name, p) ∷ []
 with_places name p (entry ∷ sessions) =
@@ -140,13 +140,13 @@ is_refused semantics s n (line ∷ lines) =
     (executes semantics s n line).fault
     || is_refused semantics (executes semantics s n line).script_state (suc n) lines
 
--- how many stored rows are looked at
+-- how many stored rows are read
 abbrev pub reads_in : {P : Type 0} → Semantics P → ScriptState P → ℕ → List (List ℕ) → ℕ
 reads_in semantics s n [] = 0
 reads_in semantics s n (line ∷ lines) =
     (executes semantics s n line).reads + reads_in semantics (executes semantics s n line).script_state (suc n) lines
 
--- where the script comes to
+-- the state of the script after its lines
 abbrev pub final_script_state : {P : Type 0} → Semantics P → ScriptState P → ℕ → List (List ℕ) → ScriptState P
 final_script_state semantics s n [] = s
 final_script_state semantics s n (line ∷ lines) =

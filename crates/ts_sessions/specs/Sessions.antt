@@ -1,4 +1,4 @@
--- What contracts see of how calls and statements end, and of what a line came to.
+-- How contracts describe the ends of calls and statements, and the result of a line.
 use Rattle.std.specs.Prelude.{◌≡◌, ℕ, ◌+◌, ◌≤◌, Bool, true, false, List, [], ◌∷◌, ◌++◌, Option, Some, None, Result, Ok, Err, ⊤, IfOk, IfSome}
 use Rattle.ts_schema.specs.Counts.{raised_by}
 use Rattle.ts_schema.specs.declared.memory.NoMemory.{NoMemory}
@@ -36,7 +36,7 @@ use Rattle.ts_model.specs.declared.backends.Backend.{Ghosts as Backend}
 
 -- ---- calls of a store
 
--- what came of a call
+-- the outcome of a call
 abbrev pub result_of : {A : Type 0} → Attempt A → Result A Refusal
 result_of (tried.Done a) = Ok a
 result_of (tried.Refused r) = Err r
@@ -48,13 +48,13 @@ has_failed (tried.Done a) = false
 has_failed (tried.Refused r) = false
 has_failed (tried.Failed r) = true
 
--- a call ended with the walk of its procedure, or broke off for want of memory
+-- a call ended with the walk of its procedure, or ran out of memory
 abbrev pub Tries :
     {A : Type 0} → Bool → State → Procedure (Result A Refusal) → Result (Attempt A) NoMemory → State → Type 0
 Tries alone old procedure (Ok t) new = Walks alone (has_failed t) old procedure new (result_of t)
 Tries alone old procedure (Err e) new = Breaks alone old procedure new
 
--- what a snapshot for a refresh came to, where so many rows were read
+-- the outcome of a snapshot for a refresh that read so many rows
 abbrev pub taken_as : {J : Type 0} → ℕ → SnapOutcome J → Result Taken Refusal
 taken_as read (snapped.Taken at job) = Ok (record { at = at; reads = read })
 taken_as read (snapped.Refused r) = Err r
@@ -69,13 +69,13 @@ abbrev pub FitsSnapped : {T J : Type 0} → Shown T J → ℕ → History → Sn
 FitsSnapped shown c h (snapped.Taken at job) = IsJobOf shown c at h job
 FitsSnapped shown c h (snapped.Refused r) = ⊤
 
--- this is what a snapshot of a history for a refresh comes to; the rows that it read were counted
+-- this is the outcome of a snapshot of a history for a refresh; the rows that it read were counted
 pub record IsTakenAs {J : Type 0} (h : History) (c : ℕ) (s : SnapOutcome J) (before after : ℕ) : Type 0 where
   pub read : ℕ
   pub is : taken_as read s ≡ snapshot_taken c h
   pub counted : after ≡ raised_by (read_by read s) before
 
--- so, or it broke off for want of memory
+-- the same, or it ran out of memory
 abbrev pub TakenAs : {J : Type 0} → History → ℕ → Result (SnapOutcome J) NoMemory → ℕ → ℕ → Type 0
 TakenAs h c (Ok s) before after = IsTakenAs h c s before after
 TakenAs h c (Err e) before after = before ≤ after
@@ -87,7 +87,7 @@ pub record Snaps {J : Type 0} (alone : Bool) (old : State) (c : ℕ) (s : SnapOu
   pub walks : Walks alone false old (takes_snapshot c) new (taken_as read s)
   pub counted : after ≡ raised_by (read_by read s) before
 
--- so ended a snapshot for a refresh, or it broke off for want of memory
+-- a snapshot for a refresh ended so, or ran out of memory
 abbrev pub SnapEnds : {J : Type 0} → Bool → State → ℕ → Result (SnapOutcome J) NoMemory → State → ℕ → ℕ → Type 0
 SnapEnds alone old c (Ok s) new before after = Snaps alone old c s new before after
 SnapEnds alone old c (Err e) new before after = Breaks alone old (takes_snapshot c) new × (before ≤ after)
@@ -100,7 +100,7 @@ queued_on op more none = none
 queued_on op more (writing ops bytes) = writing (ops ++ op ∷ []) (bytes + more)
 queued_on op more (reading at) = reading at
 
--- the places of a session after a change
+-- the state of a session after a change
 abbrev pub places_after : {T J : Type 0} → Change T J → Places → Places
 places_after changes.Nothing p = p
 places_after (changes.Cuts c) p = cuts c p
@@ -130,11 +130,11 @@ abbrev pub ChangeFits : {T J : Type 0} → Change T J → Block → Type 0
 ChangeFits (changes.Queues op more) b = bytes_queued b + more ≤ most_queued
 ChangeFits other b = ⊤
 
--- what a statement came to, with places that it began with, where so many rows were read
+-- the result of a statement that began with this session state and read so many rows
 abbrev pub turn_of : {T J : Type 0} → Places → ℕ → Completion T J → Turn Places
 turn_of p read t = record { places = places_after t.change p; said = t.said; reads = read }
 
--- a statement ended with the walk of its procedure, or broke off for want of memory
+-- a statement ended with the walk of its procedure, or ran out of memory
 abbrev pub EndsAt :
     {T J : Type 0} → Bool → State → Procedure (Turn Places) → Places → ℕ → Result (Completion T J) NoMemory → State
     → Type 0
@@ -187,8 +187,8 @@ pub record Reports {P : Type 0} (alone failed : Bool) (old : State) (procedure :
   pub made : new.made ≡ old.made ++ reply.events
   pub counted : after ≡ raised_by read before
 
--- a line of the session with a name did this procedure: its reply reports it whole, or with the place where the disk
--- failed, or it broke off for want of memory
+-- a line of the session with a name did this procedure: its reply reports it, with a disk fault or without, or the
+-- line ran out of memory
 abbrev pub Stepped : {P : Type 0} → Bool → State → Procedure (Turn P) → List ℕ → StepEnd → State → P → ℕ → ℕ → Type 0
 Stepped alone old procedure name (steps.Reply r) new places before after =
     Reports alone false old procedure name r new places before after

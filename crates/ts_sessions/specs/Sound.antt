@@ -1,4 +1,4 @@
--- What may be asked of a store.
+-- What a statement may ask of a store.
 use Rattle.std.specs.Prelude.{◌≡◌, ℕ, ◌+◌, List, [], ◌∷◌, if◌then◌else◌, IsTrue, None, IsSome, Some}
 use Rattle.ts_model.specs.declared.events.Op.{Op}
 use Rattle.ts_model.specs.declared.views.ViewDef.{ViewDef}
@@ -20,7 +20,7 @@ AsksSoundly bytes stmt =
     (h : History) → IsTrue (all_allowed h) → refusal_of (position h) (roster h) stmt ≡ None
     → IsSound h bytes (action_of (roster h) stmt)
 
--- a snapshot stands for some allowed history, at which these operations can be committed, if there are any
+-- a snapshot is one of an allowed history, at which these operations can be committed, if there are any
 pub record StandsForAllowed {T : Type 0} (stands : T → History → Type 0) (shot : T) (queue : List Op) : Type 0 where
   pub history : History
   pub holds : stands shot history

@@ -1,4 +1,4 @@
--- The step of a session: what a line does, by the places of its session.
+-- The step of a session: what a line does, by the session state.
 use Rattle.std.specs.Prelude.{ℕ, ◌+◌, ℤ, pos as nonneg, negsuc, codes, if◌then◌else◌, Bool, true, false, not, cond, is_some, List, [], ◌∷◌, ◌++◌, length, Option, Some, None, Result, Ok, Err}
 use Rattle.ts_bucket.specs.Bucket.{first_of}
 use Rattle.ts_bucket.specs.declared.spans.Span.{Span}
@@ -117,7 +117,7 @@ block_refusal (reading at) kind = refusal_reading kind
 
 -- ---- events
 
--- what came of it is said in one line, and the session stays as it is
+-- one line states the outcome, and the session stays as it is
 abbrev pub turn_of_line : {A : Type 0} → Places → (A → Said) → Result A Refusal → Turn Places
 turn_of_line p line (Ok a) = turns p (line a)
 turn_of_line p line (Err r) = refuses p r
@@ -171,7 +171,7 @@ abbrev pub turn_of_refresh : Places → ℕ → Span → ℤ → Taken → Resul
 turn_of_refresh p c span min t (Ok k) = record { places = p; said = said.Refresh c k t.at span min ∷ []; reads = t.reads }
 turn_of_refresh p c span min t (Err r) = cut_refused p c span min r t.reads
 
--- a refresh goes on after its snapshot
+-- a refresh continues after its snapshot
 abbrev pub after_snapshot : Places → ℕ → Span → ℤ → Result Taken Refusal → Procedure (Turn Places)
 after_snapshot p c span min (Ok t) = ending_as (turn_of_refresh p c span min t) (finishes_refresh c t.at)
 after_snapshot p c span min (Err r) = ends (cut_refused p c span min r 0)
@@ -261,7 +261,7 @@ plan_of r q = record { query = q; form = forms.Own; min = asked_start r q }
 abbrev pub roll_up_plan : UpperPlan → Plan
 roll_up_plan plan = record { query = lower_query plan; form = forms.RolledUp plan; min = first_of plan.width }
 
--- the unit of the calendar that a word stands for
+-- the calendar unit that a word names
 abbrev pub unit_of : List ℕ → CalUnit
 unit_of word =
     if same_name word (codes "day") then units.Day
@@ -383,7 +383,7 @@ makes_event kinds.Defines = true
 makes_event kinds.Changes = true
 makes_event other = false
 
--- outside a block their names are looked at first, and the event then has a look of its own
+-- outside a block their names are resolved first, and the event then has a separate look
 abbrev pub looks_twice : Block → StatementKind → Bool
 looks_twice none kind = makes_event kind
 looks_twice (writing ops n) kind = false

@@ -1,4 +1,4 @@
--- Replies that the store stands still.
+-- Replies that the store has stopped.
 use Rattle.std.specs.Prelude.{◌≡◌, ◌≤◌, ℕ, List, [], Option, Some, ⊤}
 use Rattle.std.specs.List.{AllByRecursion}
 use Rattle.ts_model.specs.Numbers.{stopped}

@@ -1,21 +1,21 @@
--- How a procedure goes over a store that others may change too, and what it comes to over one that is alone.
+-- How a procedure runs on a store that others may change too, and its result on a history that nobody else changes.
 use Rattle.std.specs.Prelude.{◌≡◌, Bool, true, false, ◌⊎◌, IsTrue}
 use Rattle.ts_model.specs.History.{History, ◌▸◌}
 use Rattle.ts_model.specs.States.{State, Found, Makes, Fails, stands_still}
 use Rattle.ts_sessions.specs.Procedures.{Procedure, sees, adds, ends}
 
--- a look finds what was seen last, or what a call finds
+-- a look finds the state that was seen last, or the one that a call finds
 abbrev pub Sees : Bool → State → State → Type 0
 Sees alone old found = (found ≡ old) ⊎ Found alone old found
 
--- one thing came to a state, and the rest went on from there
+-- the first part led to a state, and the rest continued from there
 pub record By (First Rest : State → Type 0) : Type 0 where
   pub mid : State
   pub first : First mid
   pub rest : Rest mid
 
--- a procedure that began at a state came to its end, with the state then and what it ended with.
--- failed: the disk failed at one of its events, and from there on the store stood still
+-- a procedure that began at state `old` came to its end, at state `new` and with result y.
+-- failed: the disk failed at one of its events, and the store stopped there
 abbrev pub Walks : {A : Type 0} → Bool → Bool → State → Procedure A → State → A → Type 0
 Walks alone failed old (sees shown f) new y =
     By (Sees alone old) (λ found. Walks alone failed found (f found.history) new y)
@@ -25,8 +25,7 @@ Walks alone failed old (adds e next stop) new y =
     ⊎ ((failed ≡ true) × By (Fails e old) (λ mid. Walks alone false mid stop new y))
 Walks alone failed old (ends a) new y = (failed ≡ false) × (new ≡ old) × (y ≡ a)
 
--- a procedure that broke off for want of memory, whether the disk had failed before or not: the events that it had
--- made stand
+-- a procedure that ran out of memory, whether the disk had failed before or not: the events that it had made remain
 abbrev pub Breaks : {A : Type 0} → Bool → State → Procedure A → State → Type 0
 Breaks alone old (sees shown f) new = By (Sees alone old) (λ found. Breaks alone found (f found.history) new)
 Breaks alone old (adds e next stop) new =

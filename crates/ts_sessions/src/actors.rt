@@ -1,4 +1,4 @@
-//! Who executes the lines of a session.
+//! Actors, which execute the lines of a session.
 use crate::blocks::Block;
 use crate::replies::StepEnd;
 use crate::sessions::Session;
@@ -7,8 +7,8 @@ use std::thread::Threads;
 use ts_model::{Backend, Gate, Shown};
 use ts_schema::{Name, Steps};
 
-/// One that executes the lines of a session: a session, or whoever else does something at each of
-/// its lines, over any store with snapshots of this type.
+/// An actor executes the lines of a session on any store with snapshots of this type. A session is an actor; so is
+/// a type around a session that does more at each line.
 pub trait Actor {
     ghost use Rattle.std.specs.Prelude.{◌≡◌, ℕ, ◌+◌, ◌≤◌, List, length};
     ghost use Rattle.std.specs.Thread.{IsSync};
@@ -24,13 +24,13 @@ pub trait Actor {
     /// The snapshots of the stores that it acts on.
     type Shot: Shown;
 
-    // What it carries from one line to the next.
+    // The state that it keeps from one line to the next.
     ghost Places: { Type 0 };
 
-    // What its lines do.
+    // The meaning of its lines.
     ghost semantics: { Semantics Self.Places };
 
-    // What the reply to a line says, by its places, the bytes of the line and how many stand before its statement.
+    // What the reply to a line says, by the session state, the bytes of the line, and how many precede its statement.
     ghost replies: { Self.Places → List ℕ → ℕ → Procedure (Turn Self.Places) };
 
     ghost places: { Self → Self.Places };
@@ -39,20 +39,20 @@ pub trait Actor {
 
     ghost numbered: { Self → ℕ };
 
-    // The bytes of the texts whose operations wait for the end of its write block.
+    // How many bytes the texts of the queued operations have.
     ghost waiting: { Self → ℕ };
 
-    // The block of its places.
+    // The block in a session state.
     ghost within: { Self.Places → BlockPlace };
 
-    // Operations wait in a write block alone.
+    // Only a write block queues operations.
     ghost waits: { (actor : Self) → WaitsInside (block_kind (Self.within (Self.places actor))) (Self.waiting actor) };
 
-    // What it holds goes with what its store has seen, and with whether that stands still.
+    // What it holds fits the history of its store, and whether the store has stopped.
     ghost holds: { Self → State → Type 0 };
 
-    /// One before its first line. Sessions are numbered from 0 in order of appearance. It
-    /// takes no memory.
+    /// Returns the actor before its first line. Sessions are numbered from 0 in order of appearance. It allocates
+    /// nothing.
     fn begin(alloc: Global, name: Name, number: u32) -> Self
         ensures name { Self.named result ≡ name }
         ensures number { Self.numbered result ≡ number }
@@ -60,26 +60,26 @@ pub trait Actor {
         ensures waiting { Self.waiting result ≡ 0 }
         ensures holds { (s : State) → Self.holds result s };
 
-    /// Its number.
+    /// The number of the session.
     fn number(&self) -> u32
         ensures { result ≡ Self.numbered self.now };
 
-    /// Its name.
+    /// The name of the session.
     fn name(&self) -> &Name
         ensures { result.now ≡ Self.named self.now };
 
-    /// The bytes of the texts whose operations wait for the end of its write block, or 0.
+    /// How many bytes the texts of the queued operations have: 0 outside a write block.
     fn queued(&self) -> u64
         ensures { result ≡ Self.waiting self.now };
 
-    /// The block that it is in.
+    /// The block that the session is in.
     fn block(&self) -> Block
         ensures { result ≡ block_kind (Self.within (Self.places self.now)) };
 
-    /// Does what a line asks for. `text` is the line before its comment, and its statement stands after
-    /// the first `skip` bytes. `rt` has the threads that queries and refreshes may use, `gate` is called directly
-    /// before the finish of a refresh, and `steps` counts the stored rows that are looked at. It may be called again
-    /// after a disk fault, and not after `NoMemory`: then no clause says that what it holds goes with the store.
+    /// Executes a line. `text` is the line before its comment, and its statement begins after the first `skip` bytes.
+    /// `rt` has the threads that queries and refreshes may use. `gate` is a worker hook, called directly before the
+    /// finish of a refresh. `steps` counts the stored rows read. The caller may call it again after a disk fault, but
+    /// not after `NoMemory`: then no clause says that what it holds fits the store.
     fn act<R: Threads + Sync, B: Backend<Shot = Self::Shot>, G: Gate, L>(
         &mut self,
         rt: &R,
@@ -105,22 +105,22 @@ pub trait Actor {
         ensures holds { IfAnswered result (Self.holds self.new (B.state backend.new)) }
         ensures kin { B.kin backend.new ≡ B.kin backend.old };
 
-    /// Tells of its lines that what they do is what the replies to them say, over each history that comes after
-    /// them. It does nothing: its clause is the law.
+    /// States the law that the lines do what the replies to them say, over each longer history. It does nothing: its
+    /// clause is the law.
     fn tells_replies()
         ensures { TellsReplies Self.within Self.semantics.does Self.replies };
 
-    /// A line of a statement that makes an event leaves it outside a block, if it was there. It does nothing: its
-    /// clause is the law.
+    /// States the law that a line whose statement makes an event leaves the session outside a block, if it was outside.
+    /// It does nothing: its clause is the law.
     fn stays_outside()
         ensures { StaysOutside Self.within Self.semantics.does };
 
     ghost holds_on: { (actor : Self) (g h : State) → GoesOn g h → Self.holds actor g → Self.holds actor h };
 
-    // All begin alike.
+    // The first state doesn't depend on the number of the session.
     ghost alike: { (m n : ℕ) → Self.semantics.opening m ≡ Self.semantics.opening n };
 
-    // The block of one whose holdings go with what its store has seen had begun by then.
+    // If what it holds fits the history of its store, its block began within that history.
     ghost begun: { (actor : Self) (s : State) → Self.holds actor s
         → HadBegun Self.within (Self.places actor) s.history };
 }

@@ -1,5 +1,5 @@
-//! Statements that begin or end blocks, and snapshots that a session holds: what each is to do first. None of them
-//! looks at names.
+//! What statements do first that begin or end a block, or use a snapshot that the session holds. None of them
+//! resolves names.
 ghost use Rattle.std.specs.Prelude.{◌≡◌, IfOk};
 ghost use Rattle.ts_model.specs.States.{State};
 ghost use Rattle.ts_sessions.specs.Deeds.{DeedFits, Forgets, StandsFor, Takes, end_of_block, hold_of, begin_write_block, said_once};
@@ -21,18 +21,18 @@ use std::alloc::Global;
 use ts_model::Shown;
 use ts_schema::{NoMemory, Seq};
 
-/// What a session holds for a refresh that is to be finished.
+/// What a session holds for a refresh that a statement finishes.
 #[derive(Drop)]
 pub(crate) enum HeldJob<J> {
-    /// Nothing.
+    /// No snapshot.
     Nothing,
-    /// A snapshot at a position, whose job a store has taken.
+    /// A snapshot at a position, whose job an earlier finish has taken.
     Lost { at: u64 },
     /// A snapshot at a position, with its job.
     Job { at: u64, job: J },
 }
 
-/// A write block begins, in which no operation waits.
+/// Begins a write block with an empty queue.
 pub fn begin<T: Shown + Drop>(alloc: Global) -> Result<Next<T>, NoMemory>
 where
     T::Job: Drop,
@@ -49,7 +49,7 @@ impl<T: Shown + Drop> Session<T>
 where
     T::Job: Drop,
 {
-    /// A block ends: what waits in a write block takes effect as one commit, if anything does.
+    /// Ends a block. The queue of a write block, unless it is empty, takes effect as one commit.
     pub fn end_block(&self, alloc: Global) -> Result<Next<T>, NoMemory>
         ensures { IfOk result (λ n. n ≡ end_of_block (places_in self.now).block) }
     {
@@ -66,14 +66,14 @@ where
         }
     }
 
-    /// A block is given up.
+    /// Gives up a block.
     pub fn roll_back(&self, alloc: Global) -> Result<Next<T>, NoMemory>
         ensures { IfOk result (λ n. n ≡ said_once (given_up (places_in self.now).block) (changes.Enters opens.Nothing)) }
     {
         say(alloc, self.block.given_up(), Change::Enters(Open::Nothing))
     }
 
-    /// A snapshot is taken for the refresh that is meant, and held.
+    /// Takes a snapshot for the refresh that the statement names, for the session to hold.
     pub fn snap(&self, number: Option<i64>) -> Deed<T>
         ensures { result ≡ hold_of (refresh_meant (places_in self.now) number) }
     {
@@ -83,7 +83,7 @@ where
         }
     }
 
-    /// The refresh that is meant is finished with the job that is held for it, which is taken.
+    /// Finishes the refresh that the statement names, with the job that the session holds for it. It takes that job.
     pub(crate) fn finish(&mut self, number: Option<i64>) -> Deed<T>
         ensures stands { (s : State) → HoldsOf T.Shown self.old s →
             StandsFor (nexts.Deed result) (places_in self.old) s (finishes_meant (places_in self.old) number) }
@@ -111,7 +111,7 @@ where
         }
     }
 
-    /// Gives up the snapshot for a refresh, if one is named.
+    /// Gives up the snapshot for a refresh, if `gone` names one.
     pub(crate) fn give_up(&mut self, gone: Option<u64>)
         ensures forgets { Forgets gone self.old self.new }
         ensures name { self.new.name ≡ self.old.name }
@@ -123,7 +123,7 @@ where
         }
     }
 
-    /// Takes the job of the snapshot that it holds for a refresh, and keeps the position.
+    /// Takes the job of the snapshot that the session holds for a refresh, and leaves the position.
     fn take_job(&mut self, cut: u64) -> HeldJob<T::Job>
         ensures took { TakesJob cut self.old.held.entries result self.new.held.entries }
         ensures block { self.new.block ≡ self.old.block }
@@ -138,7 +138,7 @@ where
     }
 }
 
-/// What was held of a snapshot at a position.
+/// Returns what a session held: a snapshot at this position, with its job or without.
 fn took<J>(at: u64, job: Option<J>) -> HeldJob<J>
     ensures { result ≡ took_of at job }
 {

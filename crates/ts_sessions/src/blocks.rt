@@ -22,12 +22,12 @@ pub enum Block {
     Read,
 }
 
-/// The operations that wait for the end of a write block.
+/// The operations held until the end of a write block.
 #[derive(Drop)]
 pub struct Queue {
     /// The operations, in order.
     pub ops: Seq<Op>,
-    /// How many bytes the texts have that they came from.
+    /// How many bytes their texts have.
     pub bytes: u64,
 }
 
@@ -48,7 +48,7 @@ pub enum Open<T> {
 }
 
 impl<T> Open<T> {
-    /// Which block it is.
+    /// Returns the kind of the block.
     pub(crate) fn stage(&self) -> Block
         ensures { result ≡ block_kind (block_of self.now) }
     {
@@ -59,7 +59,7 @@ impl<T> Open<T> {
         }
     }
 
-    /// How many bytes the texts have whose operations wait.
+    /// Returns how many bytes the texts of the queued operations have.
     pub(crate) fn queued(&self) -> u64
         ensures { result ≡ queued_in (block_of self.now) }
     {
@@ -70,7 +70,7 @@ impl<T> Open<T> {
         }
     }
 
-    /// How many operations wait, where it is a write block.
+    /// Returns how many operations are queued, if it is a write block.
     pub(crate) fn queue_count(&self) -> Option<u64>
         ensures { result ≡ queue_count_of (block_of self.now) }
     {
@@ -81,8 +81,7 @@ impl<T> Open<T> {
         }
     }
 
-    /// An operation, from a text of so many bytes, waits for the end of the block, if it is a write
-    /// block.
+    /// Queues an operation from a text of `more` bytes, if it is a write block.
     pub(crate) fn push(&mut self, op: Op, more: u64) -> Result<(), NoMemory>
         requires { queued_in (block_of self.old) + more ≤ most_queued }
         ensures queued { OnOk result (block_of self.new ≡ queued_on op more (block_of self.old)) }
@@ -100,7 +99,7 @@ impl<T> Open<T> {
         }
     }
 
-    /// What is said where it is given up.
+    /// Returns the line that reports that the block is given up.
     pub(crate) fn given_up(&self) -> Said
         ensures { result ≡ given_up_of (block_of self.now) }
     {
@@ -111,8 +110,8 @@ impl<T> Open<T> {
         }
     }
 
-    /// Why the block lets no statement of this kind pass, if it doesn't: `E16` in a write block, `E17` in a read
-    /// block, and outside of blocks `E18` for a statement that ends one.
+    /// Returns the refusal of a statement of this kind, or none if the block lets it pass: `E16` in a write block,
+    /// `E17` in a read block, and `E18` outside a block for a statement that ends one.
     pub fn barrier(&self, kind: StatementKind) -> Option<Refusal>
         ensures { result ≡ block_refusal (block_of self.now) kind }
     {
@@ -124,7 +123,7 @@ impl<T> Open<T> {
     }
 }
 
-/// Why a statement of this kind may not be outside a block.
+/// Returns the refusal of a statement of this kind outside a block, if there is one.
 fn outside_block(kind: StatementKind) -> Option<Refusal>
     ensures { result ≡ refusal_outside kind }
 {
@@ -139,7 +138,7 @@ fn outside_block(kind: StatementKind) -> Option<Refusal>
     }
 }
 
-/// Why a statement of this kind may not be in a write block.
+/// Returns the refusal of a statement of this kind in a write block, if there is one.
 fn in_write_block(kind: StatementKind) -> Option<Refusal>
     ensures { result ≡ refusal_writing kind }
 {
@@ -155,7 +154,7 @@ fn in_write_block(kind: StatementKind) -> Option<Refusal>
     }
 }
 
-/// Why a statement of this kind may not be in a read block.
+/// Returns the refusal of a statement of this kind in a read block, if there is one.
 fn in_read_block(kind: StatementKind) -> Option<Refusal>
     ensures { result ≡ refusal_reading kind }
 {

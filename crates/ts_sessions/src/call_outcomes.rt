@@ -1,4 +1,4 @@
-//! What comes of calls of a store.
+//! Outcomes of store calls.
 ghost use Rattle.std.specs.Prelude.{◌≡◌};
 ghost use Rattle.ts_sessions.specs.CallOutcomes.{IsTried};
 ghost use Rattle.ts_sessions.specs.Sessions.{result_of as came_of, has_failed};
@@ -7,18 +7,18 @@ use crate::refusals::at;
 use ts_model::{Outcome, Refusal, codes};
 use ts_schema::NoMemory;
 
-/// What came of a call that may make an event.
+/// The outcome of a call that may make an event.
 #[derive(Drop, Debug, PartialEq, Eq)]
 pub enum Attempt<T> {
-    /// It did what it is for.
+    /// The call succeeded.
     Done(T),
-    /// It was refused, and nothing changed.
+    /// The call was refused, and nothing changed.
     Refused(Refusal),
-    /// The disk failed at its event, and the store stands still. The refusal is that of an event there.
+    /// The disk failed at its event, and the store has stopped. The refusal is `E24`, with the position of the stop.
     Failed(Refusal),
 }
 
-/// What came of a call that answered so, and left the store at this position.
+/// Returns the outcome of a call that returned `outcome` and left the store at `position`.
 pub(crate) fn outcome_of<T: Drop>(
     outcome: Outcome<T>,
     position: u64,
@@ -45,7 +45,7 @@ impl<T> Attempt<T> {
         }
     }
 
-    /// What came of the call: what it did, or why it was refused.
+    /// Returns what the call did, or why it was refused.
     pub(crate) fn into_result(self) -> Result<T, Refusal>
         ensures { result ≡ came_of self }
     {

@@ -1,4 +1,4 @@
-//! Calls of a store: what a deed asks of one, and what it answered, with what awaits the answer.
+//! Performs store calls, and pairs each outcome with what the statement does next.
 ghost use Rattle.std.specs.Prelude.{◌≡◌, IsTrue, OnOk};
 ghost use Rattle.ts_model.specs.Sound.{sound};
 ghost use Rattle.ts_sessions.specs.Calls.{MeetsTo};
@@ -13,37 +13,37 @@ use crate::refreshes::{RefreshRequest, cut, finish};
 use ts_model::{Backend, Committed, CutDone, Gate, Refusal, Shown};
 use ts_schema::NoMemory;
 
-/// What the call of a deed came to, with what awaits it.
+/// The outcome of a store call, with what the statement needs to continue.
 #[derive(Drop)]
 pub enum CallOutcome<T> {
-    /// A relation was made or set by the event with a number, or not.
+    /// The event with this number made or set a relation, or the store refused it.
     Number {
         line: ChangeLine,
         came: Result<u64, Refusal>,
     },
-    /// Operations took effect, or not.
+    /// Operations took effect, or the store refused them.
     Commit {
         leaves: bool,
         came: Result<Committed, Refusal>,
     },
-    /// An aggregate was made by the event with a number, or not.
+    /// The event with this number made an aggregate, or the store refused it.
     View {
         new: NewView,
         filled: bool,
         came: Result<u64, Refusal>,
     },
-    /// An aggregate that an event made was found.
+    /// The aggregate that the event `made` has made was found.
     Found {
         asked: RefreshRequest,
         made: u64,
     },
-    /// A refresh was cut, or not.
+    /// A refresh was cut, or the store refused it.
     Cut {
         asked: RefreshRequest,
         then: AfterCut,
         came: Result<CutDone, Refusal>,
     },
-    /// A refresh was finished by the event with a number, or not.
+    /// The event with this number finished a refresh, or the store refused it.
     Finish {
         finishing: FinishSource,
         came: Result<u64, Refusal>,
@@ -55,16 +55,16 @@ pub enum CallOutcome<T> {
     },
 }
 
-/// What the call of a deed came to in a store.
+/// A store call that was made.
 #[derive(Drop)]
 pub(crate) struct Meeting<T> {
-    /// What it came to.
+    /// Its outcome.
     pub outcome: CallOutcome<T>,
     /// Whether the disk failed at its event.
     pub failed: bool,
 }
 
-/// Calls a store for a deed.
+/// Makes a store call.
 pub(crate) fn call<B: Backend, G: Gate>(
     backend: &mut B,
     gate: &G,
@@ -146,7 +146,7 @@ where
     }
 }
 
-/// Makes a table, or sets one thing of a relation.
+/// Makes a table, or sets one property of a relation.
 #[tactic(auto, using(crate::proofs::CallWalks::called_tries))]
 fn make_one<B: Backend>(backend: &mut B, making: RelationChange) -> Result<Attempt<u64>, NoMemory>
     requires { IsTrue (sound (B.state backend.old).history (event_of making)) }

@@ -1,4 +1,4 @@
-//! What statements say, and how they change a session.
+//! Results of statements: the lines that they reply, and how they change a session.
 ghost use Rattle.std.specs.Prelude.{◌≡◌, ◌∷◌, [], false, IfOk};
 ghost use Rattle.result_text.specs.declared.replies.Said.TheVariants.{Fault};
 ghost use Rattle.ts_sessions.specs.Sessions.{Completes};
@@ -17,19 +17,19 @@ where
 {
     /// The session stays as it is.
     Nothing,
-    /// It has cut this refresh last.
+    /// The last refresh that it cut is this one.
     Cuts(u64),
-    /// It holds a snapshot for a refresh, in place of one that it held.
+    /// It holds a snapshot for a refresh, instead of one that it held.
     Holds { cut: u64, at: u64, job: T::Job },
     /// It gives up its snapshot for a refresh.
     GivesUp(u64),
     /// It is in this block now.
     Enters(Open<T>),
-    /// An operation, from a text of so many bytes, waits for the end of its write block.
+    /// It queues an operation, from a text of so many bytes, in its write block.
     Queues { op: Op, bytes: u64 },
 }
 
-/// What a statement came to.
+/// The result of a statement.
 #[derive(Drop)]
 pub struct Completion<T: Shown>
 where
@@ -43,7 +43,7 @@ where
     pub failed: bool,
 }
 
-/// One line as a list.
+/// Returns a list of one line.
 pub(crate) fn one_line(alloc: Global, said: Said) -> Result<Seq<Said>, NoMemory>
     ensures { IfOk result (λ lines. lines ≡ said ∷ []) }
 {
@@ -52,7 +52,7 @@ pub(crate) fn one_line(alloc: Global, said: Said) -> Result<Seq<Said>, NoMemory>
     Ok(lines)
 }
 
-/// A statement is refused.
+/// Returns the result of a refused statement.
 pub(crate) fn refusal_completion<T: Shown + Drop>(
     alloc: Global,
     refusal: Refusal,

@@ -1,4 +1,4 @@
-//! Deeds: what a statement is to do with its store next, each of which meets the store once.
+//! Store calls: what a statement does next with its store. Each calls the store once.
 ghost use Rattle.std.specs.Prelude.{◌≡◌, ℕ, ◌<◌, ◌^◌, IfOk, OnOk};
 ghost use Rattle.std.specs.Thread.{IsSync};
 ghost use Rattle.ts_model.specs.History.{History, position as position_of};
@@ -30,7 +30,7 @@ pub struct CutRefresh {
     pub min: i64,
 }
 
-/// A refresh that is finished.
+/// Where the job of a finish comes from.
 #[derive(Drop)]
 pub enum FinishSource {
     /// The statement cut it, and took its snapshot at a position.
@@ -39,25 +39,25 @@ pub enum FinishSource {
     Held { cut: u64, at: u64 },
 }
 
-/// What makes a table, or sets one thing of a relation.
+/// An event that makes a table, or sets one property of a relation.
 #[derive(Drop)]
 pub enum RelationChange {
-    /// A table is made.
+    /// Makes a table.
     Table(TableDef),
-    /// A table becomes a hypertable.
+    /// Makes a table a hypertable.
     Hyper { table: u32, hyper: Hyper },
-    /// An aggregate is set to show materialised rows only, or new rows too.
+    /// Sets an aggregate to show materialized groups only, or new rows too.
     Mode { view: u32, only: bool },
 }
 
-/// The line that says so.
+/// The line that reports a `RelationChange`.
 #[derive(Clone, Copy, Debug, PartialEq, Eq)]
 pub enum ChangeLine {
     /// A table was made.
     Table,
-    /// A hypertable.
+    /// A table was made a hypertable.
     Hyper,
-    /// A mode was set.
+    /// The mode of an aggregate was set.
     Mode,
 }
 
@@ -70,86 +70,86 @@ pub enum MissingPart {
     Job,
 }
 
-/// What goes on after a cut.
+/// What follows a cut.
 #[derive(Clone, Copy, Debug, PartialEq, Eq)]
 pub enum AfterCut {
-    /// The refresh goes on.
+    /// The snapshot and the finish of the refresh.
     Refresh,
-    /// Nothing.
+    /// The end of the statement.
     End,
 }
 
-/// What a snapshot is for.
+/// What a snapshot of the store is for.
 #[derive(Drop)]
 pub enum AfterLook {
-    /// A read block begins, at what is seen then.
+    /// To begin a read block, at the position of the snapshot.
     BeginRead,
-    /// A refresh that the statement cut gets a snapshot, and is then finished.
+    /// To compute the job of a refresh that the statement cut, and then finish it.
     Snapshot(CutRefresh),
-    /// A refresh gets a snapshot, which the session holds.
+    /// To compute the job of a refresh, for the session to hold.
     Hold { cut: u64 },
-    /// A refresh can't be finished, since the session lacks this: it is refused.
+    /// To refuse the finish of a refresh, since the session lacks this.
     Refuse { cut: u64, lacks: MissingPart },
-    /// No refresh is meant: it is refused.
+    /// To refuse a statement that names no refresh.
     Unknown,
 }
 
-/// What a statement is to do with its store next: a call of it, with what awaits the answer.
+/// The next store call of a statement, with what the statement needs to continue.
 #[derive(Drop)]
 pub enum Deed<T: Shown>
 where
     T::Job: Drop,
 {
-    /// A relation is made or set.
+    /// Makes or sets a relation.
     Make(RelationChange),
-    /// Operations take effect, which ends a block or not.
+    /// Commits operations. `leaves` says whether this ends a block.
     Commit {
         ops: Seq<Op>,
         leaves: bool,
     },
-    /// An aggregate is made, and then filled or not.
+    /// Makes an aggregate. `filled` says whether a refresh follows.
     View {
         def: ViewDef,
         filled: bool,
     },
-    /// An aggregate that an event made is refreshed over all that there is.
+    /// Refreshes all buckets of an aggregate that the event `made` has just made.
     Fill {
         new: NewView,
         made: u64,
     },
-    /// A refresh is cut.
+    /// Cuts a refresh.
     Cut {
         asked: RefreshRequest,
         then: AfterCut,
     },
-    /// A refresh is finished with a job.
+    /// Finishes a refresh with a job.
     Finish {
         job: T::Job,
         finishing: FinishSource,
     },
-    /// A snapshot is taken.
+    /// Takes a snapshot.
     Look(AfterLook),
 }
 
-/// What comes after a deed.
+/// What a statement does next.
 #[derive(Drop)]
 pub enum Next<T: Shown>
 where
     T::Job: Drop,
 {
-    /// Another deed.
+    /// A store call.
     Deed(Deed<T>),
     /// The end of the statement.
     End(Completion<T>),
 }
 
-/// What came of a deed.
+/// What follows a store call, and whether its disk failed.
 #[derive(Drop)]
 pub(crate) struct DeedOutcome<T: Shown>
 where
     T::Job: Drop,
 {
-    /// A line that is said at once.
+    /// A line of the reply that comes before all later ones.
     pub said: Option<Said>,
     /// What comes next.
     pub next: Next<T>,
@@ -157,7 +157,7 @@ where
     pub failed: bool,
 }
 
-/// Carries a statement out from what comes next on.
+/// Carries out a statement, from `next` to its end.
 pub(crate) fn carry_out<R: Threads + Sync, B: Backend, G: Gate, L>(
     rt: &R,
     alloc: Global,
@@ -191,7 +191,7 @@ where
     }
 }
 
-/// A completion of a statement that may have said a line before, and whose disk may have failed.
+/// Returns the completion with a line of the reply before its own, if there is one, and with an earlier disk fault.
 pub fn prepend_line<T: Shown + Drop>(
     completion: Completion<T>,
     said: Option<Said>,
@@ -219,7 +219,7 @@ where
     }
 }
 
-/// Does a deed.
+/// Makes one store call, and returns what follows it.
 fn advance<R: Threads + Sync, B: Backend, G: Gate, L>(
     rt: &R,
     alloc: Global,
@@ -251,7 +251,7 @@ where
 }
 
 impl RelationChange {
-    /// The line that says it.
+    /// The line that reports it.
     pub fn line(&self) -> ChangeLine
         ensures { result ≡ line_of self.now }
     {
@@ -310,7 +310,7 @@ where
 }
 
 impl MissingPart {
-    /// Why a refresh that waits is refused at a position.
+    /// The refusal code for a pending refresh, at a position.
     pub(crate) fn code(self, position: u64) -> u8
         ensures { (h : History) → position ≡ position_of h → result ≡ lack_code self h }
     {
@@ -322,7 +322,7 @@ impl MissingPart {
 }
 
 impl FinishSource {
-    /// The refresh that a session held a snapshot for.
+    /// The number of the refresh, if the session held its snapshot.
     fn held_cut(&self) -> Option<u64>
         ensures { result ≡ held_in self.now }
     {

@@ -1,4 +1,4 @@
-//! Operations that take effect, and aggregates that are made.
+//! Commits of operations, and new aggregates.
 ghost use Rattle.std.specs.Prelude.{◌≡◌, ◌<◌, ◌^◌, ◌∷◌, [], length, None, IsTrue, IfOk};
 ghost use Rattle.ts_bucket.specs.Bucket.{first_of};
 ghost use Rattle.ts_model.specs.declared.events.Event.TheVariants.{Commit};
@@ -15,7 +15,7 @@ use ts_bucket::{Width, first};
 use ts_model::{Backend, Committed, Op, ViewDef};
 use ts_schema::{Name, NoMemory, Seq};
 
-/// Lets operations take effect.
+/// Commits operations as one event.
 #[tactic(auto, using(crate::proofs::CallWalks::called_tries))]
 pub(crate) fn commit<B: Backend>(
     backend: &mut B,
@@ -29,7 +29,7 @@ pub(crate) fn commit<B: Backend>(
     outcome_of(outcome, backend.position())
 }
 
-/// One operation as a list.
+/// Returns a list of one operation.
 pub(crate) fn alone(alloc: Global, op: Op) -> Result<Seq<Op>, NoMemory>
     ensures { IfOk result (λ ops. ops ≡ op ∷ []) }
 {
@@ -38,7 +38,7 @@ pub(crate) fn alone(alloc: Global, op: Op) -> Result<Seq<Op>, NoMemory>
     Ok(ops)
 }
 
-/// An aggregate to be made, as its refresh finds it.
+/// What the first refresh of a new aggregate needs of it.
 #[derive(Drop)]
 pub struct NewView {
     /// Its name.
@@ -47,7 +47,7 @@ pub struct NewView {
     pub width: Width,
 }
 
-/// An aggregate to be made, as its refresh finds it.
+/// Returns what the first refresh of an aggregate with this definition needs.
 pub fn new_view(def: &ViewDef) -> Result<NewView, NoMemory>
     ensures name { IfOk result (λ v. v.name ≡ def.now.name) }
     ensures width { IfOk result (λ v. v.width ≡ def.now.fold.width) }
@@ -58,7 +58,7 @@ pub fn new_view(def: &ViewDef) -> Result<NewView, NoMemory>
     })
 }
 
-/// A refresh of all that there is, of the aggregate with a number and a width.
+/// Returns a request to refresh all buckets of the aggregate with this number and width.
 pub fn all_of(view: u32, width: &Width) -> RefreshRequest
     ensures { result ≡ record { view = view; lo = None; hi = None; min = first_of width.now } }
 {
@@ -70,7 +70,7 @@ pub fn all_of(view: u32, width: &Width) -> RefreshRequest
     }
 }
 
-/// The number of the aggregate with a name, or how many there are.
+/// Returns the number of the aggregate with this name, or how many aggregates exist if none has it.
 pub fn view_number(views: &[ViewDef], name: &Name) -> u32
     requires { length views.now < 2 ^ 32 }
     ensures { result ≡ number_from name.now 0 views.now }

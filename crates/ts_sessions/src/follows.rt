@@ -1,4 +1,4 @@
-//! What follows a deed, by what came of it: another deed, or the end of the statement. Nothing here meets a store.
+//! What follows a store call, by its outcome: another call, or the end of the statement. Nothing here calls a store.
 ghost use Rattle.std.specs.Prelude.{◌≡◌, ◌<◌, ◌^◌, [], ◌∷◌, false, IfOk, IsTrue, ⊤};
 ghost use Rattle.std.specs.Thread.{IsSync};
 ghost use Rattle.ts_bucket.specs.Bucket.{first_of};
@@ -30,19 +30,19 @@ use std::thread::Threads;
 use ts_model::{Committed, CutDone, Pending, Refusal, Shown, codes};
 use ts_schema::{NoMemory, Seq, Steps};
 
-/// What follows a deed.
+/// What follows a store call.
 #[derive(Drop)]
 pub struct Followed<T: Shown>
 where
     T::Job: Drop,
 {
-    /// A line that is said at once.
+    /// A line of the reply that comes before all later ones.
     pub said: Option<Said>,
     /// What comes next.
     pub next: Next<T>,
 }
 
-/// What follows the call of a deed, by what it came to.
+/// Returns what follows a store call, by its outcome.
 pub fn follow<R: Threads + Sync, T: Shown + Drop, L>(
     rt: &R,
     alloc: Global,
@@ -76,7 +76,7 @@ where
     }
 }
 
-/// What comes next where no line is said at once.
+/// Returns what comes next, with no line of the reply before it.
 fn quietly<T: Shown + Drop>(next: Result<Next<T>, NoMemory>) -> Result<Followed<T>, NoMemory>
 where
     T::Job: Drop,
@@ -88,7 +88,7 @@ where
     }
 }
 
-/// What follows a snapshot, by what it is for.
+/// Returns what follows a snapshot, by what it is for.
 fn after_look<R: Threads + Sync, T: Shown + Drop, L>(
     rt: &R,
     alloc: Global,
@@ -134,7 +134,7 @@ where
     }
 }
 
-/// Ends after a relation was made or set, or not.
+/// Ends the statement after a call that makes or sets a relation.
 pub fn after_number<T: Shown + Drop>(
     alloc: Global,
     line: ChangeLine,
@@ -154,7 +154,7 @@ where
     }
 }
 
-/// Ends after operations took effect, or not.
+/// Ends the statement after a commit. `leaves` says whether the commit ends a block.
 pub fn after_commit<T: Shown + Drop>(
     alloc: Global,
     leaves: bool,
@@ -173,7 +173,7 @@ where
     }
 }
 
-/// Goes on after an aggregate was made, or ends where it wasn't.
+/// Continues after an aggregate was made, or ends the statement if it was refused or isn't to be filled.
 pub fn after_view<T: Shown + Drop>(
     alloc: Global,
     new: NewView,
@@ -194,7 +194,7 @@ where
     }
 }
 
-/// Goes on after the cut of a whole refresh.
+/// Continues after the cut of a whole refresh, or ends the statement if it was refused or had nothing to do.
 pub fn after_refresh_cut<T: Shown + Drop>(
     alloc: Global,
     asked: &RefreshRequest,
@@ -219,7 +219,7 @@ where
     }
 }
 
-/// Ends after a cut.
+/// Ends the statement after a cut.
 pub fn after_cut<T: Shown + Drop>(
     alloc: Global,
     asked: &RefreshRequest,
@@ -245,7 +245,7 @@ where
     }
 }
 
-/// Goes on after the snapshot of a refresh that the statement cut.
+/// Continues after the snapshot of a refresh that the statement cut, or ends the statement if it was refused.
 pub fn after_snapshot<T: Shown + Drop>(
     alloc: Global,
     begun: CutRefresh,
@@ -266,7 +266,7 @@ where
     }
 }
 
-/// Ends after a snapshot that the session is to hold.
+/// Ends the statement after a snapshot that the session will hold.
 pub fn after_hold<T: Shown + Drop>(
     alloc: Global,
     cut: u64,
@@ -286,7 +286,7 @@ where
     }
 }
 
-/// Ends after a finish.
+/// Ends the statement after a finish.
 pub fn after_finish<T: Shown + Drop>(
     alloc: Global,
     finishing: &FinishSource,
@@ -325,7 +325,7 @@ where
     }
 }
 
-/// Refuses to finish a refresh, of which this became at a position.
+/// Refuses to finish a refresh that is in this state at a position.
 pub fn refuse<T: Shown + Drop>(
     alloc: Global,
     pending: Pending,
@@ -345,7 +345,7 @@ where
     say(alloc, Said::Fault(refusal), Change::Nothing)
 }
 
-/// The statement ends, and says one line.
+/// Ends the statement with a reply of one line.
 pub fn say<T: Shown + Drop>(
     alloc: Global,
     said: Said,
@@ -362,7 +362,7 @@ where
     }))
 }
 
-/// The statement ends after its cut: its refresh is refused.
+/// Ends the statement after its cut, with a refusal of its refresh.
 fn say_broken<T: Shown + Drop>(
     alloc: Global,
     begun: &CutRefresh,

@@ -1,4 +1,4 @@
-//! Kinds of statements, as blocks let them pass or not.
+//! Kinds of statements, by which blocks let them pass or not.
 ghost use Rattle.std.specs.Prelude.{◌≡◌};
 ghost use Rattle.ts_sessions.specs.Step.{kind_of as kind_of_stmt};
 
@@ -21,7 +21,7 @@ pub enum StatementKind {
     Begins,
     /// It begins a read block.
     BeginsRead,
-    /// It ends a block, and what waits there takes effect.
+    /// It ends a block, and commits what is queued there.
     Commits,
     /// It gives a block up.
     RollsBack,

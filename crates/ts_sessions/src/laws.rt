@@ -7,7 +7,7 @@ ghost use Rattle.ts_sessions.specs.Named.{RepliesNameTheirEvents};
 ghost use Rattle.ts_sessions.specs.Stopped.{OnlyStopsAreReported};
 ghost use Rattle.ts_sessions.specs.Laws.{GivesEvents, GivesOverLonger, LastIsPrinted, PrintedLooksDetermine, PutTogether, WalksAreGiven};
 
-/// A procedure that was walked, and then the procedure that follows it, are the walk of both.
+/// The walk of a procedure and then of the procedure that follows it is the walk of both.
 pub fn procedures_are_put_together<A, B>()
     ensures { PutTogether A B }
 {}
@@ -18,7 +18,7 @@ pub fn procedures_give_the_same_over_longer_histories<A>()
     ensures { GivesOverLonger A }
 {}
 
-/// The last position of a procedure is its last printed look, or its last event where that is later.
+/// The last position of a procedure is its last printed look, or its last event if that is later.
 pub fn the_last_position_is_printed<A>()
     ensures { LastIsPrinted A }
 {}
@@ -38,7 +38,7 @@ pub fn walks_are_given<A>()
     ensures { WalksAreGiven A }
 {}
 
-/// Names that were looked at before an event are as they were at the event.
+/// Names that were resolved before an event are the same at the event.
 pub fn names_are_as_at_the_event()
     ensures { NamesStay }
 {}
@@ -53,7 +53,7 @@ pub fn replies_are_steady()
     ensures { RepliesAreSteady }
 {}
 
-/// A reply is `E24` only where the store had stopped, with that position.
+/// A reply is `E24` only if the store had stopped, and then with the position of the stop.
 pub fn only_stops_are_reported()
     ensures { OnlyStopsAreReported reply_to }
 {}
@@ -69,7 +69,7 @@ pub fn lines_make_at_most_three_events()
     ensures { LinesMakeFewEvents }
 {}
 
-/// A query in a write block shows what it shows directly after a commit of the queue, and looks at as many rows.
+/// A query in a write block shows what it shows directly after a commit of the queue, and reads as many rows.
 pub fn queries_show_the_queue()
     ensures { QueriesShowTheQueue }
 {}

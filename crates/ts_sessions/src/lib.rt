@@ -1,23 +1,23 @@
 //! Sessions: what a line of a script does to a store, and what it says.
 //!
-//! - `actors`: who executes the lines of a session.
+//! - `actors`: what executes the lines of a session.
 //! - `sessions`: sessions, and what they hold.
-//! - `blocks`: blocks, and the operations that wait for their end.
+//! - `blocks`: blocks and their queues.
 //! - `steps`: the step of a session, which is one line.
-//! - `kinds`: the kinds of statements, as blocks let them pass or not.
-//! - `name_checks`: what statements are to do first whose names are looked at.
-//! - `block_ends`: what those are to do first that begin or end blocks, or mean a snapshot that a session holds.
+//! - `kinds`: the kinds of statements, by which blocks let them pass or not.
+//! - `name_checks`: resolves the names of a statement, and says what it does first.
+//! - `block_ends`: what statements do first that begin or end a block, or use a snapshot that the session holds.
 //! - `openings`: what a statement does first, by its kind and by the block of its session.
-//! - `deeds`: what a statement is to do with its store next, and the one way in which it is done.
-//! - `calls`: calls of a store for deeds, and what they came to.
-//! - `follows`: what follows a deed, by what came of it.
-//! - `events`: operations that take effect, and aggregates that are made.
+//! - `deeds`: store calls, and the one function that carries out a statement by them.
+//! - `calls`: performs store calls.
+//! - `follows`: what follows a store call, by its outcome.
+//! - `events`: commits of operations, and new aggregates.
 //! - `refreshes`: the three phases of refreshes.
 //! - `queries`: queries.
-//! - `call_outcomes`: what comes of calls of a store.
-//! - `changes`: what statements say, and how they change a session.
+//! - `call_outcomes`: outcomes of store calls.
+//! - `changes`: results of statements: what they reply, and how they change a session.
 //! - `refusals`: refusals of the text, of the block, and of refreshes.
-//! - `replies`: what a session answers to a line.
+//! - `replies`: replies of a session to its lines.
 #![tactic(auto)]
 
 mod actors;

@@ -1,4 +1,4 @@
-//! Statements whose names are looked at in a history: what each is to do first.
+//! Resolves the names of statements in a history, and says what each statement does first.
 ghost use Rattle.std.specs.Prelude.{◌≡◌, ◌<◌, ◌^◌, Bool, None, true, IsTrue, IfOk};
 ghost use Rattle.std.specs.Thread.{IsSync};
 ghost use Rattle.ts_model.specs.Allowed.{all_allowed};
@@ -31,7 +31,7 @@ use stmt_syntax::Stmt;
 use ts_model::{Backend, Op, Refusal, Roster, Shown};
 use ts_schema::{NoMemory, Steps};
 
-/// What a statement asks for by its names.
+/// What a statement asks for, with its names resolved.
 #[derive(Drop)]
 pub enum Resolved<T: Shown>
 where
@@ -43,11 +43,11 @@ where
     Shows(Plan),
     /// An operation, now or at the end of its block.
     Changes(Op),
-    /// A deed outside a block.
+    /// A store call, outside a block.
     Does(Deed<T>),
 }
 
-/// What a statement asks for by the names of a roster; `pos` is the position looked at.
+/// Resolves the names of a statement by a roster. `pos` is the read position, for refusals.
 pub fn resolve<T: Shown + Drop>(
     alloc: Global,
     stmt: &Stmt,
@@ -68,7 +68,7 @@ where
     }
 }
 
-/// The same of a statement that is no roll-up.
+/// Resolves the names of a statement that is no roll-up.
 fn check_names<T: Shown + Drop>(
     alloc: Global,
     stmt: &Stmt,
@@ -88,7 +88,7 @@ where
     }
 }
 
-/// What an action asks for that looks at names.
+/// Returns what an action asks for whose statement has names.
 fn asked_by<T: Shown + Drop>(roster: &Roster, action: Action) -> Result<Resolved<T>, NoMemory>
 where
     T::Job: Drop,
@@ -146,7 +146,7 @@ where
     }
 }
 
-/// A refresh of an aggregate over a window.
+/// Returns a request to refresh an aggregate over a window.
 fn asked_of(roster: &Roster, view: u32, lo: Option<i64>, hi: Option<i64>) -> RefreshRequest
     ensures { result ≡ asked_for roster.now view lo hi }
 {
@@ -162,8 +162,8 @@ impl<T: Shown + Drop> Session<T>
 where
     T::Job: Drop,
 {
-    /// Looks at the names of a statement of a text of so many bytes: in a read block in its snapshot, and else in
-    /// what the store has seen.
+    /// Resolves the names of a statement, and returns what it does first. In a read block it reads the snapshot of the
+    /// block, otherwise a new one. `bytes` is the length of the text.
     pub(crate) fn resolve_names<R: Threads + Sync, B: Backend<Shot = T>, L>(
         &self,
         rt: &R,
@@ -194,7 +194,7 @@ where
         }
     }
 
-    /// What a statement is to do whose names are looked at in a snapshot.
+    /// Resolves the names of a statement in a snapshot, and returns what it does first.
     pub fn resolve_at<R: Threads + Sync, L>(
         &self,
         rt: &R,
@@ -226,7 +226,7 @@ where
         }
     }
 
-    /// An operation takes effect, or waits for the end of its write block. Its text has so many bytes.
+    /// Commits an operation, or queues it in a write block. `bytes` is the length of its text.
     fn change(&self, alloc: Global, op: Op, bytes: u64) -> Result<Next<T>, NoMemory>
         requires { block_refusal (places_in self.now).block Changes ≡ None }
         ensures { IfOk result (λ n. n ≡ change_next (places_in self.now).block bytes op) }

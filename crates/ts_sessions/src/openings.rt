@@ -1,4 +1,4 @@
-//! What a statement does first, by its kind and by the block of its session, before a store is met.
+//! What a statement does first, by its kind and the block of its session, before it calls the store.
 ghost use Rattle.std.specs.Prelude.{◌≡◌, IfOk};
 ghost use Rattle.ts_sessions.specs.Held.{places_in};
 ghost use Rattle.ts_sessions.specs.Openings.{opening_of};
@@ -17,11 +17,11 @@ pub enum Opening<T: Shown>
 where
     T::Job: Drop,
 {
-    /// This comes next.
+    /// This store call, or the end of the statement.
     Next(Next<T>),
-    /// Its names are looked at.
+    /// It resolves its names.
     Names,
-    /// The refresh that is meant, by its number or as the last one, is finished with the job that is held for it.
+    /// It finishes a refresh with the job that the session holds: the one with this number, or the last that it cut.
     Finish(Option<i64>),
 }
 
@@ -29,7 +29,7 @@ impl<T: Shown + Drop> Session<T>
 where
     T::Job: Drop,
 {
-    /// What a statement does first that the block lets pass.
+    /// Returns what a statement does first that the block lets pass.
     pub fn opening(&self, alloc: Global, stmt: &Stmt) -> Result<Opening<T>, NoMemory>
         ensures { IfOk result (λ o. o ≡ opening_of (places_in self.now) stmt.now) }
     {

@@ -33,29 +33,29 @@ use ts_bucket::first;
 use ts_model::{Answer, Query, Roster, Shown, ViewDef};
 use ts_schema::{Name, NoMemory, Steps};
 
-/// What is made of an answer.
+/// The form in which a query shows the answer of its plan.
 #[derive(Drop)]
 pub enum Form {
-    /// It is shown as it is.
+    /// As it is.
     Own,
-    /// It is shown in wider buckets.
+    /// In wider buckets.
     RolledUp(UpperPlan),
-    /// Its rows are grouped by buckets of the calendar.
+    /// Its rows grouped by calendar buckets.
     Calendar(CalPlan),
 }
 
-/// What answers a query statement.
+/// The plan of a query statement.
 #[derive(Drop)]
 pub struct Plan {
-    /// The query that is asked.
+    /// The query of the snapshot.
     pub query: Query,
-    /// What is made of its answer.
+    /// The form in which its answer is shown.
     pub form: Form,
-    /// The start of the first bucket of what is asked.
+    /// The start of the first bucket, or 0 if no range can be stale.
     pub min: i64,
 }
 
-/// Answers by a plan from a snapshot, in a block whose queue is seen on top of it.
+/// Answers a plan from a snapshot, with the queue of the block on top.
 pub(crate) fn answer<R: Threads + Sync, T: Shown + Drop, L>(
     rt: &R,
     alloc: Global,
@@ -86,7 +86,7 @@ where
     say(alloc, said, Change::Nothing)
 }
 
-/// What a query shows from a snapshot, in a block whose queue is seen on top of it.
+/// Answers a query from a snapshot, with the queue of the block on top.
 fn ask<R: Threads + Sync, T: Shown, L>(
     rt: &R,
     block: &Open<T>,
@@ -109,7 +109,7 @@ fn ask<R: Threads + Sync, T: Shown, L>(
     }
 }
 
-/// What is made of an answer, by the roster of its snapshot.
+/// Returns the answer in this form, by the roster of its snapshot.
 pub fn in_form(
     alloc: Global,
     roster: &Roster,
@@ -129,8 +129,8 @@ pub fn in_form(
     }
 }
 
-/// The roll-up of an aggregate's answer. Where the plan takes all of the aggregate it is that answer, and where the
-/// plan keeps its groups that answer with cells chosen: then no row is made.
+/// Rolls up an aggregate's answer. A plan that takes all of the aggregate returns the answer itself. A plan that
+/// keeps its groups only chooses cells.
 fn roll_up(
     alloc: Global,
     plan: &UpperPlan,
@@ -140,7 +140,7 @@ fn roll_up(
     requires { FitsRollUp def.now.fold answer }
     ensures { IfOk result (λ upper. upper ≡ upper_answer def.now.fold plan.now answer) }
 {
-    // Reading a width tells that it keeps its bounds.
+    // Reading the width proves that it is within its bounds.
     let _step = def.fold.width.step;
     if takes_all(plan, &def.fold) {
         return Ok(answer);
@@ -151,8 +151,8 @@ fn roll_up(
     answer_upper(alloc, plan, def, answer)
 }
 
-/// The roll-up of an aggregate's answer by a plan that keeps its groups: that answer with cells chosen. Its rows are
-/// made only where the cells of the answer are.
+/// Rolls up an aggregate's answer by a plan that keeps its groups, by choosing cells. It builds rows only if cells of
+/// the answer are already built or chosen.
 fn choose_cells(
     alloc: Global,
     plan: &UpperPlan,
@@ -163,7 +163,7 @@ fn choose_cells(
     requires groups { keeps_groups def.now.fold plan.now ≡ true }
     ensures { IfOk result (λ upper. upper ≡ upper_answer def.now.fold plan.now answer) }
 {
-    // Reading a width tells that it keeps its bounds.
+    // Reading the width proves that it is within its bounds.
     let _step = def.fold.width.step;
     let places = chosen_places(alloc, plan)?;
     let Answer { rows, stale } = answer;
@@ -173,7 +173,7 @@ fn choose_cells(
     }
 }
 
-/// What is said of an answer at a position, with so many operations queued, if in a write block.
+/// Returns the reply for an answer at a position. `queue` is how many operations are queued, if in a write block.
 pub fn answer_line(plan: &Plan, answer: Answer, pos: u64, queue: Option<u64>) -> Said
     ensures { result ≡ Answered answer pos queue plan.now.min }
 {
@@ -185,7 +185,7 @@ pub fn answer_line(plan: &Plan, answer: Answer, pos: u64, queue: Option<u64>) ->
     }
 }
 
-/// What answers a query.
+/// Returns the plan of a query: its answer as it is.
 pub(crate) fn plan_of(roster: &Roster, query: Query) -> Plan
     ensures { result ≡ plan_of_query roster.now query }
 {
@@ -197,7 +197,7 @@ pub(crate) fn plan_of(roster: &Roster, query: Query) -> Plan
     }
 }
 
-/// What answers a roll-up.
+/// Returns the plan of a roll-up.
 pub(crate) fn roll_up_plan(plan: UpperPlan) -> Plan
     ensures { result ≡ plan_of_roll_up plan }
 {
@@ -210,7 +210,7 @@ pub(crate) fn roll_up_plan(plan: UpperPlan) -> Plan
     }
 }
 
-/// What answers a grouping by buckets of the calendar over a hypertable.
+/// Returns the plan of a grouping of a hypertable by calendar buckets.
 pub(crate) fn calendar_plan(table: u32, cal: CalPlan) -> Result<Plan, NoMemory>
     ensures { IfOk result (λ plan. plan ≡ plan_of_calendar table cal) }
 {
@@ -222,7 +222,7 @@ pub(crate) fn calendar_plan(table: u32, cal: CalPlan) -> Result<Plan, NoMemory>
     })
 }
 
-/// The unit of the calendar that a word stands for.
+/// Returns the calendar unit that a word names; any word but `day`, `week` and `month` is a year.
 pub(crate) fn unit_of(word: &Name) -> CalUnit
     ensures { result ≡ unit_of_word word.now }
 {
@@ -238,7 +238,7 @@ pub(crate) fn unit_of(word: &Name) -> CalUnit
     }
 }
 
-/// The start of the first bucket of what is asked.
+/// Returns the start of the first bucket of a query's answer, or 0 if no range of it can be stale.
 fn asked_start(roster: &Roster, query: &Query) -> i64
     ensures { result ≡ start_asked roster.now query.now }
 {
@@ -249,7 +249,7 @@ fn asked_start(roster: &Roster, query: &Query) -> i64
     }
 }
 
-/// The start of the first bucket of an aggregate.
+/// Returns the start of the first bucket of an aggregate, or 0 if none has this number.
 pub(crate) fn least_start(roster: &Roster, view: u32) -> i64
     ensures { result ≡ start_of_view (view_of roster.now view) }
 {

@@ -14,29 +14,29 @@ use std::thread::Threads;
 use ts_model::{Backend, CutDone, Gate, Pending, Refusal, Shown, codes};
 use ts_schema::{NoMemory, Steps};
 
-/// What came of a snapshot for a refresh.
+/// The outcome of a snapshot for a refresh.
 #[derive(Drop)]
 pub enum SnapOutcome<J> {
-    /// It was taken at a position, and this is the job of the refresh.
+    /// The snapshot was taken at this position, and this is the job of the refresh.
     Taken { at: u64, job: J },
     /// The refresh isn't pending.
     Refused(Refusal),
 }
 
-/// A refresh that is asked for.
+/// A refresh that is requested.
 #[derive(Drop)]
 pub struct RefreshRequest {
     /// The number of its aggregate.
     pub view: u32,
-    /// Where its window begins, or the first bucket.
+    /// The start of its window; without it, the first bucket.
     pub lo: Option<i64>,
-    /// Where its window ends, or the last bucket that there is.
+    /// The end of its window; without it, the last bucket that exists.
     pub hi: Option<i64>,
     /// The start of the first bucket of its aggregate.
     pub min: i64,
 }
 
-/// Begins a refresh of the whole buckets of a window.
+/// Cuts a refresh of the whole buckets of a window.
 #[tactic(auto, using(crate::proofs::CallWalks::called_tries))]
 pub fn cut<B: Backend>(
     backend: &mut B,
@@ -54,8 +54,8 @@ pub fn cut<B: Backend>(
     outcome_of(outcome, backend.position())
 }
 
-/// Takes a snapshot for the refresh with this number, and makes its job. Whether the refresh still
-/// waits is looked at anew: another session may have finished it.
+/// Takes a snapshot for the refresh with this number, and computes its job. It checks again whether the refresh is
+/// pending: another session may have finished it.
 #[tactic(auto, using(crate::proofs::NameCheckWalks::looked_only, crate::proofs::StateLaws::looked_reports))]
 pub fn take_snapshot<R: Threads + Sync, B: Backend, L>(
     rt: &R,
@@ -73,7 +73,7 @@ pub fn take_snapshot<R: Threads + Sync, B: Backend, L>(
     snapshot_of(rt, &shot, cut, steps)
 }
 
-/// What a snapshot for the refresh with this number comes to, with its job.
+/// Returns the outcome of this snapshot for the refresh with this number, with its job.
 #[tactic(auto, using(crate::proofs::NameCheckWalks::taken_waiting, crate::proofs::NameCheckWalks::taken_finished, crate::proofs::NameCheckWalks::taken_unknown))]
 pub fn snapshot_of<R: Threads + Sync, T: Shown, L>(
     rt: &R,
@@ -103,8 +103,8 @@ pub fn snapshot_of<R: Threads + Sync, T: Shown, L>(
     }
 }
 
-/// Finishes the refresh that the job was made for. The gate is called directly before, by the number of
-/// the session. The job is given up on every answer.
+/// Finishes the refresh of the job. Directly before, it calls the worker hook `gate` with the number of the session.
+/// The job is gone after every outcome.
 #[tactic(auto, using(crate::proofs::CallWalks::called_tries))]
 pub fn finish<B: Backend, G: Gate>(
     backend: &mut B,

@@ -8,7 +8,7 @@ ghost use Rattle.ts_sessions.specs.Step.{bare as bare_refusal, text_refusal_of a
 use ts_model::limits::LAST_POSITION;
 use ts_model::{Refusal, codes};
 
-/// A refusal without a position.
+/// Returns a refusal without a position.
 pub fn bare(code: u8) -> Refusal
     ensures { result ≡ bare_refusal code }
 {
@@ -19,7 +19,7 @@ pub fn bare(code: u8) -> Refusal
     }
 }
 
-/// A refusal of the text at a place of the line.
+/// Returns a refusal of the text, with a place in the line.
 pub fn text_refusal(code: u8, place: u32) -> Refusal
     ensures { result ≡ placed_refusal code place }
 {
@@ -30,14 +30,14 @@ pub fn text_refusal(code: u8, place: u32) -> Refusal
     }
 }
 
-/// A refusal at a position.
+/// Returns a refusal with a position.
 pub(crate) fn at(code: u8, pos: u64, mark: u64) -> Refusal
     ensures { result ≡ record { code = code; pos = pos; mark = mark } }
 {
     Refusal { code, pos, mark }
 }
 
-/// Why a refresh whose job is gone can't be finished.
+/// Returns the refusal code for a pending refresh whose job is gone.
 pub(crate) fn lost_code(position: u64) -> u8
     ensures { result ≡ cond (nat_lt position last_position) stopped history_full }
 {

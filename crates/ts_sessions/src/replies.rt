@@ -1,4 +1,4 @@
-//! What a session answers to a line.
+//! Replies of a session to its lines.
 ghost use Rattle.std.specs.Prelude.{◌≡◌, ◌++◌, IfOk};
 ghost use Rattle.ts_sessions.specs.Made.{made_by, made_in};
 ghost use Rattle.ts_sessions.specs.Script.{has_fault as has_fault_line, is_fault as is_fault_line, text_of};
@@ -24,15 +24,15 @@ pub struct Reply {
 pub enum StepEnd {
     /// The line has this reply.
     Reply(Reply),
-    /// The disk failed at an event of the line, and the store is stopped. The reply has the lines of the
-    /// events that were made before, and then the refusal `E24`. A `TICK` goes on: behind that stand the replies to
-    /// the other statements that are due.
+    /// The disk failed at an event of the line, and the store has stopped. The reply has the lines of the events made
+    /// before, and then the refusal `E24`. A `TICK` continues: its reply then has those to the other statements that
+    /// are due.
     DiskFault(Reply),
-    /// There was no memory. Events of the line that were made before stand.
+    /// Out of memory. Events that the line made before remain.
     NoMemory,
 }
 
-/// The answer with this reply, where the disk failed or not.
+/// Returns the end of a step with this reply. `failed` says whether the disk failed.
 pub fn step_end(reply: Reply, failed: bool) -> StepEnd
     ensures { IsReplied failed reply result }
 {
@@ -42,7 +42,7 @@ pub fn step_end(reply: Reply, failed: bool) -> StepEnd
     }
 }
 
-/// The reply of the session with a name that has these lines.
+/// Returns the reply of the session with this name that has these lines.
 pub fn write_reply(alloc: Global, name: &Name, said: &[Said]) -> Result<Reply, NoMemory>
     ensures { IfOk result (λ r. IsReply name.now said.now r) }
 {
@@ -67,7 +67,7 @@ fn put_lines(name: &Name, said: &[Said], text: &mut Vec<u8>) -> Result<(), NoMem
     Ok(())
 }
 
-/// Appends the numbers of the events that lines name as made.
+/// Appends the numbers of the events that the lines report as made.
 fn put_numbers(said: &[Said], events: &mut Seq<u64>) -> Result<(), NoMemory>
     ensures { IfOk result (λ _. events.new ≡ events.old ++ made_in said.now) }
 {
@@ -77,7 +77,7 @@ fn put_numbers(said: &[Said], events: &mut Seq<u64>) -> Result<(), NoMemory>
     Ok(())
 }
 
-/// Appends the numbers of the events that a line names as made.
+/// Appends the numbers of the events that a line reports as made.
 fn put_made(said: &Said, events: &mut Seq<u64>) -> Result<(), NoMemory>
     ensures { IfOk result (λ _. events.new ≡ events.old ++ made_by said.now) }
 {

@@ -17,7 +17,7 @@ use std::collections::BTreeMap;
 use ts_model::Shown;
 use ts_schema::{Name, NoMemory};
 
-/// A session: its name, and what it carries from one line to the next.
+/// A session: its name, and what it keeps between lines.
 #[derive(Drop)]
 pub struct Session<T: Shown>
 where
@@ -57,8 +57,7 @@ impl<T: Shown + Drop> Session<T>
 where
     T::Job: Drop,
 {
-    /// A session that holds nothing. Sessions are numbered from 0 in order of appearance. It takes no
-    /// memory.
+    /// Returns a session that holds nothing. Sessions are numbered from 0 in order of appearance. It allocates nothing.
     pub fn new(alloc: Global, name: Name, number: u32) -> Session<T>
         ensures name { result.name ≡ name }
         ensures number { result.number ≡ number }
@@ -74,7 +73,7 @@ where
         }
     }
 
-    /// The bytes of the texts whose operations wait for the end of its write block, or 0.
+    /// How many bytes the texts of the queued operations have: 0 outside a write block.
     pub fn queued(&self) -> u64
         ensures { result ≡ waiting_bytes self.now }
     {
@@ -88,7 +87,7 @@ where
         self.block.stage()
     }
 
-    /// The refresh that a statement means: the one with its number, or the last that the session cut.
+    /// The refresh that a statement names: the one with its number, or the last that the session cut.
     pub fn refresh_named(&self, number: Option<i64>) -> Option<u64>
         ensures { result ≡ refresh_meant (places_in self.now) number }
     {
@@ -98,7 +97,7 @@ where
         }
     }
 
-    /// The position of the snapshot that is held for a refresh.
+    /// The position of the snapshot that the session holds for a refresh.
     pub fn held_at(&self, cut: u64) -> Option<u64>
         ensures { result ≡ held_for cut (places_in self.now).held }
     {
@@ -108,7 +107,7 @@ where
         }
     }
 
-    /// Changes as a statement says, or, where there is no memory, stays as it is.
+    /// Applies the change of a statement. If it runs out of memory, the session stays as it is.
     pub fn settle(&mut self, change: Change<T>) -> Result<(), NoMemory>
         requires fits { ChangeFits change (places_in self.old).block }
         ensures places { OnOk result (places_in self.new ≡ places_after change (places_in self.old)) }
@@ -147,7 +146,7 @@ where
         self.held.remove(&cut);
     }
 
-    /// Holds a snapshot for a refresh, in place of one that it held.
+    /// Holds a snapshot for a refresh, instead of one that it held.
     fn hold(&mut self, cut: u64, at: u64, job: T::Job) -> Result<(), NoMemory>
         ensures held { OnOk result (self.new.held.entries ≡ with_job cut at job self.old.held.entries) }
         ensures block { self.new.block ≡ self.old.block }
@@ -162,7 +161,7 @@ where
     }
 }
 
-/// A number that counts something.
+/// Returns the number if it isn't negative.
 fn natural(number: i64) -> Option<u64>
     ensures { result ≡ natural_of number }
 {

@@ -27,10 +27,10 @@ impl<T: Shown + Drop> Session<T>
 where
     T::Job: Drop,
 {
-    /// Does what a line asks for. `text` is the line before its comment, and its statement stands after
-    /// the first `skip` bytes. It is one step of the model: the procedure of the line, over whatever history
-    /// the store is found at. Where there is no memory the session stays as it was; only where the line was to finish
-    /// a refresh, it may have given up the snapshot that it held for that.
+    /// Executes a line. `text` is the line before its comment, and its statement begins after the first `skip` bytes.
+    /// It is one step of the model: the procedure of the line, on any history that the store has by then. If it runs
+    /// out of memory, the session stays as it was, except that it may have given up the snapshot of a refresh that the
+    /// line would finish.
     pub fn step<R: Threads + Sync, B: Backend<Shot = T>, G: Gate, L>(
         &mut self,
         rt: &R,
@@ -64,7 +64,7 @@ where
         }
     }
 
-    /// Writes the reply to what a line came to, and changes as it says. Where there is no memory it stays
+    /// Writes the reply to a line, and applies the change of its statement. If it runs out of memory, the session stays
     /// as it is.
     fn answer(&mut self, alloc: Global, completion: Completion<T>) -> StepEnd
         requires fits { ChangeFits completion.change (places_in self.old).block }
@@ -81,7 +81,7 @@ where
         }
     }
 
-    /// Changes as a line says whose reply was written.
+    /// Applies the change of a line whose reply is written.
     fn close(&mut self, change: Change<T>, failed: bool, reply: Reply) -> StepEnd
         requires fits { ChangeFits change (places_in self.old).block }
         ensures replied { IfAnswered result (IsReplied failed reply result) }
@@ -97,7 +97,7 @@ where
         }
     }
 
-    /// Does what a line asks for, where the block of its session lets it pass.
+    /// Performs the statement of a line, or refuses it if it can't be read or the block of the session bars it.
     fn take_line<R: Threads + Sync, B: Backend<Shot = T>, G: Gate, L>(
         &mut self,
         rt: &R,
@@ -145,7 +145,7 @@ where
         }
     }
 
-    /// Does what a statement asks for that the block lets pass, from a text of so many bytes.
+    /// Performs a statement that the block lets pass. `bytes` is the length of its text.
     fn perform<R: Threads + Sync, B: Backend<Shot = T>, G: Gate, L>(
         &mut self,
         rt: &R,
@@ -184,7 +184,7 @@ where
         }
     }
 
-    /// What a statement is to do first that the block lets pass. Only one whose names are looked at meets the store.
+    /// Returns what a statement does first that the block lets pass. It calls the store only to resolve names.
     fn first<R: Threads + Sync, B: Backend<Shot = T>, L>(
         &mut self,
         rt: &R,

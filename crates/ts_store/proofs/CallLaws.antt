@@ -40,7 +40,7 @@ finds_itself s counted fell = record {
 number_push : (p : ℕ) (h : History) (e : Event) → p ≤ position h → numbers_above p (h ▸ e) ≡ numbers_above p h ++ (suc (position h) ∷ [])
 number_push p h e le = cond-false _ [] (numbers_above p h ++ (suc (position h) ∷ [])) (le-ltb (position h) p le)
 
--- two stores that differ in no more than how their journal and their room stand
+-- two stores that differ at most in the state of their journal and their room
 pub record Same {D : Type 0} (faults : D → ℕ) (old new : StoreValue D) : Type 0 where
   pub past : new.engine.past ≡ old.engine.past
   pub failed : new.failed ≡ old.failed

@@ -38,7 +38,7 @@ pub begins_latest : (h : History) (failed : Option Event) → Begins h (latest h
 begins_latest h None = same
 begins_latest h (Some e) = further same
 
--- an image between stays so where the history goes on
+-- an image between two histories stays between them as the later one grows
 pub between_on : (opening opened seen now : History) (failed : Option Event) (c : List ℕ) → opened ≡ opening → Begins seen now → IsBetween opening seen None c → IsBetween opened now failed c
 between_on opening opened seen now failed c is goes b = record {
   history = b.history;

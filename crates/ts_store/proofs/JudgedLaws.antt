@@ -1,4 +1,4 @@
--- Each file of bytes stands for a history, or is damaged at a place.
+-- Each file of bytes contains a history, or is damaged at a place.
 use Rattle.std.proofs.Common.{◌≡◌, ◌≢◌, ◌⊎◌, inl, inr, ⊎_elim, ℕ, zero, suc, ◌+◌, ◌^◌, ◌≤◌, ◌<◌, Bool, true, false, nat_lt, List, [], ◌∷◌, ◌++◌, length, take, drop, get_or, Result, Ok, Err, refl, sym, ◌∙◌, ap, subst, arith, append_assoc}
 use Rattle.std.specs.Int.{w32, from_le_bytes}
 use Rattle.std.proofs.lemmas.Bool.{true≢false, cond-false, cond-true, ltb-true, ltb-false}
@@ -90,7 +90,7 @@ by_image payload (Err left) is = inr (not_one payload left is)
 image_or_none : (payload : List ℕ) → ImageOrNone payload
 image_or_none payload = by_image payload (whole_image payload) refl
 
--- ---- what stands at a gate
+-- ---- what a commit byte and the bytes after it say
 
 few_bytes : (bytes : List ℕ) → ((i : ℕ) → get_or bytes i 0 < 256) → from_le_bytes w32 bytes < 2 ^ 32
 few_bytes bytes each = omega (arith, each 0, each 1, each 2, each 3)

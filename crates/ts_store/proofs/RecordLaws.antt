@@ -145,7 +145,7 @@ module _ {D : Type 0} (bytes : D → Option (List ℕ)) (may_leave : D → List 
       does_fail begun opened armed kept = does_failed bytes may_leave moment left_since faults (store_of old begun opened armed) (store_of new begun opened armed) e kept fits
           (fails_state bytes may_leave moment left_since faults (store_of old begun opened armed) (store_of new begun opened armed) e going failed events rose refl refl)
 
-  -- ---- a store that stopped is told by its failed event
+  -- ---- a store that stopped has a failed event
 
   pub stopped_apart : (old : Recorder D) (begun : D) (opened : ℕ) (armed : Bool) → IsKeptIn bytes may_leave moment left_since faults old begun opened armed → old.failed ≡ None → old.journal.standing ≡ Still → ⊥
   stopped_apart old begun opened armed kept going still =

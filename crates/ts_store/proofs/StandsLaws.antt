@@ -1,4 +1,4 @@
--- A journal stands for one history, or is damaged at one place.
+-- A journal contains one history, or is damaged at one place.
 use Rattle.std.proofs.Common.{◌≡◌, inl, inr, ⊎_elim, ℕ, ◌≤◌, true, List, [], ◌∷◌, ◌++◌, length, refl, sym, ◌∙◌, ap, subst, arith, append_assoc, length-append}
 use Rattle.std.proofs.lemmas.List.{append-nil}
 use Rattle.std.proofs.lemmas.Bool.{and_parts}
@@ -69,7 +69,7 @@ no_beyond version g h w sg sh (inr no_event) beyond =
     beyond.1 ∙ ap (λ (c : Content). record { base = c.base; payloads = c.payloads ++ beyond.0 }) (next_counts version (content_of h) w no_event.0) in
     no_wrong g h w beyond.0 sg sh (ap (λ (c : Content). c.base) counts) (ap (λ (c : Content). c.payloads) counts) no_event.1
 
--- ---- a file that stands for a history is damaged nowhere
+-- ---- a file that contains a history is damaged nowhere
 
 -- a payload stands behind nine bytes
 long_before : (file : List ℕ) (version : Version) (content : Content) (payload : List ℕ) (at : ℕ) → Follows file version content payload at → length file ≤ 9 → ⊥

@@ -22,13 +22,13 @@ use Rattle.ts_store.specs.declared.image_writes.SaveOutcome.TheVariants as saved
 
 -- ---- the image
 
--- the bytes of the image of a history are so many, told up to the greatest number of 64 bits
+-- the image of a history has so many bytes, capped at the greatest number of 64 bits
 pub record HasImage (h : History) (n : ℕ) : Type 0 where
   pub image : Image
   pub is : IsImage h image
   pub bytes : n ≡ min (length (images.image image)) (2 ^ 64 - 1)
 
--- a payload is the bytes of the image of a history, which may stand in a journal
+-- a payload is the bytes of the image of a history, which a journal may contain
 pub record IsImageOf (h : History) (payload : List ℕ) : Type 0 where
   pub image : Image
   pub is : IsImage h image
@@ -52,8 +52,8 @@ Saves saved.NoMemory h most = ⊤
 abbrev pub Goes : Past → Option Event → Type 0
 Goes past failed = (failed ≡ None) × (past.events ≢ [])
 
--- where each answer comes: `Stopped` exactly where the store had stopped, then `Nothing` exactly where no event stands
--- after the base, then `TooLong` where the image has more bytes than asked for
+-- when each answer comes: `Stopped` exactly if the store had stopped, otherwise `Nothing` exactly if no event follows
+-- the base, otherwise `TooLong` if the image has more bytes than were allowed
 abbrev pub EndsAs : CheckEnd → Past → Option Event → ℕ → Type 0
 EndsAs (Done p n) past failed most =
     Goes past failed × (p ≡ position (history_of past)) × HasImage (history_of past) n × (n ≤ most)
@@ -64,7 +64,7 @@ EndsAs DiskFault past failed most = Goes past failed
 EndsAs (Stopped p) past failed most = stop_at (history_of past) failed ≡ Some p
 EndsAs NoMemory past failed most = Goes past failed
 
--- P where something may have been written, and where nothing was
+-- P if something may have been written, and P if nothing was
 abbrev pub IfWritten : CheckEnd → Type 0 → Type 0
 IfWritten (Done p n) P = P
 IfWritten (Nothing p) P = ⊤
@@ -81,7 +81,7 @@ IfUntouched DiskFault P = ⊤
 IfUntouched (Stopped p) P = P
 IfUntouched NoMemory P = P
 
--- P where the image stands on the disk
+-- P if the disk has the image
 abbrev pub IfSaved : CheckEnd → Type 0 → Type 0
 IfSaved (Done p n) P = P
 IfSaved (Nothing p) P = ⊤
@@ -90,7 +90,7 @@ IfSaved DiskFault P = ⊤
 IfSaved (Stopped p) P = ⊤
 IfSaved NoMemory P = ⊤
 
--- the count of faults rises with a fault, and else stays
+-- the count of faults rises with a fault, and stays otherwise
 abbrev pub CountsEnd : CheckEnd → ℕ → ℕ → Type 0
 CountsEnd (Done p n) before now = now ≡ before
 CountsEnd (Nothing p) before now = now ≡ before
@@ -101,13 +101,13 @@ CountsEnd NoMemory before now = now ≡ before
 
 -- ---- the disk
 
--- a file stands for the image of a history, and no event
+-- a file contains the image of a history, and no event
 pub record StandsForImage (h : History) (file : List ℕ) : Type 0 where
   pub image : Image
   pub is : IsImage h image
   pub stands : Stands file (resumed image)
 
--- a file stands for a history, or for its image
+-- a file contains a history, or its image
 abbrev pub StandsSaved : History → List ℕ → Type 0
 StandsSaved h file = Stands file h ⊎ StandsForImage h file
 
@@ -119,7 +119,7 @@ pub record HoldsImage {D : Type 0} (bytes : D → Option (List ℕ)) (may_leave 
   pub durable : Only file (may_leave disk)
   pub stands : StandsForImage h file
 
--- a file stands for a history that begins with this one, or for the image of one
+-- a file contains a history that begins with this one, or the image of one
 pub record BeginsSaved (h : History) (file : List ℕ) : Type 0 where
   pub all : History
   pub stands : StandsSaved all file

@@ -75,14 +75,14 @@ pub record ArmsSafely {D : Type 0} (bytes : D → Option (List ℕ)) (may_leave 
     (left_since : D → ℕ → List ℕ → Type 0) (answer : Append) (old new : Recorder D) : Type 0 where
   pub tells : TellsIn bytes old → IfDone answer (TellsIn bytes new)
   pub done : RestsIn bytes may_leave old → IfDone answer (RestsIn bytes may_leave new)
-  -- a crash at any moment leaves a file that stands for the history
+  -- a crash at any moment leaves a file that contains the history
   pub any_moment : RestsIn bytes may_leave old
       → LeavesOnly moment left_since old.journal.disk new.journal.disk
       (λ file. Stands file (history_of old.engine.past))
-  -- so does what reads give, whether all of it was on the disk or not
+  -- reads give such a file too, whether or not all of it was on the disk
   pub shown : TellsIn bytes old
       → IsSomeAnd (bytes new.journal.disk) (λ file. Stands file (history_of old.engine.past))
-  -- and since each earlier moment at which there was this history, a crash leaves one that begins with it
+  -- if each image since an earlier moment contains a history that begins with `h`, each still does
   pub earlier : (t : ℕ) (h : History) → RestsIn bytes may_leave old → Begins h (history_of old.engine.past)
       → t ≤ moment old.journal.disk → BeginSince left_since old.journal.disk t h
       → BeginSince left_since new.journal.disk t h

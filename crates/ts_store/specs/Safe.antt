@@ -11,18 +11,18 @@ use Rattle.ts_store.specs.Stores.{StoreValue, Rests, Tells, history_seen}
 -- what a call that makes at most one event leaves
 pub record IsSafe {D : Type 0} (bytes : D → Option (List ℕ)) (may_leave : D → List ℕ → Type 0) (moment : D → ℕ)
     (left_since : D → ℕ → List ℕ → Type 0) (old new : StoreValue D) : Type 0 where
-  -- a crash at any moment leaves a file that stands for the history at entry, or for it with the one event
+  -- a crash at any moment leaves a file that contains the history at entry, or that with the one event
   pub any_moment : Rests bytes may_leave old
       → LeavesOnly moment left_since old.journal.disk new.journal.disk
       (StandsForEither (history_seen old) (latest (history_seen new) new.failed))
-  -- and since each earlier moment at which there was this history, it leaves a history that begins with it
+  -- if each image since an earlier moment contains a history that begins with `h`, each still does
   pub earlier : (t : ℕ) (h : History) → Rests bytes may_leave old → Begins h (history_seen old) → t ≤ moment old.journal.disk
       → BeginSince left_since old.journal.disk t h → BeginSince left_since new.journal.disk t h
-  -- where the disk didn't fail, reads give the new history afterwards
+  -- if the disk didn't fail, reads give the new history afterwards
   pub tells : Tells bytes old → new.failed ≡ None → Tells bytes new
   -- and a crash leaves it and nothing else
   pub rests : Rests bytes may_leave old → new.failed ≡ None → Rests bytes may_leave new
-  -- where no event was made and the disk didn't fail, nothing was written
+  -- if no event was made and the disk didn't fail, nothing was written
   pub untouched : history_seen new ≡ history_seen old → new.failed ≡ old.failed → new.journal ≡ old.journal
 
 -- the journal stops by a fault, and so does the store

@@ -1,4 +1,4 @@
--- What the bytes of a journal stand for as a history, and where they are damaged.
+-- What the bytes of a journal contain as a history, and where they are damaged.
 use Rattle.std.specs.Prelude.{◌≡◌, ◌⊎◌, ℕ, true, false, List, [], ◌∷◌, ◌++◌, Option, Some, None, IsTrue, ⊤}
 use Rattle.ts_model.specs.declared.events.Event.{Event}
 use Rattle.ts_model.specs.declared.images.Image.{Image}
@@ -21,7 +21,7 @@ payloads_of start = []
 payloads_of (resumed i) = []
 payloads_of (h ▸ e) = payloads_of h ++ (spelling.event e ∷ [])
 
--- the bytes of the image that a history begins with, where there is one
+-- the bytes of the image that a history begins with, if it begins with one
 abbrev pub base_of : History → Option (List ℕ)
 base_of start = None
 base_of (resumed i) = Some (images.image i)
@@ -37,15 +37,15 @@ AllFormed start = ⊤
 AllFormed (resumed i) = IsFormedImage i
 AllFormed (h ▸ e) = AllFormed h × IsFormed e
 
--- a history may stand in a journal: its image is valid, where it begins with one, each event was allowed after those
--- before it, and they have a spelling
+-- a journal may contain a history: its image is valid, if it begins with one, each event was allowed after those
+-- before it, and all of them can be written
 pub record IsSound (h : History) : Type 0 where
   pub allowed : all_allowed h ≡ true
   pub formed : AllFormed h
 
 -- ---- files
 
--- a file stands for a history: what counts in it are the bytes of its image and of the events after it
+-- a file contains a history: what counts in it are the bytes of its image and of the events after it
 pub record Stands (file : List ℕ) (h : History) : Type 0 where
   pub holds : StandsFor file (content_of h)
   pub sound : IsSound h
@@ -70,16 +70,17 @@ IsNeither version h payload =
     ((is_base version payload ≡ true) × IsNoImage payload)
     ⊎ ((is_base version payload ≡ false) × IsNoEvent h payload)
 
--- behind what stands for this history and the open gate at this place follows a payload of no event that may come
--- next, or a base that is no valid image
+-- after the events of this history and the commit byte of 1 at this place follows a payload of no event that may come
+-- next, or of a base that is no valid image
 pub record IsWrong (file : List ℕ) (h : History) (at : ℕ) : Type 0 where
   pub version : Version
   pub payload : List ℕ
   pub follows : Follows file version (content_of h) payload at
   pub neither : IsNeither version h payload
 
--- a file is damaged at this place, behind the events of this history: it doesn't begin as a journal, too little
--- follows an open gate, or a base that is no valid image, or another payload that is no event that may come next
+-- a file is damaged at this place, after the events of this history: it doesn't begin as a journal, or too little
+-- follows a commit byte of 1, or a base that is no valid image, or another payload that is no event that may come
+-- next
 pub record IsDamagedAfter (file : List ℕ) (h : History) (at : ℕ) : Type 0 where
   pub sound : IsSound h
   pub broken : IsDamaged file (content_of h) at ⊎ IsWrong file h at

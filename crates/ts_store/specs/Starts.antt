@@ -18,7 +18,7 @@ use Rattle.ts_store.specs.declared.starts.Started.TheVariants as started
 
 -- ---- reading the events of a journal
 
--- what an engine was told, and what a ledger was
+-- the past of an engine, and of a ledger
 abbrev pub past_of : EngineValue → Past
 past_of e = e.past
 
@@ -31,14 +31,14 @@ disk_of_replayed (replayed.Damaged disk at) = disk
 disk_of_replayed (replayed.DiskFault disk) = disk
 disk_of_replayed (replayed.NoMemory disk) = disk
 
--- the file stands for the history that was followed, or is damaged at this place
+-- the file contains the history that was followed, or is damaged at this place
 abbrev pub Replays : {D T : Type 0} → (T → Past) → ReplayOutcome D T → List ℕ → Type 0
 Replays past (replayed.Ready journal follower) file = Stands file (history_of (past follower))
 Replays past (replayed.Damaged disk at) file = IsDamagedAt file at
 Replays past (replayed.DiskFault disk) file = ⊤
 Replays past (replayed.NoMemory disk) file = ⊤
 
--- the count of faults rises with a fault, and else stays
+-- the count of faults rises with a fault, and stays otherwise
 abbrev pub CountsReplayed : {D T : Type 0} → ReplayOutcome D T → ℕ → ℕ → Type 0
 CountsReplayed (replayed.Ready journal follower) before now = now ≡ before
 CountsReplayed (replayed.Damaged disk at) before now = now ≡ before
@@ -62,7 +62,7 @@ abbrev pub RestsReplayed :
 RestsReplayed past bytes may_leave found =
     IfReplayed past found (λ journal h. IsAtRest bytes may_leave journal (content_of h))
 
--- the history may stand in a journal
+-- a journal may contain the history
 abbrev pub SoundReplayed : {D T : Type 0} → (T → Past) → ReplayOutcome D T → Type 0
 SoundReplayed past found = IfReplayed past found (λ journal h. IsSound h)
 
@@ -73,7 +73,7 @@ GoesOn (replayed.Damaged disk at) = ⊤
 GoesOn (replayed.DiskFault disk) = ⊤
 GoesOn (replayed.NoMemory disk) = ⊤
 
--- ---- reading a history alone
+-- ---- reading only a history
 
 abbrev pub disk_of_read : {D : Type 0} → HistoryRead D → D
 disk_of_read (read.Ready disk ledger) = disk
@@ -81,7 +81,7 @@ disk_of_read (read.Damaged disk at) = disk
 disk_of_read (read.DiskFault disk) = disk
 disk_of_read (read.NoMemory disk) = disk
 
--- the file stands for the ledger's history, or is damaged at this place
+-- the file contains the ledger's history, or is damaged at this place
 abbrev pub ReadsHistory : {D : Type 0} → HistoryRead D → List ℕ → Type 0
 ReadsHistory (read.Ready disk ledger) file = Stands file (history_of ledger.past)
 ReadsHistory (read.Damaged disk at) file = IsDamagedAt file at
@@ -102,7 +102,7 @@ disk_of (started.Damaged disk at) = disk
 disk_of (started.DiskFault disk) = disk
 disk_of (started.NoMemory disk) = disk
 
--- the file stands for the store's history, or is damaged at this place
+-- the file contains the store's history, or is damaged at this place
 abbrev pub Starts : {D : Type 0} → Started D → List ℕ → Type 0
 Starts (started.Ready store) file = Stands file (history_seen store)
 Starts (started.Damaged disk at) file = IsDamagedAt file at

@@ -62,7 +62,7 @@ numbers_above p (h ▸ e) = cond (nat_lt (position h) p) [] (numbers_above p h +
 abbrev pub origin_of : {D : Type 0} → (D → ℕ) → (D → ℕ) → StoreValue D → Origin
 origin_of faults moment s = record { faults = faults s.begun; opening = opening_history s; moment = moment s.begun }
 
--- the position at which it stands still, if it does
+-- the position at which it stopped, if it did
 abbrev pub stop_at : History → Option Event → Option ℕ
 stop_at h failed = cond (is_some failed) (Some (position h)) None
 
@@ -90,18 +90,18 @@ Tells bytes s = IsTold bytes s.journal (content_of (history_seen s))
 abbrev pub Rests : {D : Type 0} → (D → Option (List ℕ)) → (D → List ℕ → Type 0) → StoreValue D → Type 0
 Rests bytes may_leave s = IsAtRest bytes may_leave s.journal (content_of (history_seen s))
 
--- what is true of each store. Where the disk told its bytes at the start, it tells of what reads give, and where all of
--- them were on the disk, of each image since then
+-- what is true of each store: of what reads give, if the bytes of the disk were known at the start, and of each image
+-- since then, if all of them were on the disk
 pub record IsKept {D : Type 0} (bytes : D → Option (List ℕ)) (may_leave : D → List ℕ → Type 0) (moment : D → ℕ)
     (left_since : D → ℕ → List ℕ → Type 0) (faults : D → ℕ) (s : StoreValue D) : Type 0 where
   pub sound : IsSound (history_seen s)
   pub from : s.opened ≤ position (history_seen s)
-  -- the count is a number of 64 bits, it hasn't fallen, and it rose where the store stands still
+  -- the count is a number of 64 bits, it hasn't fallen, and it rose if the store has stopped
   pub bounded : faults s.begun < 2 ^ 64
   pub counted : faults s.begun ≤ faults s.journal.disk
   pub fell : IsTrue (is_some s.failed) → Rose (faults s.begun) (faults s.journal.disk)
   pub still : is_some s.failed ≡ is_still s.journal.standing
-  -- where it was armed, its journal has a header
+  -- if it was armed, its journal has a header
   pub headed : s.armed ≡ true → s.journal.standing ≢ Bare
   pub later : IsDurable bytes may_leave s.begun → moment s.begun ≤ moment s.journal.disk
   pub tells : IsSome (bytes s.begun) → s.failed ≡ None → Tells bytes s

@@ -1,4 +1,4 @@
-//! A payload more behind a journal that may have no header yet.
+//! Appends to a journal that may have no header yet.
 ghost use Rattle.std.specs.Prelude.{◌≡◌, IsSomeAnd};
 ghost use Rattle.ts_disk.specs.CrashImage.{LeavesOnly};
 ghost use Rattle.txn_journal.specs.Calls.{IsAtRest, IsTold, Ends, IsCounted, IfDone, IfStopped};
@@ -8,7 +8,7 @@ ghost use Rattle.txn_journal.specs.Frames.{WithOrWithout};
 use ts_disk::Disk;
 use txn_journal::{Append, Frame, Journal};
 
-/// Writes the header where there is none, and puts a payload behind the others. It takes no memory.
+/// Writes the header if there is none, and appends a payload. Takes no memory.
 pub(crate) fn append_armed<D: Disk>(journal: &mut Journal<D>, frame: &Frame) -> Append
     ensures done { (content : Content) → IsTold D.bytes journal.old content
         → IfDone result (IsAtRest D.bytes D.may_leave journal.new (with_payload journal.old.version content frame.now)) }

@@ -1,4 +1,4 @@
-//! The image of a store's history, put behind its journal.
+//! The image of a store's history, appended to its journal.
 ghost use Rattle.std.specs.Prelude.{◌≡◌, ◌≢◌, ◌<◌, ◌^◌, IsSomeAnd, None, is_some, true};
 ghost use Rattle.ts_disk.specs.CrashImage.{LeavesOnly};
 ghost use Rattle.engine_core.specs.Histories.{history_of};
@@ -19,16 +19,15 @@ use std::alloc::Global;
 use ts_disk::Disk;
 use txn_journal::{Append, Frame, Journal};
 
-/// How a checkpoint ended. Where it is neither `Done` nor `DiskFault` nothing was written. After `DiskFault` the
-/// journal stands for the history as before, or for its image.
+/// How a checkpoint ended. If it is neither `Done` nor `DiskFault`, nothing was written. After `DiskFault`
+/// the journal contains the history as before, or its image.
 #[derive(Clone, Copy, Debug, PartialEq, Eq)]
 pub enum CheckEnd {
-    /// The image of the history stands on the disk, at this position and of so many bytes.
+    /// The disk has the image of the history, at this position and of this many bytes.
     Done { pos: u64, bytes: u64 },
-    /// No event stands after the image at this position that the history begins with, or there is no
-    /// event at all.
+    /// The history has no event after the image with which it begins, at this position, or has no event at all.
     Nothing { pos: u64 },
-    /// The image has so many bytes, more than were allowed.
+    /// The image has this many bytes, which is more than `most`.
     TooLong { pos: u64, bytes: u64 },
     /// The disk failed.
     DiskFault,
@@ -45,8 +44,8 @@ pub struct Checkpointed<D: Disk> {
     pub end: CheckEnd,
 }
 
-/// Puts the image of a recorder's history behind its journal, where it didn't stop, has events, and the
-/// image has at most so many bytes.
+/// Appends the image of a recorder's history to its journal, if it didn't stop, has events, and the image has
+/// at most `most` bytes.
 pub(crate) fn checkpoint<D: Disk>(
     alloc: Global,
     recorder: Recorder<D>,
@@ -75,7 +74,7 @@ pub(crate) fn checkpoint<D: Disk>(
     }
 }
 
-/// The same, and the recorder stays. After a fault of the disk it is of no use.
+/// Does the same and keeps the recorder. After an I/O error the recorder is of no use.
 fn write_image<D: Disk>(alloc: Global, recorder: &mut Recorder<D>, most: u64) -> CheckEnd
     requires history { IsSound (history_of recorder.old.engine.past) }
     requires still { is_some recorder.old.failed ≡ is_still recorder.old.journal.standing }
@@ -110,7 +109,7 @@ fn write_image<D: Disk>(alloc: Global, recorder: &mut Recorder<D>, most: u64) ->
     }
 }
 
-/// Raises the version, and puts a base behind what is there. It takes no memory.
+/// Raises the version, and appends a base. Takes no memory.
 fn put_base<D: Disk>(journal: &mut Journal<D>, frame: &Frame) -> Append
     requires armed { journal.old.standing ≢ Bare }
     requires base { is_base Two frame.now ≡ true }

@@ -37,8 +37,7 @@ fn frame_of(alloc: Global, event: &Event) -> Result<Frame, NoMemory>
     close_frame(bytes)
 }
 
-/// States that an event that may come next has a spelling, in fewer bytes than a frame holds. It does
-/// nothing.
+/// States that an event that may come next can be written, in fewer bytes than a frame holds. Does nothing.
 pub(crate) fn spelling_law(engine: &Engine, event: &Event)
     requires sound { IsSound (history_of engine.now.past) }
     requires allowed { IsTrue (allowed (history_of engine.now.past) event.now) }

@@ -14,9 +14,10 @@ use txn_journal::{OpenOutcome, Reader};
 /// What reading the history of a journal found.
 #[derive(Drop)]
 pub enum HistoryRead<D: Disk> {
-    /// The history that the journal stands for.
+    /// The history that the journal contains.
     Ready { disk: D, ledger: Ledger },
-    /// The journal stands for no history. This is its first damaged place, as the start of a store tells it.
+    /// The journal contains no history. This is its first damaged place, the same that the start of a store
+    /// finds.
     Damaged { disk: D, at: u64 },
     /// The disk failed.
     DiskFault(D),
@@ -25,8 +26,8 @@ pub enum HistoryRead<D: Disk> {
 }
 
 /// Reads the journal on a disk, event by event, as the start of a store does, and keeps its history without
-/// its rows: whether an event may come next is told without them. It writes nothing, and hands the disk back
-/// on every answer.
+/// its rows: to check whether an event may come next it doesn't need them. Writes nothing, and returns the
+/// disk on every answer.
 pub fn read_history<R: Threads + Sync, D: Disk>(rt: &R, alloc: Global, disk: D) -> HistoryRead<D>
     requires sync { IsSync R.row }
     ensures reads { (file : List ℕ) → D.bytes disk ≡ Some file → ReadsHistory result file }

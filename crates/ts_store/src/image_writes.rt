@@ -14,19 +14,19 @@ use std::alloc::Global;
 use ts_schema::NoMemory;
 use txn_journal::{Frame, close_frame, open_frame};
 
-/// What became of the image of a history.
+/// The outcome of saving the image of a history.
 #[derive(Drop)]
 pub(crate) enum SaveOutcome {
-    /// Its bytes stand in a frame, so many of them.
+    /// The image is in a frame, and has this many bytes.
     Framed { frame: Frame, bytes: u64 },
-    /// It has so many bytes, which are too many.
+    /// The image has this many bytes, which are too many.
     TooLong(u64),
     /// There is no memory.
     NoMemory,
 }
 
-/// Takes all memory for the image of an engine's history, where it has at most so many bytes. Beside the frame it
-/// holds few of the engine's rows at a time.
+/// Takes all memory for the image of an engine's history, if it has at most `most` bytes. Besides the frame
+/// it holds few of the engine's rows at a time.
 pub(crate) fn save(alloc: Global, engine: &Engine, most: u64) -> SaveOutcome
     requires allowed { all_allowed (history_of engine.now.past) ≡ true }
     requires most { most < 2 ^ 32 }
@@ -35,7 +35,7 @@ pub(crate) fn save(alloc: Global, engine: &Engine, most: u64) -> SaveOutcome
     let Ok(outline) = outline_of(alloc, engine) else {
         return SaveOutcome::NoMemory;
     };
-    // No memory holds so many rows as a group would need to be refused here.
+    // No memory holds as many rows as a group would need to be refused here.
     if !groups_are_few(&outline.rest) {
         return SaveOutcome::NoMemory;
     }

@@ -1,4 +1,4 @@
-//! What a disk was when a store was started on it. Contracts alone speak of it.
+//! What a disk was when a store started on it. Only contracts speak of it.
 ghost use Rattle.std.specs.Prelude.{◌≡◌, ◌<◌, length};
 
 use logbook::{Opening, Rule, Seen, Start};
@@ -46,7 +46,7 @@ impl<T> Model for InitialValue<T> {
 }
 
 impl<T> InitialValue<T> {
-    /// Keeps in mind what a value is now.
+    /// Remembers, for contracts, what a value is now.
     pub fn of(value: &T) -> InitialValue<T>
         ensures value { result ≡ value.now }
     {

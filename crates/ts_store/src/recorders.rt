@@ -27,17 +27,17 @@ use ts_model::{Committed, Event, Outcome, Refusal};
 use ts_schema::NoMemory;
 use txn_journal::{Append, Journal};
 
-/// An engine, the journal of its events, and the event at whose append the disk failed, if it did.
+/// An engine, the journal of its events, and the event whose append failed, if one did.
 #[derive(Drop)]
 pub(crate) struct Recorder<D: Disk> {
     pub engine: Engine,
     pub journal: Journal<D>,
-    /// Where the disk failed at the header, it is one that is never allowed.
+    /// If the disk failed at the header, this is an event that is never allowed.
     pub failed: Option<Event>,
 }
 
 impl<D: Disk> Recorder<D> {
-    /// Writes and syncs the header of the journal where there is none.
+    /// Writes and syncs the header of the journal if there is none.
     pub(crate) fn arm(&mut self) -> Append
         requires sound { IsSound (history_of self.old.engine.past) }
         requires still { is_some self.old.failed ≡ is_still self.old.journal.standing }
@@ -60,7 +60,7 @@ impl<D: Disk> Recorder<D> {
         }
     }
 
-    /// Makes an event, unless its call is refused. The job of a finish is given up on every answer.
+    /// Makes an event, unless its call is refused. Consumes the job of a finish on every answer.
     pub(crate) fn make(
         &mut self,
         alloc: Global,
@@ -81,7 +81,7 @@ impl<D: Disk> Recorder<D> {
         }
     }
 
-    /// Makes an event that is allowed next, unless the journal stopped.
+    /// Makes an event that is allowed next, unless the journal has stopped.
     fn make_checked(&mut self, alloc: Global, event: Event, job: Option<Job>) -> Outcome<Committed>
         requires history { IsSound (history_of self.old.engine.past) }
         requires allowed { IsTrue (allowed (history_of self.old.engine.past) event) }
@@ -97,7 +97,7 @@ impl<D: Disk> Recorder<D> {
         }
     }
 
-    /// Makes an event that is allowed next, where the journal didn't stop.
+    /// Makes an event that is allowed next. The journal hasn't stopped.
     fn append_event(&mut self, alloc: Global, event: Event, job: Option<Job>) -> Outcome<Committed>
         requires history { IsSound (history_of self.old.engine.past) }
         requires allowed { IsTrue (allowed (history_of self.old.engine.past) event) }
@@ -114,7 +114,7 @@ impl<D: Disk> Recorder<D> {
         }
     }
 
-    /// Puts an event onto the disk, and then lets it count. It takes no memory.
+    /// Writes an event to the disk, and then lets it count. Takes no memory.
     fn put(&mut self, draft: FramedEvent) -> Outcome<Committed>
         requires history { IsSound (history_of self.old.engine.past) }
         requires draft { IsDraft (history_of self.old.engine.past) draft.prepared.event draft }
@@ -139,7 +139,7 @@ impl<D: Disk> Recorder<D> {
         }
     }
 
-    /// The refusal of an event where the store stands still.
+    /// The refusal of an event if the store has stopped.
     fn stop_refusal(&self) -> Refusal
         ensures { result ≡ refusal stopped (history_of self.now.engine.past) 0 }
     {
@@ -150,7 +150,7 @@ impl<D: Disk> Recorder<D> {
         }
     }
 
-    /// The position at which the store stands still, if it does.
+    /// The position at which the store stopped, if it did.
     pub(crate) fn stop(&self) -> Option<u64>
         ensures { result ≡ stop_at (history_of self.now.engine.past) self.now.failed }
     {
@@ -160,8 +160,8 @@ impl<D: Disk> Recorder<D> {
         }
     }
 
-    /// The disk. What the engine holds stays with the process, which is at its end: the system takes it back
-    /// at once, and letting go of it piece by piece would take time.
+    /// Returns the disk. The process is about to end, so the engine's memory stays with it: the system takes it
+    /// back at once, and freeing it piece by piece would take time.
     pub(crate) fn into_disk(self) -> D
         ensures { result ≡ self.journal.disk }
     {

@@ -1,4 +1,4 @@
-//! The events of a journal, read one after the other.
+//! Reading the events of a journal in order.
 ghost use Rattle.std.specs.Prelude.{◌≡◌, ℕ, List, IsTrue, None};
 ghost use Rattle.event_codec.specs.Formed.{IsFormed};
 ghost use Rattle.event_codec.specs.Spelling as spelling;
@@ -36,18 +36,18 @@ pub(crate) enum ReplayOutcome<D: Disk, T> {
     NoMemory(D),
 }
 
-/// What became of a payload.
+/// The outcome of a payload.
 #[derive(Clone, Copy)]
 pub(crate) enum PayloadOutcome {
-    /// Its event took effect, or its image took the place of what was there.
+    /// Its event took effect, or its image replaced what was there.
     Done,
-    /// It is the bytes of no event that may come next, or of no valid image.
+    /// It isn't the bytes of an event that may come next, or of a valid image.
     NoEvent,
     /// There is no memory.
     NoMemory,
 }
 
-/// Lets what counts of a journal take effect, from its base on. It holds one payload at a time.
+/// Applies what counts of a journal, from its base on. Holds one payload at a time.
 pub(crate) fn replay<R: Threads + Sync, D: Disk, T: Follower + Drop>(
     rt: &R,
     alloc: Global,
@@ -107,7 +107,7 @@ pub(crate) fn replay<R: Threads + Sync, D: Disk, T: Follower + Drop>(
     }
 }
 
-/// Begins anew at the image of a base. The base's bytes are given back before that.
+/// Starts over at the image of a base. Frees the base's bytes first.
 fn take_base<T: Follower + Drop>(
     alloc: Global,
     follower: &mut T,
@@ -130,7 +130,7 @@ fn take_base<T: Follower + Drop>(
     }
 }
 
-/// Lets the event of a payload take effect.
+/// Applies the event of a payload.
 fn take_payload<R: Threads + Sync, T: Follower>(
     rt: &R,
     alloc: Global,
@@ -147,7 +147,7 @@ fn take_payload<R: Threads + Sync, T: Follower>(
     }
 }
 
-/// Lets an event take effect, where it is allowed next.
+/// Applies an event, if it is allowed next.
 fn take_event<R: Threads + Sync, T: Follower>(
     rt: &R,
     follower: &mut T,

@@ -20,12 +20,11 @@ use txn_journal::{OpenOutcome, Reader};
 /// What the start of a store found.
 #[derive(Drop)]
 pub enum Started<D: Disk> {
-    /// A store of the history that its journal stands for.
+    /// A store of the history that its journal contains.
     Ready(Store<D>),
-    /// The journal stands for no history. This is its first damaged place: 0 where the file begins with other
-    /// bytes than a journal, or else the place of an open gate. Behind such a gate the file is too short, or there
-    /// is a base that isn't the bytes of a valid image, or another payload that isn't those of an event that may
-    /// come next.
+    /// The journal contains no history. This is its first damaged place: 0 if the file begins with other bytes
+    /// than a journal, and otherwise the place of a commit byte of 1. After that byte the file is too short, or a
+    /// base isn't the bytes of a valid image, or another payload isn't those of an event that may come next.
     Damaged { disk: D, at: u64 },
     /// The disk failed.
     DiskFault(D),
@@ -34,7 +33,7 @@ pub enum Started<D: Disk> {
 }
 
 impl<D: Disk> Store<D> {
-    /// Reads the journal on a disk, event by event. It writes nothing.
+    /// Reads the journal on a disk, event by event. Writes nothing.
     pub fn start<R: Threads + Sync>(rt: &R, alloc: Global, disk: D) -> Started<D>
         requires sync { IsSync R.row }
         ensures starts { (file : List ℕ) → D.bytes disk ≡ Some file → Starts result file }

@@ -25,9 +25,9 @@ use ts_disk::Disk;
 use ts_model::{Committed, Event, Outcome};
 use txn_journal::{Append, Journal};
 
-/// A store on a disk, which nobody else changes. Each event is put into the journal before it counts.
-/// After a fault of the disk the store stands still, since what the disk holds is then the history with
-/// the last event or without it.
+/// A store on a disk that nobody else changes. It appends each event to the journal before the event counts.
+/// After an I/O error the store has stopped, since the disk then holds the history with the last event or
+/// without it.
 #[derive(Drop)]
 pub struct Store<D: Disk> {
     alloc: Global,
@@ -36,7 +36,7 @@ pub struct Store<D: Disk> {
     begun: InitialValue<D>,
     /// The position at which it was opened.
     opened: u64,
-    /// Whether the header stands on the disk since a call of `arm`.
+    /// Whether a call of `arm` wrote the header, or found it on the disk.
     armed: bool,
 }
 
@@ -79,29 +79,29 @@ impl<D: Disk> Store<D> {
         }
     }
 
-    /// The engine.
+    /// Returns the engine.
     pub fn engine(&self) -> &Engine
         ensures engine { result.now ≡ self.now.engine }
     {
         &self.recorder.engine
     }
 
-    /// Writes and syncs the header of the journal where there is none. On `DiskFault` the store stands
-    /// still from now on. After `Done` the store is armed.
+    /// Writes and syncs the header of the journal if there is none. `DiskFault` stops the store. After `Done` the
+    /// store is armed.
     pub fn arm(&mut self) -> Append
         ensures engine { self.new.engine ≡ self.old.engine }
         ensures begun { self.new.begun ≡ self.old.begun }
         ensures opened { self.new.opened ≡ self.old.opened }
         ensures tells { Tells D.bytes self.old → IfDone result (Tells D.bytes self.new) }
         ensures done { Rests D.bytes D.may_leave self.old → IfDone result (Rests D.bytes D.may_leave self.new) }
-        // A crash at any moment leaves a file that stands for the history.
+        // A crash at any moment leaves a file that contains the history.
         ensures any_moment { Rests D.bytes D.may_leave self.old
             → LeavesOnly D.moment D.left_since self.old.journal.disk self.new.journal.disk
             (λ file. Stands file (history_seen self.old)) }
-        // So does what reads give, whether all of it was on the disk or not.
+        // Reads give such a file too, whether or not all of it was on the disk.
         ensures shown { Tells D.bytes self.old
             → IsSomeAnd (D.bytes self.new.journal.disk) (λ file. Stands file (history_seen self.old)) }
-        // And since each earlier moment at which there was this one, a crash leaves one that begins with it.
+        // If each image since an earlier moment contains a history that begins with `h`, each still does.
         ensures earlier { (t : ℕ) (h : History) → Rests D.bytes D.may_leave self.old → Begins h (history_seen self.old)
             → t ≤ D.moment self.old.journal.disk
             → BeginSince D.left_since self.old.journal.disk t h → BeginSince D.left_since self.new.journal.disk t h }
@@ -116,21 +116,21 @@ impl<D: Disk> Store<D> {
         answer
     }
 
-    /// The disk. A store is closed as its program ends, so what the engine holds stays with the process, and
-    /// isn't let go of piece by piece.
+    /// Returns the disk. A store is closed as its program ends, so the engine's memory stays with the process,
+    /// and isn't freed piece by piece.
     pub fn close(self) -> D
         ensures disk { result ≡ self.journal.disk }
-        // Where the disk told its bytes at the start, this is what reads give.
+        // What reads give, if the bytes of the disk were known at the start.
         ensures shown { IsSome (D.bytes self.begun)
             → IsSomeAnd (D.bytes result) (StandsForEither (history_seen self) (latest (history_seen self) self.failed)) }
-        // Where all was on the disk at the start, all of it is, unless the disk failed: what a later crash leaves is
+        // If all bytes were on the disk at the start, all of them are, unless the disk failed: a later crash leaves
         // what reads give.
         ensures rests { self.failed ≡ None → IsDurable D.bytes D.may_leave self.begun
             → IsDurable D.bytes D.may_leave result }
-        // Where the store was armed, that begins with the header.
+        // If the store was armed, what reads give begins with the header.
         ensures header { self.armed ≡ true → self.failed ≡ None → IsSome (D.bytes self.begun)
             → IsSomeAnd (D.bytes result) HasHeader }
-        // And where all was on the disk then, this is what a crash at each moment since might have left.
+        // If all bytes were on the disk at the start, this is what a crash at each moment since might have left.
         ensures images { IsDurable D.bytes D.may_leave self.begun
             → (c : List ℕ) → D.left_since result (D.moment self.begun) c
             → IsBetween (opening_history self) (history_seen self) self.failed c }
@@ -139,9 +139,9 @@ impl<D: Disk> Store<D> {
         recorder.into_disk()
     }
 
-    /// Puts the image of the store's history behind its journal, where it has at most so many bytes: all
-    /// memory is taken, the version is raised, and then the image is appended. A later start begins there.
-    /// The disk is handed back on every answer.
+    /// Appends the image of the store's history to its journal, if it has at most `most` bytes: takes all memory,
+    /// raises the version, and then appends the image. A later start begins there. Returns the disk on every
+    /// answer.
     pub fn checkpoint(self, most: u64) -> Checkpointed<D>
         requires armed { self.armed ≡ true }
         requires most { most < 2 ^ 32 }
@@ -150,22 +150,22 @@ impl<D: Disk> Store<D> {
         // A crash at any moment leaves the history, or its image.
         ensures any_moment { Rests D.bytes D.may_leave self → IfWritten result.end
             (LeavesOnly D.moment D.left_since self.journal.disk result.disk (StandsSaved (history_seen self))) }
-        // So does what reads give, whether all of it was on the disk or not.
+        // Reads give one of these too, whether or not all of it was on the disk.
         ensures shown { Tells D.bytes self → IfWritten result.end
             (IsSomeAnd (D.bytes result.disk) (StandsSaved (history_seen self))) }
-        // After `Done` it is the image, and nothing else may be left.
+        // After `Done` the disk holds the image, and a crash leaves nothing else.
         ensures done { Tells D.bytes self → IfSaved result.end
             (HoldsImage D.bytes D.may_leave result.disk (history_seen self)) }
-        // And since each earlier moment at which there was one that this begins with, it leaves a history that
-        // begins with that, or the image of one.
+        // If each image since an earlier moment contains a history that begins with `h`, each still does, or contains
+        // the image of such a history.
         ensures earlier { (t : ℕ) (h : History) → Rests D.bytes D.may_leave self → Begins h (history_seen self)
             → t ≤ D.moment self.journal.disk → BeginSince D.left_since self.journal.disk t h
             → (c : List ℕ) → D.left_since result.disk t c → BeginsSaved h c }
-        // Where all was on the disk at the start, this is what a crash since then might have left.
+        // If all bytes were on the disk at the start, this is what a crash since then might have left.
         ensures images { IsDurable D.bytes D.may_leave self.begun
             → (c : List ℕ) → D.left_since result.disk (D.moment self.begun) c
             → IsBetween (opening_history self) (history_seen self) self.failed c ⊎ StandsForImage (history_seen self) c }
-        // Where nothing was written, what reads give begins with the header.
+        // If nothing was written, what reads give begins with the header.
         ensures header { self.failed ≡ None → IsSome (D.bytes self.begun)
             → IfUntouched result.end (IsSomeAnd (D.bytes result.disk) HasHeader) }
         ensures counted { CountsEnd result.end (D.faults self.journal.disk) (D.faults result.disk) }
@@ -173,7 +173,7 @@ impl<D: Disk> Store<D> {
         checkpoint(self.alloc, self.recorder, most)
     }
 
-    /// Makes an event, unless its call is refused. The job of a finish is given up on every answer.
+    /// Makes an event, unless its call is refused. Consumes the job of a finish on every answer.
     pub(crate) fn make(&mut self, event: Event, job: Option<Job>) -> Outcome<Committed>
         requires sound { IsTrue (sound (history_seen self.old) event) }
         requires job { JobIsFor (history_seen self.old) event job }
@@ -184,14 +184,14 @@ impl<D: Disk> Store<D> {
         self.recorder.make(self.alloc, event, job)
     }
 
-    /// States what is true of each store. It does nothing.
+    /// States what is true of each store. Does nothing.
     pub(crate) fn store_law(&self)
         ensures kept { IsKept D.bytes D.may_leave D.moment D.left_since D.faults self.now }
     {
         let _opened = self.opened;
     }
 
-    /// The position at which the store stands still, if it does.
+    /// The position at which the store stopped, if it did.
     pub(crate) fn stop(&self) -> Option<u64>
         ensures { result ≡ stop_at (history_seen self.now) self.now.failed }
     {
@@ -199,7 +199,7 @@ impl<D: Disk> Store<D> {
     }
 }
 
-/// Whether a store is armed after its header was asked for.
+/// Whether a store is armed after `arm` gave this answer.
 fn is_armed_after(armed: bool, answer: Append) -> bool
     ensures { result ≡ armed_after armed answer }
 {

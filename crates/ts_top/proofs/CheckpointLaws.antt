@@ -27,7 +27,7 @@ use Rattle.ts_top.proofs.ParallelLaws.{only_one}
 use Rattle.ts_top.proofs.PrintLaws.{none_not_some}
 use Rattle.ts_disk.proofs.Told.{some_is, some_told, the_told}
 
--- ---- a store that goes on
+-- ---- a store that hasn't stopped
 
 never_stopped : (h : History) (failed : Option Event) (p : ℕ) → failed ≡ None → stop_at h failed ≡ Some p → ⊥
 never_stopped h None p goes_on is = cc is
@@ -43,7 +43,7 @@ no_base_counts : (base : Option (List ℕ)) (some : List ℕ) → base ≡ Some 
 no_base_counts None some is none = cc is
 no_base_counts (Some b) some is none = cc none
 
--- a file that stands for an image has a header
+-- a file that represents an image has a header
 image_header : (h : History) (file : List ℕ) → StandsForImage h file → HasHeader file
 image_header h file image =
     ⊎_elim
@@ -193,7 +193,7 @@ went_on ends.DiskFault status unprinted before written P told holds = subst (λ 
 went_on (ends.Stopped p) status unprinted before written P told holds = subst (λ x. IfWentOn x P) (sym told.0) tt
 went_on ends.NoMemory status unprinted before written P told holds = subst (λ x. IfWentOn x P) (sym told.0) tt
 
--- no read is told of
+-- no read fault is reported
 pub no_read_fault : (end : CheckEnd) (status : Status) (unprinted : Type 0) (before written : Option (List ℕ)) → TellsEnd end status unprinted before written → is_read_fault status ≡ false
 no_read_fault (ends.Done p n) status unprinted before written (inl told) = ap is_read_fault told.0
 no_read_fault (ends.Done p n) status unprinted before written (inr told) = ap is_read_fault told.0
@@ -205,7 +205,7 @@ no_read_fault ends.DiskFault status unprinted before written told = ap is_read_f
 no_read_fault (ends.Stopped p) status unprinted before written told = ap is_read_fault told.0
 no_read_fault ends.NoMemory status unprinted before written told = ap is_read_fault told.0
 
--- a disk fault is told of where the count rose
+-- a disk fault is reported if the count rose
 pub counted_disk : (end : CheckEnd) (status : Status) (unprinted : Type 0) (before written : Option (List ℕ)) (past : Past) (failed : Option Event) (most faults now : ℕ) → failed ≡ None → EndsAs end past failed most
     → TellsEnd end status unprinted before written → CountsEnd end faults now → Counted faults now (is_disk_fault status)
 counted_disk (ends.Done p n) status unprinted before written past failed most faults now goes_on end (inl told) counts = subst (λ x. Counted faults now (is_disk_fault x)) (sym told.0) counts

@@ -15,7 +15,7 @@ use Rattle.engine_core.proofs.EventLaws.{base_of}
 use Rattle.result_text.specs.Events.{log_text}
 use Rattle.ts_top.specs.Logs.{base_text, begun_text, lines_after, log_of}
 
--- the events of a history that goes on are its own and those that follow
+-- the events of a history that continues are its events and those that follow
 events_followed : (h : History) (es : List Event) → events_of (h ▸▸ es) ≡ events_of h ++ es
 events_followed h [] = sym (append-nil (events_of h))
 events_followed h (e ∷ es) = events_followed (h ▸ e) es ∙ append_assoc (events_of h) (e ∷ []) es

@@ -20,7 +20,7 @@ module _ (told : Type 0) (left : List ℕ → Type 0) (before after : Option (Li
   failed_or_kept NoMemory kept n = absurd n
   failed_or_kept InputLong kept n = n
 
-  -- nothing was read and nothing printed, so no fault of either is told
+  -- nothing was read and nothing printed, so no fault of source or sink is reported
   pub not_opened_reads : (status : Status) (kept : Type 0) → NotOpened status told left kept before after → is_read_fault status ≡ false
   not_opened_reads Done kept n = refl
   not_opened_reads Refused kept n = refl

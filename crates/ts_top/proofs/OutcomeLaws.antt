@@ -37,7 +37,7 @@ pub record Closed (told : Type 0) (left : List ℕ → Type 0) (opening : Histor
   pub shown : told → IsSomeAnd file (StandsForEither s.history (latest s.history s.failed))
   pub images : (c : List ℕ) → left c → IsBetween opening s.history s.failed c
 
--- a file that stands for the history, where the disk didn't fail
+-- a file that represents the history, if the disk didn't fail
 pub the_one : (h : History) (failed : Option Event) (file : List ℕ) → failed ≡ None → StandsForEither h (latest h failed) file → Stands file h
 the_one h failed file none (inl stands) = stands
 the_one h failed file none (inr stands) = subst (λ g. Stands file g) (ap (latest h) none) stands

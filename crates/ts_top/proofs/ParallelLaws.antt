@@ -131,7 +131,7 @@ too_long (Some xs) (Some ys) out p = p.0
 
 module _ (replies : Replies) (told : Type 0) (left : List ℕ → Type 0) (sink_failed : Type 0) (o : Outside) where
   module _ (h : History) (stood : IfSome o.file_before (λ file. Stands file h)) where
-    -- no statement was run, over a journal that stands for the opening history
+    -- no statement was run, and the journal represents the opening history
     pub ran_nothing : o.written ≡ o.written_before → (told → Holds o.file h) → ((c : List ℕ) → left c → Stands c h) → o.reads ≡ 0 → RanNothing told left o
     ran_nothing same_text holds images none = (
       record { opening = h; stood = stood; ran = record { printed_nothing = same_text; holds = holds; images = images } },
@@ -184,7 +184,7 @@ module _ (replies : Replies) (told : Type 0) (left : List ℕ → Type 0) (sink_
   not_opened_par unread unprinted kept still NoMemory n = inl (still.0, still.1, n, still.2)
   not_opened_par unread unprinted kept still InputLong n = absurd n
 
--- a call that opened no journal prints nothing, and so no fault of the sink is told
+-- a call that opened no journal prints nothing, so no fault of the sink is reported
 not_opened_plain : (told : Type 0) (left : List ℕ → Type 0) (before after : Option (List ℕ)) (status : Status) (kept : Type 0) (n : ℕ) → NotOpened status told left kept before after → CountedAfterDisk status n n
 not_opened_plain told left before after Done kept n e = refl
 not_opened_plain told left before after Refused kept n e = refl
@@ -220,7 +220,7 @@ counted_by_state first now g =
       | false ↦ λ is. g.counted (none_there now.failed is)
     ] refl
 
--- how a call ended tells of a disk fault exactly where the store stands still, but for want of memory
+-- a call reports a disk fault exactly if the store has stopped, unless memory ran out
 module _ (first now : State) (g : GoesOn first now) where
   counted_still : (still : Bool) → stands_still now ≡ still → Counted first.faults now.faults still
   counted_still still is = subst (λ b. Counted first.faults now.faults b) is (counted_by_state first now g)
@@ -252,7 +252,7 @@ counted_by Json stops.NoMemory start out status sink_failed before written first
 
 -- ---- a call that went on
 
--- where neither the disk nor want of memory ended it, its run stopped at its end
+-- unless a call ended with a disk fault or out of memory, its run stopped at its end
 module _ (P : Type 0) where
   went_answered : (status : Status) (fault : Bool) → status ≡ status_answered fault → P → IfWentOn status P
   went_answered status true is there = subst (λ x. IfWentOn x P) (sym is) there

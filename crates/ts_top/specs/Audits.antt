@@ -1,4 +1,4 @@
--- What a call that audits a transcript beside its journal has printed, by how it ended.
+-- What a call that audits a transcript against its journal has printed, by how it ended.
 use Rattle.std.specs.Prelude.{◌≡◌, ◌⊎◌, ◌<◌, ℕ, List, [], ◌++◌, Option, codes, decimal, length, ⊤, IfSome}
 use Rattle.std.specs.Io.KnownBytes.{Appends}
 use Rattle.ts_io.specs.Whole.{AppendsPart}
@@ -15,7 +15,7 @@ use Rattle.ts_top.specs.Outcomes.{Outside, IsDamaged, Over}
 
 -- ---- its line
 
--- a reply by its session and its place, behind a word
+-- a reply by its session and its place, after a word
 abbrev pub reply_line : List ℕ → ℕ → ℕ → List ℕ
 reply_line word session reply = word ++ decimal session ++ codes " reply " ++ decimal reply ++ codes "\n"
 
@@ -53,7 +53,7 @@ pub record PrintedAudit (status : Status) (before written : Option (List ℕ)) (
   pub ended : status ≡ status_audited audit
   pub printed : Appends before written (audit_text (position h) audit)
 
--- what the audit of a text over a history came to that ended so
+-- what an audit of a text over a history did, by how it ended
 abbrev pub Audits : History → Status → Type 0 → List ℕ → Option (List ℕ) → Option (List ℕ) → Type 0
 Audits h Done unprinted text before written = Audited h text (PrintedAudit Done before written h)
 Audits h Refused unprinted text before written = Audited h text (PrintedAudit Refused before written h)
@@ -62,7 +62,7 @@ Audits h WriteFault unprinted text before written =
 Audits h NoMemory unprinted text before written = unprinted
 Audits h other unprinted text before written = ⊥
 
--- and of one over the history that the journal stands for
+-- the same for an audit against the history that the journal represents
 abbrev pub AuditsBeside : Status → Type 0 → List ℕ → Outside → Type 0
 AuditsBeside DiskFault unprinted text o = unprinted
 AuditsBeside (Damaged at) unprinted text o = unprinted × IsDamaged at o
@@ -76,8 +76,8 @@ pub record OfWholeText (o : Outside) (Is : List ℕ → Type 0) : Type 0 where
   pub read : IfSome o.input (λ input. ReadWhole input o.rest × (input ≡ text))
   pub is : Is text
 
--- what an audit that ended so has done. It reads its text to the end before it asks anything of the disk: where the
--- text can't be read, no call was made of the disk, and where the journal can't be, the text was read
+-- what an audit that ended so has done. It reads its text to the end before it calls the disk: if the text can't be
+-- read, no call was made of the disk, and if the journal can't be read, the text was
 abbrev pub AuditTo : Status → Type 0 → Type 0 → Outside → Type 0
 AuditTo ReadFault unprinted unasked o = unprinted × unasked
 AuditTo InputLong unprinted unasked o = unprinted × unasked × IfSome o.input (λ text. INPUT_LIMIT < length text)

@@ -1,4 +1,4 @@
--- What a call has done that puts the image of its journal's history behind the journal, by how it ended.
+-- What a call that appends the image of its journal's history has done, by how it ended.
 use Rattle.std.specs.Prelude.{◌≡◌, ◌≢◌, ◌⊎◌, ℕ, ◌<◌, ◌≤◌, ◌^◌, List, [], ◌++◌, Option, IsSomeAnd, codes, decimal}
 use Rattle.std.specs.Io.KnownBytes.{Appends}
 use Rattle.ts_io.specs.Whole.{AppendsPart}
@@ -15,7 +15,7 @@ use Rattle.ts_top.specs.declared.endings.Status.TheVariants.{Done, Refused, BadW
 
 -- ---- lines
 
--- so many bytes an image may have
+-- the most bytes that an image may have
 abbrev pub longest_image : ℕ
 longest_image = 2 ^ 30
 
@@ -28,7 +28,7 @@ nothing_text pos = codes "NOTHING @" ++ decimal pos ++ codes "\n"
 abbrev pub too_long_text : ℕ → ℕ → List ℕ
 too_long_text pos bytes = refusal_text (record { code = image_long; pos = pos; mark = bytes })
 
--- a line tells that the image of a history with events after its own image was saved
+-- a line reports that the image of a history with events after its own image was saved
 pub record TellsSaved (h : History) (line : List ℕ) : Type 0 where
   pub later : events_of h ≢ []
   pub bytes : ℕ
@@ -36,12 +36,12 @@ pub record TellsSaved (h : History) (line : List ℕ) : Type 0 where
   pub within : bytes ≤ longest_image
   pub text : line ≡ saved_text (position h) bytes
 
--- a line tells that no event stands after the image that a history begins with, or that there is no event at all
+-- a line reports that no event follows the image that a history begins with, or that there is no event at all
 pub record TellsNothing (h : History) (line : List ℕ) : Type 0 where
   pub none : events_of h ≡ []
   pub text : line ≡ nothing_text (position h)
 
--- a line tells that the image of a history is too long
+-- a line reports that the image of a history is too long
 pub record TellsTooLong (h : History) (line : List ℕ) : Type 0 where
   pub later : events_of h ≢ []
   pub bytes : ℕ
@@ -58,21 +58,21 @@ pub record JournalLeft (told : Type 0) (left : List ℕ → Type 0) (Shown MaySe
   pub holds : told → IsSomeAnd file Shown
   pub images : (c : List ℕ) → left c → MaySee c
 
--- it stands for the history
+-- it represents the history
 abbrev pub AsBefore : Type 0 → (List ℕ → Type 0) → History → Option (List ℕ) → Type 0
 AsBefore told left h file = JournalLeft told left (λ c. Stands c h) (λ c. Stands c h) file
 
--- it stands for the image of the history, and on the way there for the one or the other
+-- it represents the image of the history; a crash image represents the history or its image
 abbrev pub AsImage : Type 0 → (List ℕ → Type 0) → History → Option (List ℕ) → Type 0
 AsImage told left h file = JournalLeft told left (StandsForImage h) (StandsSaved h) file
 
--- it stands for the history, or for its image
+-- it represents the history, or its image
 abbrev pub AsEither : Type 0 → (List ℕ → Type 0) → History → Option (List ℕ) → Type 0
 AsEither told left h file = JournalLeft told left (StandsSaved h) (StandsSaved h) file
 
 -- ---- the call
 
--- a line was written that tells this, and so the journal stands
+-- a line that reports this was written, and the journal is left so
 pub record Told (Tells Wrote : List ℕ → Type 0) (Journal : Type 0) : Type 0 where
   pub line : List ℕ
   pub tells : Tells line
@@ -88,7 +88,7 @@ ToldNothing told left Wrote o h = Told (TellsNothing h) Wrote (AsBefore told lef
 abbrev pub ToldTooLong : Type 0 → (List ℕ → Type 0) → (List ℕ → Type 0) → Outside → History → Type 0
 ToldTooLong told left Wrote o h = Told (TellsTooLong h) Wrote (AsBefore told left h o.file)
 
--- a history has events after its image, and so the journal stands
+-- a history has events after its image, and the journal is left so
 abbrev pub Later : History → Type 0 → Type 0
 Later h Journal = (events_of h ≢ []) × Journal
 

@@ -32,11 +32,11 @@ base_text start = []
 base_text (resumed i) = image_text i.pos
 base_text (h ▸ e) = base_text h
 
--- the log of a history: its image, and its events by the names that stand at its end, which are never taken away
+-- the log of a history: its image, and its events by the names at its end, which are never removed
 abbrev pub log_of : History → List ℕ
 log_of h = base_text h ++ lines_after (roster h) (base_position h) (events_of h)
 
--- a refresh that waits, where its aggregate is in the roster
+-- a refresh that is pending, if its aggregate is in the roster
 abbrev pub waiting_text : Waiting → Option ViewDef → List ℕ
 waiting_text refresh None = []
 waiting_text refresh (Some def) = pending_text refresh.cut def.name refresh.span (first_of def.fold.width)
@@ -45,7 +45,7 @@ abbrev pub waiting_texts : Roster → List Waiting → List ℕ
 waiting_texts names [] = []
 waiting_texts names (refresh ∷ more) = waiting_text refresh (view_of names refresh.view) ++ waiting_texts names more
 
--- the position of a history, and the refreshes that wait
+-- the position of a history, and its pending refreshes
 abbrev pub check_of : History → List ℕ
 check_of h = history_text (position h) ++ waiting_texts (roster h) (waiting h)
 

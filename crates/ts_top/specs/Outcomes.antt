@@ -12,8 +12,8 @@ use Rattle.ts_top.specs.Scripts.{replies_of, reply_after, history_after, rows_re
 use Rattle.ts_top.specs.declared.endings.Status.{Status}
 use Rattle.ts_top.specs.declared.endings.Status.TheVariants.{Done, Refused, BadWords, ReadFault, WriteFault, DiskFault, Damaged, NoMemory, InputLong}
 
--- what stands outside of the call, before it and after it, where it is known: the bytes that the source has left,
--- those that the sink has written, those that reads of the disk give; and how many stored rows were looked at
+-- what is outside of the call, before it and after it, if it is known: the bytes that the source has left, those that
+-- the sink has written, those that reads of the disk give; and how many stored rows were read
 pub record Outside : Type 0 where
   pub input : Option (List ℕ)
   pub rest : Option (List ℕ)
@@ -25,7 +25,7 @@ pub record Outside : Type 0 where
 
 -- ---- the journal
 
--- a file stands for a history on the way from one to another
+-- a file represents a history between one and another
 pub record StandsBetween (from to : History) (file : List ℕ) : Type 0 where
   pub history : History
   pub stands : Stands file history
@@ -39,15 +39,16 @@ abbrev pub LeftAfter :
     → List ℕ → Type 0
 LeftAfter bytes may_leave moment left_since old new c = IsDurable bytes may_leave old × left_since new (moment old) c
 
--- what a crash at any moment of the call might have left stands for a history on the way from the opening one
+-- each crash image that any moment of the call might have left represents a history from the opening one up to this
+-- one
 abbrev pub ImagesUpTo : (List ℕ → Type 0) → History → History → Type 0
 ImagesUpTo left opening to = (c : List ℕ) → left c → StandsBetween opening to c
 
--- reads give a file that stands for this history
+-- reads give a file that represents this history
 abbrev pub Holds : Option (List ℕ) → History → Type 0
 Holds file h = IsSomeAnd file (λ bytes. Stands bytes h)
 
--- reads give a file that stands for a history on the way from one to another
+-- reads give a file that represents a history between one and another
 abbrev pub HoldsBetween : Option (List ℕ) → History → History → Type 0
 HoldsBetween file from to = IsSomeAnd file (StandsBetween from to)
 
@@ -98,35 +99,35 @@ pub record RanWriting (told : Type 0) (left : List ℕ → Type 0) (h : History)
 
 -- ---- the opening history
 
--- the call ran over the history that the journal stood for
+-- the call ran on the history that the journal represented
 pub record Over (o : Outside) (Ran : History → Type 0) : Type 0 where
   pub opening : History
   pub stood : IfSome o.file_before (λ file. Stands file opening)
   pub ran : Ran opening
 
--- and of the script, where the source tells its bytes
+-- the same for a script, if the source reports its bytes
 abbrev pub OverScript : Outside → (History → List ℕ → Type 0) → Type 0
 OverScript o Ran = Over o (λ h. IfSome o.input (Ran h))
 
--- nothing was read, nothing was printed, the disk stayed as it was, and no stored row was looked at
+-- nothing was read, nothing was printed, the disk stayed as it was, and no stored row was read
 abbrev pub Untouched : Type 0 → Type 0 → Type 0 → Outside → Type 0
 Untouched unread unprinted kept o = unread × unprinted × kept × (o.reads ≡ 0)
 
--- the disk failed while the journal's header was written: reads give a file that stands for the opening history as
--- before, and a crash might have left one
+-- the disk failed while the journal's header was written: reads give a file that represents the opening history as
+-- before, and so does each crash image
 pub record HeaderFailed (told : Type 0) (left : List ℕ → Type 0) (before after : Option (List ℕ)) : Type 0 where
   pub opening : History
   pub stood : IfSome before (λ file. Stands file opening)
   pub holds : told → Holds after opening
   pub images : (c : List ℕ) → left c → Stands c opening
 
--- nothing was read and nothing printed, no stored row was looked at, and the disk stayed as it was, or failed while the
+-- nothing was read and nothing printed, no stored row was read, and the disk stayed as it was, or failed while the
 -- header was written
 abbrev pub NotBegun : Type 0 → (List ℕ → Type 0) → Type 0 → Type 0 → Type 0 → Outside → Type 0
 NotBegun told left unread unprinted kept o =
     unread × unprinted × (kept ⊎ HeaderFailed told left o.file_before o.file) × (o.reads ≡ 0)
 
--- and this is where the file is damaged, so that it stands for no history
+-- the file is damaged at this place, so it represents no history
 abbrev pub IsDamaged : ℕ → Outside → Type 0
 IsDamaged at o = IfSome o.file_before (λ file. IsDamagedAt file at)
 
@@ -152,7 +153,7 @@ RanTo NoMemory told left unread unprinted kept o =
 RanTo InputLong told left unread unprinted kept o =
     OverScript o (λ h input. (INPUT_LIMIT < length input) × RanWhole told left h (executed_lines input) o)
 
--- P of a call that opened the journal, and that neither the disk nor want of memory ended
+-- P of a call that opened the journal, unless it ended with a disk fault or out of memory
 abbrev pub IfWentOn : Status → Type 0 → Type 0
 IfWentOn BadWords P = ⊤
 IfWentOn DiskFault P = ⊤
@@ -160,7 +161,7 @@ IfWentOn (Damaged at) P = ⊤
 IfWentOn NoMemory P = ⊤
 IfWentOn other P = P
 
--- the header stands before the source is read or an image is written, where the disk told its bytes at first
+-- the header is on the disk before the source is read or an image is written, if the disk reported its bytes at first
 abbrev pub HeaderAfter : Status → Type 0 → Option (List ℕ) → Type 0
 HeaderAfter status told file = IfWentOn status (told → IsSomeAnd file HasHeader)
 

@@ -56,9 +56,9 @@ pub record NothingRan (told : Type 0) (left : List ℕ → Type 0) (h : History)
   pub holds : told → Holds file h
   pub images : (c : List ℕ) → left c → Stands c h
 
--- memory ran out while workers ran, or for what is printed: nothing was printed. Sessions had run as far as memory
--- sufficed, looked at so many stored rows, and left a state. The journal stands for its history, or for that and the
--- event at which the disk failed
+-- memory ran out while workers ran, or for the text to print: nothing was printed. Sessions had run until memory ran
+-- out, read so many stored rows, and left a state. The journal represents its history, or that and the event at which
+-- the disk failed
 pub record GaveUp (told : Type 0) (left : List ℕ → Type 0) (h : History) (input : List ℕ) (reads : ℕ)
     (unprinted : Type 0) (file : Option (List ℕ)) : Type 0 where
   pub printed_nothing : unprinted
@@ -67,9 +67,9 @@ pub record GaveUp (told : Type 0) (left : List ℕ → Type 0) (h : History) (in
   pub holds : told → IsSomeAnd file (StandsForEither state.history (latest state.history state.failed))
   pub images : (c : List ℕ) → left c → IsBetween h state.history state.failed c
 
--- over a history an input was run by a worker for each session. They looked at so many stored rows, and left a state
--- and an output, of which this was written, told by the history that they left. The journal stands for that history,
--- or for that and the event at which the disk failed
+-- over a history, an input was run by a worker for each session. They read so many stored rows, and left a state and
+-- an output. Of that, this was written, by the history that they left. The journal represents that history, or that
+-- and the event at which the disk failed
 pub record ByWorkers (told : Type 0) (left : List ℕ → Type 0) (h : History) (input : List ℕ) (reads : ℕ)
     (stopped : Bool) (Faulted : Bool → Type 0) (Wrote : History → Output → Type 0)
     (file : Option (List ℕ)) : Type 0 where

@@ -1,4 +1,4 @@
-//! The audit of a transcript beside a journal.
+//! Audits a transcript against a journal.
 ghost use Rattle.std.specs.Prelude.{◌≡◌, ◌++◌, ◌≤◌, ℕ, List, Option, codes, decimal, false, length};
 ghost use Rattle.std.specs.Thread.{IsSync};
 ghost use Rattle.ts_disk.specs.Disk.{Keeps};
@@ -21,7 +21,7 @@ use ts_disk::Disk;
 use ts_io::{AllEnd, Sink, Source, read_all};
 use ts_store::{HistoryRead, read_history};
 
-/// The line of an audit. It takes no memory.
+/// The line of an audit. It needs no memory.
 type Line = ArrayString<70>;
 
 /// A word and a position.
@@ -36,7 +36,7 @@ fn word_at(word: &str, at: u64) -> Line
     line
 }
 
-/// A reply by its session and its place, behind a word.
+/// A reply by its session and its place, after a word.
 fn reply_at(word: &str, session: u64, reply: u64) -> Line
     requires short { length word.now ≤ 21 }
     ensures line { result.bytes ≡ reply_line word.now session reply }
@@ -50,7 +50,7 @@ fn reply_at(word: &str, session: u64, reply: u64) -> Line
     line
 }
 
-/// The line where all replies are explained: how many there are, and where the history ends.
+/// The line if all replies are explained: how many there are, and the position at which the history ends.
 fn yes_line(replies: u64, end: u64) -> Line
     ensures line { result.bytes ≡ yes_text end replies }
 {
@@ -70,28 +70,28 @@ fn no_line(session: u64, reply: u64) -> Line
     reply_at("AUDIT NO session ", session, reply)
 }
 
-/// The line of a position that isn't named once.
+/// The line of a position that isn't named exactly once.
 fn lost_line(at: u64) -> Line
     ensures line { result.bytes ≡ codes "AUDIT LOST @" ++ decimal at ++ codes "\n" }
 {
     word_at("AUDIT LOST @", at)
 }
 
-/// The line of a reply whose line asks for policies.
+/// The line of a reply to a statement on policies.
 fn policy_line(session: u64, reply: u64) -> Line
     ensures line { result.bytes ≡ reply_line (codes "AUDIT POLICY session ") session reply }
 {
     reply_at("AUDIT POLICY session ", session, reply)
 }
 
-/// The line of a start that the history, which ends here, doesn't have.
+/// The line of a start that isn't in the history. `at` is the history's end.
 fn early_line(at: u64) -> Line
     ensures line { result.bytes ≡ codes "AUDIT EARLY @" ++ decimal at ++ codes "\n" }
 {
     word_at("AUDIT EARLY @", at)
 }
 
-/// The line of a text that is no transcript.
+/// The line of a text that isn't a transcript.
 fn bad_line() -> Line
     ensures line { result.bytes ≡ codes "AUDIT BAD\n" }
 {
@@ -100,8 +100,8 @@ fn bad_line() -> Line
     line
 }
 
-/// Prints the line of an audit over a history that ends at a position, and tells how the call ends. Where
-/// memory ran out nothing is printed.
+/// Prints the line of an audit over a history that ends at a position. Returns how the call ends. If memory ran
+/// out, nothing is printed.
 fn print_audit<K: Sink>(sink: &mut K, audit: Audit, end: u64) -> Status
     ensures prints { PrintsAudit audit end result (sink.new ≡ sink.old) (K.written sink.old) (K.written sink.new) }
     ensures counted { Counted (K.faults sink.old) (K.faults sink.new) (is_write_fault result) }
@@ -121,8 +121,7 @@ fn print_audit<K: Sink>(sink: &mut K, audit: Audit, end: u64) -> Status
     }
 }
 
-/// Prints whether the history of a ledger explains the transcript that a text is, and tells how the call
-/// ends.
+/// Prints whether the history of a ledger explains the transcript in `text`. Returns how the call ends.
 fn audit_read<R: Threads + Sync, K: Sink>(
     rt: &R,
     alloc: Global,
@@ -140,8 +139,8 @@ fn audit_read<R: Threads + Sync, K: Sink>(
     print_audit(sink, found, end)
 }
 
-/// Prints whether the history that the journal on the disk stands for explains the transcript that a text is.
-/// The disk stays as it was. The history stays with the process, which is at its end: freeing its events one
+/// Prints whether the history that the journal on the disk represents explains the transcript in `text`. The disk
+/// stays as it was. The call never frees the history, since the process is about to end and freeing its events one
 /// by one would take time.
 fn audit_beside<R, K, D>(rt: &R, alloc: Global, text: &[u8], sink: &mut K, disk: D) -> Ended<D>
 where
@@ -191,9 +190,8 @@ where
     }
 }
 
-/// Reads a transcript, and prints whether the history that the journal on the disk stands for explains it.
-/// The journal is read once the text has ended: the run that writes the transcript may write the journal
-/// until then.
+/// Reads a transcript, and prints whether the history that the journal on the disk represents explains it. The
+/// journal is read after the end of the text: the run that writes the transcript may write the journal until then.
 pub(crate) fn audit_transcript<R, S, K, D>(
     rt: &R,
     alloc: Global,

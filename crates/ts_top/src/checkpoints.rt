@@ -1,4 +1,4 @@
-//! The image of a journal's history, put behind the journal.
+//! Appends the image of a journal's history to the journal.
 ghost use Rattle.std.specs.Prelude.{◌≡◌, ◌++◌, ◌≤◌, ℕ, List, None, Option, codes, decimal, false, length, true, IsSome};
 ghost use Rattle.ts_disk.specs.Disk.{Keeps};
 ghost use Rattle.ts_io.specs.Faults.{Counted};
@@ -19,10 +19,10 @@ use ts_disk::Disk;
 use ts_io::{Sink, WriteFault, write_whole};
 use ts_store::{CheckEnd, Checkpointed, Store};
 
-/// How many bytes an image may have.
+/// The most bytes that an image may have.
 const LONGEST_IMAGE: u64 = 1_073_741_824;
 
-/// The line of a checkpoint. It takes no memory, so that none is wanted once the image stands.
+/// The line of a checkpoint. It needs no memory, so that memory can't run out after the image is written.
 type Line = ArrayString<70>;
 
 /// A word, a position and a count of bytes.
@@ -39,7 +39,7 @@ fn place_and_bytes(word: &str, pos: u64, bytes: u64) -> Line
     line
 }
 
-/// The line of an image that stands on the disk.
+/// The line of an image that is on the disk.
 fn saved_line(pos: u64, bytes: u64) -> Line
     ensures line { result.bytes ≡ saved_text pos bytes }
 {
@@ -64,7 +64,7 @@ fn nothing_line(pos: u64) -> Line
     line
 }
 
-/// Prints a line of a call that ends so, unless the sink fails.
+/// Prints a line of a call that ends so. If the sink fails, the call ends with that instead.
 pub(crate) fn print_line<K: Sink>(sink: &mut K, line: Line, end: Status) -> Status
     requires writes { is_write_fault end ≡ false }
     ensures prints { Prints end line.bytes result (K.written sink.old) (K.written sink.new) }
@@ -76,7 +76,7 @@ pub(crate) fn print_line<K: Sink>(sink: &mut K, line: Line, end: Status) -> Stat
     }
 }
 
-/// Prints how a checkpoint ended, where it has a line.
+/// Prints the line for the end of a checkpoint, if it has one.
 fn tell_end<K: Sink>(sink: &mut K, end: CheckEnd) -> Status
     ensures tells { TellsEnd end result (sink.new ≡ sink.old) (K.written sink.old) (K.written sink.new) }
     ensures counted { Counted (K.faults sink.old) (K.faults sink.new) (is_write_fault result) }
@@ -88,14 +88,13 @@ fn tell_end<K: Sink>(sink: &mut K, end: CheckEnd) -> Status
             print_line(sink, too_long_line(pos, bytes), Status::Refused)
         }
         CheckEnd::DiskFault => Status::DiskFault,
-        // A store that goes on doesn't answer so.
+        // A store that hasn't stopped doesn't answer so.
         CheckEnd::Stopped(_) => Status::DiskFault,
         CheckEnd::NoMemory => Status::NoMemory,
     }
 }
 
-/// Puts the image of a store's history behind its journal, which has its header, and prints how that
-/// ended.
+/// Appends the image of a store's history to its journal, which has its header. Prints how that ended.
 fn save<K: Sink, D: Disk>(sink: &mut K, store: Store<D>) -> Ended<D>
     requires goes_on { store.failed ≡ None }
     requires armed { store.armed ≡ true }
@@ -132,8 +131,8 @@ fn save<K: Sink, D: Disk>(sink: &mut K, store: Store<D>) -> Ended<D>
     }
 }
 
-/// Puts the image of the history that the journal on the disk stands for behind that journal, and prints
-/// how that ended. Nothing is read.
+/// Appends the image of the history that the journal on the disk represents to that journal. Prints how that
+/// ended. Nothing is read from the source.
 pub(crate) fn checkpoint<R: Threads + Sync, K: Sink, D: Disk>(
     rt: &R,
     alloc: Global,

@@ -1,23 +1,23 @@
-//! What the words of the command line ask for.
+//! The commands that the words of the command line name.
 ghost use Rattle.std.specs.Prelude.{◌≡◌, map, string_bytes};
 ghost use Rattle.ts_top.specs.Commands.{command_of, demo_number, is_digit, command_of_words, number_from, of_word, of_words, writes};
 
-/// What there is to ask for.
+/// A command of the command line.
 #[derive(Clone, Copy, Debug, PartialEq, Eq)]
 pub enum Command {
-    /// To run the lines of the input in order, over the history of the journal.
+    /// Run the lines of the input in order, on the history of the journal.
     Run,
-    /// To run the lines of the input by a worker for each session, over the history of the journal.
+    /// Run the lines of the input by a worker for each session, on the history of the journal.
     Par,
-    /// The same, and to print the transcript of the run in place of its replies.
+    /// The same, and print the transcript of the run instead of its replies.
     ParJson,
-    /// To run the script of the demonstration with a number below a million, and to print a summary.
+    /// Run the script of the demonstration with a number below a million, and print a summary.
     Demo(u32),
-    /// To print a text of the journal.
+    /// Print a text of the journal.
     Print(Text),
-    /// To put the image of the journal's history behind the journal.
+    /// Append the image of the journal's history to the journal.
     Checkpoint,
-    /// To audit a transcript beside the journal.
+    /// Audit a transcript against the journal.
     Audit,
 }
 
@@ -38,16 +38,16 @@ impl Command {
     }
 }
 
-/// What is printed of a journal.
+/// The text that is printed of a journal.
 #[derive(Clone, Copy, Debug, PartialEq, Eq)]
 pub enum Text {
     /// A line for each event.
     Log,
-    /// Its position, and the refreshes that wait.
+    /// Its position, and the pending refreshes.
     Check,
 }
 
-/// The command that this word is.
+/// The command that this word names.
 fn of_word(word: &str) -> Option<Command>
     ensures { result ≡ of_word word.now }
 {
@@ -75,7 +75,7 @@ fn is_digit(byte: u8) -> bool
     b'0' <= byte && byte <= b'9'
 }
 
-/// The number that begins with `so_far` and goes on with these digits, where it is below a million.
+/// The number that begins with `so_far` and continues with these digits, if it is below a million.
 fn number_from(so_far: u32, digits: &[u8]) -> Option<u32>
     ensures { result ≡ number_from so_far digits.now }
 {
@@ -91,7 +91,7 @@ fn number_from(so_far: u32, digits: &[u8]) -> Option<u32>
     }
 }
 
-/// A number below a million, written without zeros in front.
+/// A number below a million, written without leading zeros.
 fn demo_number(digits: &[u8]) -> Option<u32>
     ensures { result ≡ demo_number digits.now }
 {
@@ -102,7 +102,7 @@ fn demo_number(digits: &[u8]) -> Option<u32>
     }
 }
 
-/// The command that these two words are.
+/// The command that these two words name.
 fn of_words(word: &str, next: &str) -> Option<Command>
     ensures { result ≡ of_words word.now next.now }
 {
@@ -115,7 +115,7 @@ fn of_words(word: &str, next: &str) -> Option<Command>
     }
 }
 
-/// The command that these words are.
+/// The command that these words name.
 fn command_named(words: &[String]) -> Option<Command>
     ensures { result ≡ command_of_words (map string_bytes words.now) }
 {
@@ -126,7 +126,7 @@ fn command_named(words: &[String]) -> Option<Command>
     }
 }
 
-/// What the words ask for. A first `--` is left out.
+/// The command that the words name. A leading `--` is ignored.
 pub fn command_of(words: &[String]) -> Option<Command>
     ensures { result ≡ command_of (map string_bytes words.now) }
 {

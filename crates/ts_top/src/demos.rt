@@ -13,8 +13,8 @@ use ts_disk::Disk;
 use ts_io::{Sink, WriteFault, write_whole};
 use ts_schema::NoMemory;
 
-/// Runs the script of the demonstration with this number over a memory disk of its own, and prints the
-/// summary. The disk handed in isn't touched.
+/// Runs the script of the demonstration with this number on a new memory disk, and prints the summary. The given
+/// disk isn't touched.
 #[tactic(auto, using(demo_run::proofs::DemoLaws::never_refused))]
 pub(crate) fn print_demo<R: Threads + Sync, K: Sink, D: Disk>(
     rt: &R,
@@ -54,7 +54,7 @@ pub(crate) fn print_demo<R: Threads + Sync, K: Sink, D: Disk>(
     }
 }
 
-/// How the call ends whose summary was written or not.
+/// How the call ends, by whether its summary was written.
 fn status_of_shown(written: Result<(), WriteFault>) -> Status
     ensures { result ≡ status_of_shown written }
 {

@@ -10,10 +10,10 @@ use ts_disk::Disk;
 pub enum Status {
     /// Everything was done, and no reply is a FAULT.
     Done,
-    /// Everything was done, and a reply is a FAULT, or the image of a checkpoint is too long, or an audit didn't
+    /// Everything was done, but a reply is a FAULT, the image of a checkpoint is too long, or an audit didn't
     /// answer `YES`.
     Refused,
-    /// The words ask for nothing that there is.
+    /// The words name no command.
     BadWords,
     /// The source failed, and its count of faults rose.
     ReadFault,
@@ -21,24 +21,24 @@ pub enum Status {
     WriteFault,
     /// The disk failed, and its count of faults rose.
     DiskFault,
-    /// The journal stands for no history. This is its first damaged place.
+    /// The journal represents no history. This is its first damaged place.
     Damaged(u64),
-    /// There was no memory.
+    /// Memory ran out.
     NoMemory,
-    /// The source gave a byte beyond the limit. `run` has executed the lines that end within it; `par` has executed
-    /// none, and `audit` has printed nothing.
+    /// The source gave a byte beyond the limit. `run` has executed the lines that end within it; `par` has
+    /// executed none, and `audit` has printed nothing.
     InputLong,
 }
 
-/// The end of the top call: how it ended, the disk that it was given, and how many stored rows its
-/// answers and refreshes looked at.
+/// The end of the top call: how it ended, the disk that it was given, and how many stored rows its answers and
+/// refreshes read.
 #[derive(Drop)]
 pub struct Ended<D: Disk> {
     /// How it ended.
     pub status: Status,
     /// The disk.
     pub disk: D,
-    /// How many stored rows were looked at. At `u64::MAX` the count stands still.
+    /// How many stored rows were read. The count stops at `u64::MAX`.
     pub reads: u64,
 }
 
@@ -76,7 +76,7 @@ pub(crate) fn status_of(end: RunEnd) -> Status
     }
 }
 
-/// How a call ends whose lines were all answered, with a FAULT among the replies or without one.
+/// How a call ends whose lines were all answered. `refused` is whether a reply is a FAULT.
 pub(crate) fn status_answered(refused: bool) -> Status
     ensures { result ≡ status_answered refused }
 {

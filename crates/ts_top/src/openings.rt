@@ -1,4 +1,4 @@
-//! How the journal on a disk is opened for a script.
+//! Opens the journal on a disk for a script.
 ghost use Rattle.std.specs.Prelude.{◌≡◌, ℕ, List, None, Option, Some, true, IfErr, IfOk, IfSome, IsSome};
 ghost use Rattle.ts_disk.specs.Disk.{Keeps};
 ghost use Rattle.ts_io.specs.Faults.{Counted};
@@ -16,7 +16,7 @@ use ts_disk::Disk;
 use ts_store::{Started, Store};
 use txn_journal::Append;
 
-/// Writes the header of the journal of a store at its start, where there is none.
+/// Writes the header of the journal of a store at its start, if it is missing.
 fn write_header<D: Disk>(mut store: Store<D>) -> Result<Store<D>, Ended<D>>
     requires goes_on { store.failed ≡ None }
     requires whole { opening_history store ≡ history_seen store }
@@ -53,7 +53,7 @@ fn write_header<D: Disk>(mut store: Store<D>) -> Result<Store<D>, Ended<D>>
             disk: store.close(),
             reads: 0,
         }),
-        // A store that goes on doesn't answer so.
+        // A store that hasn't stopped doesn't answer so.
         Append::Stopped => Err(Ended {
             status: Status::DiskFault,
             disk: store.close(),
@@ -62,8 +62,8 @@ fn write_header<D: Disk>(mut store: Store<D>) -> Result<Store<D>, Ended<D>>
     }
 }
 
-/// A store over the history that the journal on the disk stands for, whose journal has its header; or how
-/// the call ends where there is none. Nothing is read or printed.
+/// Opens a store on the history that the journal on the disk represents, and writes the journal's header if it is
+/// missing. If that fails, returns how the call ends. Nothing is read from the source or printed.
 pub(crate) fn open<R: Threads + Sync, D: Disk>(
     rt: &R,
     alloc: Global,

@@ -1,4 +1,4 @@
-//! Inputs that are run by a worker for each session, over the history of a journal.
+//! Runs inputs by a worker for each session, on the history of a journal.
 ghost use Rattle.std.specs.Prelude.{◌≡◌, ◌≢◌, ◌<◌, ◌≤◌, ◌^◌, ℕ, List, None, Option, false, true, length, IfSome, IsSomeAnd, IsTrue, IsSome};
 ghost use Rattle.std.specs.Thread.{IsSync};
 ghost use Rattle.ts_schema.specs.Faults.{Rose};
@@ -39,7 +39,7 @@ use ts_schema::{Name, NoMemory, Seq};
 use ts_sessions::Session;
 use ts_store::Store;
 
-/// What is printed of a parallel run.
+/// The form in which a parallel run is printed.
 #[derive(Clone, Copy, Debug, PartialEq, Eq)]
 pub(crate) enum Replies {
     /// The refusals of lines that no session answers, and all replies.
@@ -48,7 +48,7 @@ pub(crate) enum Replies {
     Json,
 }
 
-/// What the sessions of a parallel run were replied.
+/// The replies of a parallel run.
 #[derive(Drop)]
 struct RunReplies {
     /// The position at which the run began.
@@ -65,7 +65,7 @@ struct RunReplies {
     stop: ParStop,
 }
 
-/// A call that ended so without a statement, over a store whose journal has its header.
+/// Ends a call without a statement, over a store whose journal has its header.
 fn close_store<D: Disk>(store: Store<D>, status: Status) -> Ended<D>
     requires goes_on { store.failed ≡ None }
     requires armed { store.armed ≡ true }
@@ -86,8 +86,8 @@ fn close_store<D: Disk>(store: Store<D>, status: Status) -> Ended<D>
     }
 }
 
-/// Prints the replies of a parallel run that stopped so, and tells how the call ends. A disk fault is told
-/// whatever the sink does after it. Where memory ran out there are none.
+/// Prints the replies of a parallel run that stopped so. Returns how the call ends. A disk fault is reported even
+/// if the sink fails after it. If memory ran out, there are no replies.
 fn print_replies<K: Sink>(sink: &mut K, text: &[u8], fault: bool, stop: ParStop) -> Status
     ensures prints { PrintsReplies stop fault text.now result (Rose (K.faults sink.old) (K.faults sink.new))
         (K.written sink.old) (K.written sink.new) }
@@ -106,7 +106,7 @@ fn print_replies<K: Sink>(sink: &mut K, text: &[u8], fault: bool, stop: ParStop)
     }
 }
 
-/// Prints a transcript that is ASCII, and tells how the call ends.
+/// Prints a transcript that is ASCII. Returns how the call ends.
 fn print_ascii<K: Sink>(sink: &mut K, transcript: &Transcript, refused: bool) -> Status
     requires ascii { IsTrue (is_ascii_transcript transcript.now) }
     requires start { transcript.now.start < 2 ^ 64 }
@@ -120,8 +120,8 @@ fn print_ascii<K: Sink>(sink: &mut K, transcript: &Transcript, refused: bool) ->
     }
 }
 
-/// Prints a transcript, and tells how the call ends. Each reply is ASCII; no clause of the sessions says so,
-/// and one that isn't would be answered as want of memory.
+/// Prints a transcript. Returns how the call ends. Each reply is ASCII, but no clause of the sessions says so: one
+/// that isn't would be reported as out of memory.
 fn print_made<K: Sink>(sink: &mut K, transcript: &Transcript, refused: bool) -> Status
     requires start { transcript.now.start < 2 ^ 64 }
     ensures prints { PrintsTranscript ParStop.Done refused transcript.now result
@@ -135,8 +135,8 @@ fn print_made<K: Sink>(sink: &mut K, transcript: &Transcript, refused: bool) -> 
     }
 }
 
-/// Prints the transcript of a run that was executed whole, and tells how the call ends. Where there is no
-/// memory for it nothing is printed.
+/// Prints the transcript of a run that was executed to its end. Returns how the call ends. If memory runs out for
+/// it, nothing is printed.
 fn print_executed<K: Sink>(
     alloc: Global,
     sink: &mut K,
@@ -152,7 +152,7 @@ fn print_executed<K: Sink>(
     match transcript_of(alloc, start, names, lines) {
         Ok(transcript) => {
             let status = print_made(sink, &transcript, refused);
-            // The call ends behind it, so it stays with the process.
+            // The call ends after it, so its memory isn't freed.
             forget(transcript);
             status
         }
@@ -160,8 +160,8 @@ fn print_executed<K: Sink>(
     }
 }
 
-/// Prints the transcript of a parallel run, and tells how the call ends. Where the disk failed, or memory ran
-/// out, nothing is printed.
+/// Prints the transcript of a parallel run. Returns how the call ends. If the disk failed, or memory ran out,
+/// nothing is printed.
 fn print_transcript<K: Sink>(alloc: Global, sink: &mut K, replied: RunReplies) -> Status
     ensures prints { PrintsTranscript replied.stop replied.fault (transcript_in replied.start (output_in replied))
         result (K.written sink.old) (K.written sink.new) }
@@ -175,7 +175,7 @@ fn print_transcript<K: Sink>(alloc: Global, sink: &mut K, replied: RunReplies) -
         lines,
         stop,
     } = replied;
-    // Each reply stands beside its line too.
+    // The transcript has each reply too.
     drop(text);
     match stop {
         ParStop::Done => print_executed(alloc, sink, start, names.items(), lines, fault),
@@ -184,7 +184,7 @@ fn print_transcript<K: Sink>(alloc: Global, sink: &mut K, replied: RunReplies) -
     }
 }
 
-/// Prints a parallel run, and tells how the call ends.
+/// Prints a parallel run. Returns how the call ends.
 fn print_run<K: Sink>(alloc: Global, replies: Replies, sink: &mut K, replied: RunReplies) -> Status
     ensures prints { Prints replies replied.stop replied.start (output_in replied) result
         (Rose (K.faults sink.old) (K.faults sink.new)) (K.written sink.old) (K.written sink.new) }
@@ -193,7 +193,7 @@ fn print_run<K: Sink>(alloc: Global, replies: Replies, sink: &mut K, replied: Ru
     match replies {
         Replies::Plain => {
             let status = print_replies(sink, replied.text.items(), replied.fault, replied.stop);
-            // The call ends behind them, so they stay with the process.
+            // The call ends after them, so their memory isn't freed.
             forget(replied);
             status
         }
@@ -201,7 +201,7 @@ fn print_run<K: Sink>(alloc: Global, replies: Replies, sink: &mut K, replied: Ru
     }
 }
 
-/// Runs an input by a worker for each session, over a store that is alone and goes on.
+/// Runs an input by a worker for each session, on a store that is alone and hasn't stopped.
 fn run_sessions<B, R, G>(rt: &R, alloc: Global, backend: B, input: &[u8], gate: &G) -> ParEnd<B>
 where
     B: Backend + Send,
@@ -226,7 +226,7 @@ where
     run_in_parallel::<PolicySession<Session<B::Shot>>, B, R, G>(rt, alloc, backend, input, gate)
 }
 
-/// Runs an input by a worker for each session, over a store whose journal has its header, and prints the run.
+/// Runs an input by a worker for each session, on a store whose journal has its header, and prints the run.
 fn run_input<R, K, D, G>(
     rt: &R,
     alloc: Global,
@@ -281,8 +281,7 @@ where
     }
 }
 
-/// Reads the whole input, and runs it by a worker for each session, over a store whose journal has its
-/// header.
+/// Reads the whole input, and runs it by a worker for each session, on a store whose journal has its header.
 fn run_all<R, S, K, D, G>(
     rt: &R,
     alloc: Global,
@@ -331,8 +330,8 @@ where
     }
 }
 
-/// Runs the whole input by a worker for each session, over the history that the journal on the disk
-/// stands for, and prints the run.
+/// Runs the whole input by a worker for each session, on the history that the journal on the disk represents, and
+/// prints the run.
 pub(crate) fn par<R, S, K, D, G>(
     rt: &R,
     alloc: Global,

@@ -1,4 +1,4 @@
-//! What is printed of a journal.
+//! Prints texts of a journal.
 ghost use Rattle.std.specs.Prelude.{◌≡◌, ◌+◌, ◌++◌, ◌<◌, ◌^◌, ℕ, List, Option, IfOk, OnErr, OnOk, length, string_bytes};
 ghost use Rattle.std.specs.Io.KnownBytes.{Appends};
 ghost use Rattle.ts_disk.specs.Disk.{Keeps};
@@ -31,7 +31,7 @@ use ts_store::{HistoryRead, read_history};
 enum PrintStop {
     /// The sink failed, and its count of faults rose.
     WriteFault,
-    /// There was no memory.
+    /// Memory ran out.
     NoMemory,
 }
 
@@ -105,7 +105,7 @@ fn image_line(alloc: Global, pos: u64) -> Result<String, NoMemory>
     Ok(format!(in alloc; "IMAGE @{}\n", pos)?)
 }
 
-/// Prints the line of the image that a history begins with, where there is one.
+/// Prints the line of the image that a history begins with, if there is one.
 fn print_base<K: Sink>(alloc: Global, sink: &mut K, base: &Option<Image>) -> Result<(), PrintStop>
     ensures done { OnOk result (Appends (K.written sink.old) (K.written sink.new) (begun_text base.now)) }
     ensures part { OnErr result (AppendsPart (K.written sink.old) (K.written sink.new) (begun_text base.now)) }
@@ -136,7 +136,7 @@ fn print_log<K: Sink>(alloc: Global, sink: &mut K, ledger: &Ledger) -> Result<()
     Ok(())
 }
 
-/// Appends the line of a refresh that waits.
+/// Appends the line of a pending refresh.
 fn put_waiting(refresh: &Waiting, names: &Roster, out: &mut Vec<u8>) -> Result<(), NoMemory>
     ensures appended { IfOk result (λ _. out.new.items
         ≡ out.old.items ++ waiting_text refresh.now (view_of names.now refresh.now.view)) }
@@ -153,7 +153,7 @@ fn put_waiting(refresh: &Waiting, names: &Roster, out: &mut Vec<u8>) -> Result<(
     }
 }
 
-/// Appends the lines of refreshes that wait.
+/// Appends the lines of pending refreshes.
 fn put_all_waiting(refreshes: &[Waiting], names: &Roster, out: &mut Vec<u8>) -> Result<(), NoMemory>
     ensures appended { IfOk result (λ _. out.new.items ≡ out.old.items ++ waiting_texts names.now refreshes.now) }
 {
@@ -163,7 +163,7 @@ fn put_all_waiting(refreshes: &[Waiting], names: &Roster, out: &mut Vec<u8>) -> 
     Ok(())
 }
 
-/// The position of a ledger's history, and the refreshes that wait.
+/// The position of a ledger's history, and its pending refreshes.
 fn check_text(alloc: Global, ledger: &Ledger) -> Result<Vec<u8>, NoMemory>
     ensures text { IfOk result (λ text. text.items ≡ check_of (history_of ledger.now.past)) }
 {
@@ -173,7 +173,7 @@ fn check_text(alloc: Global, ledger: &Ledger) -> Result<Vec<u8>, NoMemory>
     Ok(text)
 }
 
-/// Prints the position of a ledger's history, and the refreshes that wait.
+/// Prints the position of a ledger's history, and its pending refreshes.
 fn print_check<K: Sink>(alloc: Global, sink: &mut K, ledger: &Ledger) -> Result<(), PrintStop>
     ensures done { OnOk result (Appends (K.written sink.old) (K.written sink.new)
         (check_of (history_of ledger.now.past))) }
@@ -216,8 +216,8 @@ fn status_of_print(printed: Result<(), PrintStop>) -> Status
     }
 }
 
-/// Prints a text of the journal on the disk, and leaves the disk as it was. The history stays with the
-/// process, which is at its end: letting go of its events one by one would take time.
+/// Prints a text of the journal on the disk, and leaves the disk as it was. The call never frees the history,
+/// since the process is about to end and freeing its events one by one would take time.
 pub(crate) fn print<R: Threads + Sync, K: Sink, D: Disk>(
     rt: &R,
     alloc: Global,

@@ -24,17 +24,17 @@ use ts_disk::Disk;
 use ts_io::{Sink, Source};
 use ts_model::Gate;
 
-/// Does what the words ask for, with or without `--` before them: `run` runs the lines of the source in order
-/// over the history of the journal on the disk, and writes their replies to the sink; `par` reads them all,
-/// and runs them by a worker for each session; `par json` does the same, and writes the transcript of the run
-/// in place of its replies, where neither memory nor the disk failed; `demo` and a number runs a script of
-/// its own over a disk of its own, and writes a summary; `log` and `check` print what stands in the journal;
-/// `checkpoint` puts the image of the journal's history behind the journal, so that a later call begins
-/// there; `audit` reads a transcript, and writes whether the history of the journal explains it. With other words
-/// nothing is done.
+/// Runs the command that the words name, with or without `--` before them. `run` runs the lines of the source in
+/// order on the history of the journal on the disk, and writes their replies to the sink. `par` reads all lines,
+/// and runs them by a worker for each session. `par json` does the same, and writes the transcript of the run
+/// instead of its replies, unless memory or the disk failed. `demo` and a number runs the script of a
+/// demonstration on a new disk in memory, and writes a summary. `log` and `check` print the contents of the
+/// journal. `checkpoint` appends the image of the journal's history to the journal, so that a later call begins
+/// there. `audit` reads a transcript, and writes whether the history of the journal explains it. Other words do
+/// nothing.
 ///
-/// The source is one that hasn't told its end. The gate is called by the workers of `par` and `par json` alone,
-/// for which the call may wait.
+/// The source hasn't reported its end. Only the workers of `par` and `par json` call the worker hook; the call may
+/// wait for it.
 pub fn run_words<R, S, K, D, G>(
     rt: &R,
     alloc: Global,

@@ -1,4 +1,4 @@
-//! Scripts over the history of a journal.
+//! Runs scripts on the history of a journal.
 ghost use Rattle.std.specs.Prelude.{◌≡◌, ℕ, List, None, Option, false, true, IfSome, IsSome};
 ghost use Rattle.ts_disk.specs.Disk.{Keeps};
 ghost use Rattle.ts_io.specs.Faults.{Counted};
@@ -20,11 +20,11 @@ use ts_schema::Steps;
 use ts_sessions::Session;
 use ts_store::Store;
 
-/// What is counted: the stored rows that answers and refreshes look at.
+/// The counter of stored rows that answers and refreshes read.
 #[derive(Drop)]
 struct Reads;
 
-/// Runs the lines of the source in order, over a store whose journal has its header.
+/// Runs the lines of the source in order, on a store whose journal has its header.
 fn run_lines<R: Threads + Sync, S: Source, K: Sink, D: Disk>(
     rt: &R,
     alloc: Global,
@@ -66,7 +66,7 @@ fn run_lines<R: Threads + Sync, S: Source, K: Sink, D: Disk>(
     }
 }
 
-/// Runs the lines of the source in order, over the history that the journal on the disk stands for.
+/// Runs the lines of the source in order, on the history that the journal on the disk represents.
 pub(crate) fn run<R: Threads + Sync, S: Source, K: Sink, D: Disk>(
     rt: &R,
     alloc: Global,

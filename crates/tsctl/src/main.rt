@@ -1,5 +1,5 @@
-//! The program: standard input, standard output and the journal's file handed to the top call, and its
-//! ending told by the exit status and a line on standard error.
+//! The program. It passes standard input, standard output and the journal's file to the top call, and reports the
+//! ending by the exit status and a line on standard error.
 #![tactic(auto)]
 
 use std::alloc::Global;
@@ -21,10 +21,10 @@ const JOURNAL: &str = "tsctl.journal";
 /// A file that is always there, and has no bytes.
 const NOTHING: &str = "/dev/null";
 
-/// How many bytes a block has whose release tells the C library how much freed memory it may keep.
+/// The size in bytes of a block whose release makes the C library keep more freed memory.
 const KEPT_MEMORY: usize = 32_000_000;
 
-/// What standard error is told of an ending but that of a damaged journal, whose line names a place.
+/// The line on standard error for an ending. A damaged journal has a line with a place instead.
 fn message(status: Status) -> Option<&'static str> {
     match status {
         Status::Done | Status::Refused => None,
@@ -40,9 +40,9 @@ fn message(status: Status) -> Option<&'static str> {
     }
 }
 
-/// Lets the C library keep freed memory for the next statement. It gives the end of its heap back to the
-/// system once more than a threshold is free there, and raises the threshold to twice the size of a large
-/// block that is released. This one is taken and released untouched.
+/// Makes the C library keep freed memory for the next statement. The library returns the end of its heap to the
+/// system if more than a threshold is free there, and raises the threshold to twice the size of a large block that
+/// is released. This function allocates such a block and releases it untouched.
 fn keep_freed_memory(alloc: Global) {
     let _block: Result<Vec<u8>, _> = Vec::with_capacity(alloc, KEPT_MEMORY);
 }
@@ -52,8 +52,8 @@ fn words<R: Env + AllocGlobal>(rt: &R) -> io::Result<Vec<String>> {
     Ok(env::args(rt)?.skip(1).collect(rt.alloc())?)
 }
 
-/// The file of the journal. For a command that writes, one is made where there is none, and no other run may
-/// hold it. Others only read it.
+/// Opens the file of the journal. For a command that writes, the file is created if it is missing, and no other
+/// run may hold it. Other commands only read it.
 fn open<R: Files<File = File>>(rt: &R, writes: bool) -> io::Result<File> {
     let mut options = File::options();
     options.read(true).write(writes).create(writes);
@@ -64,13 +64,13 @@ fn open<R: Files<File = File>>(rt: &R, writes: bool) -> io::Result<File> {
     Ok(file)
 }
 
-/// Waits until the input gives a byte or ends. A run whose transcript is piped into an audit has made its
-/// journal by then, so the audit opens that one.
+/// Waits until the input has a byte or ends. If the transcript of a run is piped into an audit, the run has
+/// created its journal by then, so the audit opens that journal.
 fn wait_for_input<B: BufRead>(reader: &mut B) {
     let _ = reader.fill_buf();
 }
 
-/// Does what the words ask for over this input and this disk.
+/// Runs the command that the words name, with this input and this disk.
 fn run_over<R, D>(rt: &R, words: &[String], reader: R::Reader, disk: D) -> Status
 where
     R: Input + Print + Threads + Wait + Sync + AllocGlobal,
@@ -81,15 +81,15 @@ where
     run_words(rt, rt.alloc(), words, &mut source, &mut sink, disk, &NoGate).status
 }
 
-/// Does what the words ask for over the journal's file. One that isn't there is an empty disk for a command
-/// that only reads, and one that can't be opened, or that another run holds, a disk whose every call fails and
-/// is counted.
+/// Runs the command that the words name on the journal's file. For a command that only reads, a missing file is an
+/// empty disk. If the file can't be opened, or another run holds it, the disk is one whose every call fails and is
+/// counted.
 fn run<R>(rt: &R, words: &[String]) -> Status
 where
     R: Input + Print + Threads + Wait + Sync + Files<File = File> + AllocGlobal,
 {
-    // Where standard input, output or error is closed, the next file that is opened gets its number, and
-    // replies would go into the journal. These three take such numbers first: a write to one of them fails.
+    // If standard input, output or error is closed, the next file that is opened gets its number, and replies
+    // would go into the journal. These three take such numbers first: a write to one of them fails.
     let _input = File::open(rt, NOTHING);
     let _output = File::open(rt, NOTHING);
     let _error = File::open(rt, NOTHING);
@@ -116,7 +116,7 @@ where
     }
 }
 
-/// Does what the words of the command line ask for. Words that are no text ask for nothing.
+/// Runs the command on the command line. Words that aren't text name no command.
 fn run_command_line<R>(rt: &R) -> Status
 where
     R: Env + Input + Print + Threads + Wait + Sync + Files<File = File> + AllocGlobal,

@@ -7,13 +7,13 @@ use Rattle.turn_lock.specs.declared.view.Stage.TheVariants.{Idle, Waiting, Turn}
 use Rattle.turn_lock.specs.declared.view.PassState.{PassState}
 use Rattle.turn_lock.specs.declared.held.Held.{Held}
 
--- a pass as clauses see it: which lock it is of, what it knows, and what it has taken out of the lock
+-- the value of a pass in contracts: which lock it is of, what it knows, and what it has taken out of the lock
 pub record Carried (V B E : Type 0) : Type 0 where
   pub lock : TableId
   pub knows : PassState B E
   pub taken : List (ℕ × Option V)
 
--- a lock as clauses see it: which one it is, and the value and the number of shares that it was made with
+-- the value of a lock in contracts: which one it is, and the value and the number of shares that it was made with
 pub record Guarded (V : Type 0) : Type 0 where
   pub lock : TableId
   pub opened : V
@@ -92,7 +92,7 @@ module _ {V B E : Type 0} where
       (pass.knows.stage ≡ Turn held.ticket (found_of pass) (found_closed_of pass)) × (pass.taken ≡ (0, None) ∷ [])
       × (held.ticket + 1 < 2 ^ 64)
 
-  -- but for its turn the pass is as it was: its lock, shares and base, and what it has seen and made
+  -- the pass is unchanged except for its turn: its lock, shares and base, and what it has seen and made
   pub record IsSamePass (old new : Carried V B E) : Type 0 where
     pub lock : new.lock ≡ old.lock
     pub shares : shares_of new ≡ shares_of old
@@ -109,6 +109,6 @@ module _ {V B E : Type 0} where
   abbrev pub BeginsIn : Carried V B E → Carried V B E → Type 0
   BeginsIn whole pass = IsPrefix (seen_of pass) (seen_of whole)
 
-  -- the pass, but for the number of its shares
+  -- the pass with another number of shares
   abbrev pub with_shares : ℕ → Carried V B E → Carried V B E
   with_shares n pass = record pass { knows = record pass.knows { shares = n } }

@@ -14,10 +14,10 @@ positions_between p q = positions_after p (q - p)
 abbrev pub times : ℕ → List ℕ → ℕ
 times p ps = count_by (λ q. q == p) ps
 
--- the position at which events end that stand on a base which ends at p
+-- the position at which these events end, if their base ends at p
 abbrev pub end_of : {E : Type 0} → ℕ → List E → ℕ
 end_of p events = p + length events
 
--- the positions of the events that the second list has more than the first, on a base that ends at p
+-- the positions of the events by which the second list is longer than the first, if their base ends at p
 abbrev pub positions_added : {E : Type 0} → ℕ → List E → List E → List ℕ
 positions_added p old new = positions_between (end_of p old) (end_of p new)

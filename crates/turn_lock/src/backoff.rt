@@ -1,10 +1,11 @@
-//! How long a pass that waits for its turn goes on looking before it sleeps.
+//! How long a pass that waits for its turn checks for it before it sleeps.
 use std::time::Duration;
 
-/// How often the next in line looks for the end of one turn before it sleeps: it goes on as soon as a short turn ends.
+/// How often the next in line checks for the end of one turn before it sleeps: it continues as soon as a
+/// short turn ends.
 const LOOKS_OF_THE_NEXT: u32 = 256;
 
-/// How often the others look. Many passes that yield in turn would take all processors for as long as a disk takes.
+/// How often the others check. Many passes that yield in turn would take all processors while a disk works.
 const LOOKS_OF_OTHERS: u32 = 4;
 
 /// How long one sleeps, unless the turn ends meanwhile, in microseconds: less than a sync of a disk.
@@ -15,7 +16,7 @@ const NAP: u64 = 50;
 pub(crate) struct Backoff {
     /// The ticket that was served.
     serving: u64,
-    /// How often it has been seen, one after the other.
+    /// How often it has been seen in a row.
     looks: u32,
 }
 
@@ -28,7 +29,7 @@ impl Backoff {
         }
     }
 
-    /// Whether a pass that sees this ticket served, and waits for its own, is to sleep.
+    /// Whether a pass that sees this ticket served, and waits for its own, must sleep.
     pub(crate) fn ends(&mut self, serving: u64, ticket: u64) -> bool {
         if serving != self.serving {
             self.serving = serving;

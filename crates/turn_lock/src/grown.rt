@@ -3,13 +3,13 @@ ghost use Rattle.std.specs.Prelude.{◌≡◌, ◌+◌, ℕ, List, Option, lengt
 
 /// A value that is a base and the events after it. Each event raises its position by one.
 pub trait Grown {
-    /// What the events stand on.
+    /// What the events come after.
     type Base;
 
     /// One event.
     type Entry;
 
-    // What the events of a value stand on.
+    // What the events of a value come after.
     ghost base: { Self → Self.Base };
 
     // The position at which a base ends, before the first event.

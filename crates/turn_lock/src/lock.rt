@@ -18,7 +18,7 @@ pub(crate) const END: usize = 2;
 // The slot that has the value.
 pub(crate) const VALUE: usize = 0;
 
-/// A lock round one value, which serves its passes in the order of their tickets.
+/// A lock around one value, which serves its passes in the order of their tickets.
 #[derive(Drop)]
 pub struct TurnLock<V: Grown> {
     pub(crate) table: Table<Option<V>, PassState<V::Base, V::Entry>, Opening<V>, Turns, Global>,

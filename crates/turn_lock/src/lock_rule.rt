@@ -1,4 +1,4 @@
-//! The rule of the lock, and what its steps tell. These types are for the proofs alone.
+//! The rule of the lock, and what its steps tell. These types are only for the proofs.
 use crate::grown::Grown;
 use crate::opening::Opening;
 use crate::view::PassState;
@@ -27,7 +27,7 @@ impl<S, B, E> Play<S, PassState<B, E>> for Draw {
     ghost then = { Draws };
 }
 
-/// Looks which ticket is served, and takes the value where it is the pass's own.
+/// Reads which ticket is served, and takes the value if it is the pass's own.
 pub struct Look;
 
 impl<V: Grown> Play<Option<V>, PassState<V::Base, V::Entry>> for Look {
@@ -45,7 +45,7 @@ impl<V: Grown> Play<Option<V>, PassState<V::Base, V::Entry>> for Post {
     ghost then = { Posts V.base V.first V.events V.closed };
 }
 
-/// Serves the next ticket, and gives the value back.
+/// Serves the next ticket, and returns the value.
 pub struct Advance;
 
 impl<S, B, E> Play<S, PassState<B, E>> for Advance {

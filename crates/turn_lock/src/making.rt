@@ -10,7 +10,7 @@ use atomic_table::{Refused, Table};
 use std::alloc::{AllocFailed, Global};
 use std::snapshot::Snapshot;
 
-/// A new lock with its first pass, or the value back where memory ran out.
+/// A new lock with its first pass, or the value if memory ran out.
 #[derive(Drop)]
 pub enum MadeLock<V: Grown> {
     Made { lock: TurnLock<V>, pass: Pass<V> },
@@ -42,7 +42,8 @@ fn take_from_slot<V>(mut slots: Vec<Option<V>>) -> V
 }
 
 impl<V: Grown> TurnLock<V> {
-    /// A lock round the value, and the first pass, which has all the shares and has seen the value's events.
+    /// A lock around the value, and the first pass, which has all the shares and has seen the value's
+    /// events.
     pub fn new(alloc: Global, value: V, shares: u32) -> MadeLock<V>
         requires { 0 < shares }
         ensures { Makes V.base V.events V.closed value shares result }

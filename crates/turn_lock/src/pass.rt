@@ -1,4 +1,4 @@
-//! What one holder carries.
+//! Access tokens.
 ghost use Rattle.std.specs.Prelude.{◌≡◌, ◌<◌};
 ghost use Rattle.turn_lock.specs.Pass.{shares_of, seen_of, base_of, start_of};
 ghost use Rattle.turn_lock.specs.Positions.{end_of};
@@ -11,8 +11,8 @@ use std::marker::Model;
 /// A seat at the table of a lock.
 pub(crate) type TableSeat<V> = Seat<Option<V>, PassState<<V as Grown>::Base, <V as Grown>::Entry>>;
 
-/// What one holder carries: shares of the right to the whole, the events that it has seen, and the
-/// positions that it added. Where a pass is dropped its shares are lost, and the lock can't be closed any more.
+/// An access token: shares of the right to the whole, the events that its holder has seen, and the positions
+/// that it added. A pass that is dropped loses its shares, and then the lock can't be closed any more.
 pub struct Pass<V: Grown> {
     pub(crate) seat: TableSeat<V>,
     pub(crate) shares: u32,

@@ -19,7 +19,7 @@ impl<V: Grown> TurnLock<V> {
         ensures left { seat.new.me ≡ (left_with shares seat.old.me.0, seat.old.me.1) }
         ensures right { result.me ≡ (given shares seat.old.me.0, []) }
     {
-        // The number is for the contract alone.
+        // The number is only for the contract.
         let _ = shares;
         self.table.shared.split_seat::<Cut<C>>(seat)
     }
@@ -46,7 +46,8 @@ impl<V: Grown> TurnLock<V> {
         }
     }
 
-    /// One pass of two. It has seen the longer list, which both began, and has made what both made.
+    /// Joins two passes. The result has seen the longer list, which begins with the other, and has made what
+    /// both made.
     pub fn join(&self, a: Pass<V>, b: Pass<V>) -> Pass<V>
         requires lock { IsPassOf self.now a × IsPassOf self.now b }
         requires idle { IsIdle a × IsIdle b }

@@ -29,7 +29,7 @@ impl<V: Grown> TurnLock<V> {
             == ticket
     }
 
-    // Takes the next ticket. Where there is none left, it tries for ever.
+    // Takes the next ticket. If there is none left, it tries forever.
     pub(crate) fn draw<R: Wait>(&self, rt: &R, seat: &mut TableSeat<V>) -> u64
         requires seat { seat.old.table_id ≡ self.now.lock }
         requires idle { (seat.old.me.0.stage ≡ Idle) × (0 < seat.old.me.0.shares) }
@@ -93,7 +93,7 @@ impl<V: Grown> TurnLock<V> {
         unreachable!()
     }
 
-    // Lets other threads go on: yields, or sleeps where the turn that is under way lasts.
+    // Lets other threads run: yields, or sleeps if the current turn is long.
     fn pause<R: Wait>(&self, rt: &R, patience: &mut Backoff, ticket: u64) {
         let serving = self.table.shared.peek(SERVING);
         if patience.ends(serving, ticket) {

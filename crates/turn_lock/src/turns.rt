@@ -1,4 +1,4 @@
-//! Taking a turn, and giving it back.
+//! Taking a turn, and ending it.
 ghost use Rattle.std.specs.Prelude.{◌≡◌, ◌++◌, Some};
 ghost use mathlib.Core.List.{IsPrefix};
 ghost use Rattle.turn_lock.specs.Pass.{IsPassOf, IsIdle, IsTurnOf, IsSamePass, StaysClosed, shares_of, base_of, seen_of, closed_of, made_of, found_of, found_closed_of};
@@ -12,8 +12,8 @@ use std::sync::Wait;
 use std::thread::Threads;
 
 impl<V: Grown> TurnLock<V> {
-    /// Waits for the turn of the pass, without a limit, and takes the value. Meanwhile it yields the processor,
-    /// and sleeps for some microseconds at a time where a turn lasts.
+    /// Waits for the turn of the pass, without a limit, and takes the value. Meanwhile it yields the
+    /// processor, and during a long turn it sleeps for some microseconds at a time.
     pub fn take<R: Threads + Wait>(&self, rt: &R, pass: &mut Pass<V>) -> Held<V>
         requires lock { IsPassOf self.now pass.old }
         requires idle { IsIdle pass.old }

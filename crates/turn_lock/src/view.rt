@@ -1,4 +1,4 @@
-//! What a pass knows, for the proofs alone. No value of these types is made.
+//! What a pass knows, only for the proofs. No value of these types is ever created.
 use std::collections::LinkedList;
 
 /// How far a pass is on its way to its turn.

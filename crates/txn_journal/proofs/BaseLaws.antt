@@ -15,7 +15,7 @@ use Rattle.txn_journal.proofs.FollowsLaws.{front-append, gate_behind, none_there
 use Rattle.txn_journal.proofs.FrameLaws.{fit-append}
 use Rattle.txn_journal.proofs.ReadingLaws.{begins_frames, frame_read, split}
 
--- a walk stands at a gate, and the last base that it passed at another, or it passed none
+-- a walk is at a commit byte, and passed its last base at another, or passed none
 pub record HasWalked (file : List ℕ) (at base : ℕ) : Type 0 where
   pub mark : ℕ
   pub passed : List (List ℕ)

@@ -141,6 +141,6 @@ fronts_begin (b ∷ before) (p ∷ payloads) payload is =
     let rest = fronts_begin before payloads payload same_rest in
     λ k. same_head k ∷ rest k
 
--- what has a front goes on having it with one payload more
+-- content keeps its front with one more payload
 pub next_begins : (before content : Content) (payload : List ℕ) → IsFront before content → IsFront before (with_next content payload)
 next_begins before content payload is = record { base = is.base; payloads = fronts_begin before.payloads content.payloads payload is.payloads }

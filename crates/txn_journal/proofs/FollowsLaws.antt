@@ -20,7 +20,7 @@ frames-append (p ∷ some) more rest = ap (λ (l : List ℕ). 1 ∷ l)
 pub front-append : (mark : ℕ) (some more : List (List ℕ)) (rest : List ℕ) → front mark (some ++ more) ++ rest ≡ front mark some ++ (frames more ++ rest)
 front-append mark some more rest = ap (λ (l : List ℕ). magic ++ mark ∷ l) (frames-append some more rest)
 
--- there is a gate behind frames
+-- a commit byte follows frames
 pub gate_behind : (more : List (List ℕ)) (gate : ℕ) (rest : List ℕ) → (g : ℕ) × ((r : List ℕ) × (frames more ++ gate ∷ rest ≡ g ∷ r))
 gate_behind [] gate rest = (gate, (rest, refl))
 gate_behind (p ∷ more) gate rest = (1, ((body p ++ frames more) ++ gate ∷ rest, refl))
@@ -35,7 +35,7 @@ none_there file mark some behind gate rest fit stops is none more g r fit_more i
 
 -- ---- a payload that follows
 
--- content that goes on from other content with more payloads
+-- content that is other content with more payloads
 abbrev pub GoesOn : Content → Content → List (List ℕ) → Type 0
 GoesOn from to more = to ≡ record { base = from.base; payloads = from.payloads ++ more }
 
@@ -59,7 +59,7 @@ module _ (file : List ℕ) (version : Version) (content : Content) (payload : Li
   none_more : (more : List (List ℕ)) (gate : ℕ) (rest : List ℕ) → AllFit ((follows.before ++ payload ∷ []) ++ more) → file ≡ front follows.mark ((follows.before ++ payload ∷ []) ++ more) ++ gate ∷ rest → has_base version more ≡ false
   none_more more gate rest fit split = ap (λ (v : Version). has_base v more) (sym follows.of_version) ∙ follows.last more gate rest fit split
 
-  -- where the frames of a file end, its content goes on from what counts with the payload
+  -- where the frames of a file end, its content is what counts with the payload, and more payloads
   pub ends_behind : (mark : ℕ) (all : List (List ℕ)) (gate : ℕ) (rest : List ℕ) → AllFit all → (gate ≢ 1) ⊎ IsShort rest → file ≡ front mark all ++ gate ∷ rest
       → (more : List (List ℕ)) × GoesOn (with_payload version content payload) (content_from (version_of mark) all) more
   ends_behind mark all gate rest fit stops split =
@@ -98,7 +98,7 @@ last_of (x ∷ xs) = inr (⊎_elim
 abbrev pub SameThere : (file : List ℕ) (a b : Content) (w u : List ℕ) (p q : ℕ) → Type 0
 SameThere file a b w u p q = (a ≡ b) × (w ≡ u) × (p ≡ q)
 
--- the other stands behind the one, so what counts before it goes on from what counts with the one
+-- the second follows the first, so what counts before it is what counts with the first, and more payloads
 abbrev pub Beyond : Version → Content → List ℕ → Content → Type 0
 Beyond version a w b = (more : List (List ℕ)) × GoesOn (with_payload version a w) b more
 

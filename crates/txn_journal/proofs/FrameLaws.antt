@@ -20,7 +20,7 @@ frames-push (p ∷ payloads) payload rest = ap (λ (l : List ℕ). 1 ∷ l)
     ∙ ap (λ (l : List ℕ). body p ++ l) (frames-push payloads payload rest)
     ∙ sym (append_assoc (body p) (frames payloads) (1 ∷ (body payload ++ rest))))
 
--- one payload more, before a gate
+-- one more payload, before a commit byte
 pub front-push : (mark : ℕ) (payloads : List (List ℕ)) (payload rest : List ℕ) → front mark (payloads ++ payload ∷ []) ++ rest ≡ front mark payloads ++ 1 ∷ (body payload ++ rest)
 front-push mark payloads payload rest = ap (λ (l : List ℕ). magic ++ mark ∷ l) (frames-push payloads payload rest)
 
@@ -41,12 +41,12 @@ pub fit-join : (some more : List (List ℕ)) → AllFit some → AllFit more →
 fit-join [] more fits all = all
 fit-join (p ∷ some) more fits all = (fits.0, fit-join some more fits.1 all)
 
--- a file that is the front of these payloads and a gate, whatever stands behind it
+-- a file that is the front of these payloads and a commit byte, whatever follows it
 split_at_gate : (file : List ℕ) (n : ℕ) (before : List ℕ) → take n file ≡ before → n < length file → file ≡ before ++ get_or file n 0 ∷ drop (n + 1) file
 split_at_gate file n before is le = sym (take-append-drop n file) ∙ ap (λ (l : List ℕ). l ++ drop n file) is ∙ ap (λ (l : List ℕ). before ++ l) (drop_more file n 0 le)
 
 module _ (version : Version) (content : Content) (end : ℕ) where
-  -- the closed gate stands in each outcome of the first write
+  -- the commit byte isn't 1 in any outcome of the first write
   pub torn_behind : (file c : List ℕ) (n : ℕ) → HoldsTo file version end content → Torn (end + 1) n file c → StandsFor c content
   torn_behind file c n lies torn =
       let holds = lies.holds in
@@ -59,7 +59,7 @@ module _ (version : Version) (content : Content) (end : ℕ) where
       inr (record { mark = holds.mark; all = holds.all; gate = holds.gate; ignored = drop (end + 1) c; split = whole; closed = holds.closed; fit = holds.fit; counts = holds.counts })
 
 module _ (mark : ℕ) (payloads : List (List ℕ)) (end : ℕ) (place : end ≡ length (front mark payloads)) where
-  -- the frame stands behind the closed gate after it
+  -- the frame follows the commit byte, with a commit byte of 0 after it
   abbrev pub staged : ℕ → List ℕ → List ℕ → List ℕ
   staged gate payload rest = front mark payloads ++ gate ∷ (body payload ++ 0 ∷ rest)
 
@@ -111,7 +111,7 @@ module _ (mark : ℕ) (payloads : List (List ℕ)) (end : ℕ) (place : end ≡ 
         | inr shut ↦ inl (inr (record { mark = mark; all = payloads; gate = get_or c end 0; ignored = body payload ++ 0 ∷ rest; split = whole; closed = shut; fit = all; counts = counts }))
       ]
 
-  -- and after it the gate is open
+  -- and after it the commit byte is 1
   pub written_gate : (version : Version) (content : Content) (gate : ℕ) (payload rest : List ℕ) → version_of mark ≡ version → content ≡ content_from (version_of mark) payloads
       → Fits payload → AllFit payloads → (later : ℕ) → later ≡ end + 5 + length payload → HoldsTo (file_after_write (staged gate payload rest) end (1 ∷ [])) version later (with_payload version content payload)
   written_gate version content gate payload rest of_version counts fits all later is = record {

@@ -30,7 +30,7 @@ starts_from (Journal version) head file size is long same begins = (
 starts_from Foreign head file size is long same begins =
     (omega (arith, begins.0), λ is_magic. begins.1 (ap (take 7) same ∙ take-take 7 9 file (omega arith) ∙ is_magic))
 
--- the first six bytes from a gate on tell what stands there
+-- a commit byte and the five bytes after it decide what the file has there
 pub head_from : (result : Head) (got rest file : List ℕ) (at left : ℕ) → at < length file → left ≡ length file - at → length got ≡ min left 6 → got ≡ take (length got) (drop at file)
     → JudgesHead result (got ++ rest) left → IsHead result file at
 head_from result got rest file at left within is size same judged = go result judged

@@ -17,7 +17,7 @@ lies_ready Bare version file end content armed lies = absurd (armed refl)
 lies_ready Ready version file end content armed lies = lies
 lies_ready Still version file end content armed lies = absurd lies
 
--- one that has a header goes on having it
+-- a journal that has a header keeps it
 pub lies_as_ready : (standing : JournalState) (version : Version) (file : List ℕ) (end : ℕ) (content : Content) (other : Version) (next : List ℕ) (later : ℕ) (all : Content) → standing ≢ Bare
     → LiesAs standing version file end content → HoldsTo next other later all → LiesAs standing other next later all
 lies_as_ready Bare version file end content other next later all armed lies holds = absurd (armed refl)
@@ -30,7 +30,7 @@ lies_stands Ready version file end content lies = inr lies.holds
 lies_stands Still version file end content lies = absurd lies
 
 module _ {D : Type 0} (bytes : D → Option (List ℕ)) (may_leave : D → List ℕ → Type 0) (moment : D → ℕ) (left_since : D → ℕ → List ℕ → Type 0) where
-  -- a journal with a header is told as its disk is
+  -- reads of a journal with a header give what reads of its disk give
   pub tells_from : (journal : Logged D) (content : Content) → journal.standing ≢ Bare → IsTold bytes journal content → Tells bytes journal.disk journal.version journal.end content
   tells_from journal content armed tells = record {
     file = tells.file;
@@ -103,7 +103,7 @@ module _ {D : Type 0} (bytes : D → Option (List ℕ)) (may_leave : D → List 
       raised_holds tells.file old.end content
       (subst (λ (v : Version). HoldsTo tells.file v old.end content) is (lies_ready old.standing old.version tells.file old.end content armed tells.lies))
 
-  -- images of which each stands for more than some payloads, after those since an earlier moment did
+  -- images whose content begins with this, after those since an earlier moment
   pub begin_on : (old new : D) (P : List ℕ → Type 0) (t : ℕ) (before : Content) → LeavesOnly moment left_since old new P → ((c : List ℕ) → P c → StandsForMore before c)
       → t ≤ moment old → BeginSince left_since old t before → BeginSince left_since new t before
   begin_on old new P t before run more le begin c left = ⊎_elim (begin c) (more c) (run.before t c le left)

@@ -1,4 +1,4 @@
--- How a run of disk calls goes on.
+-- One disk call after another.
 use Rattle.std.proofs.Common.{inl, inr, ⊎_elim, ℕ, List, Option, Result, Ok, Err, OnOk, refl, ◌∙◌, arith}
 use Rattle.ts_disk.specs.CrashImage.{Elapses, LeavesOnly}
 use Rattle.ts_disk.specs.Disk.{Keeps}

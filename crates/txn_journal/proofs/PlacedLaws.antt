@@ -25,7 +25,7 @@ length-frames-push [] payload = omega (arith, length-append (body payload) [], l
 length-frames-push (p ∷ payloads) payload =
     omega (arith, length-frames-push payloads payload, length-append (body p) (frames payloads), length-append (body p) (frames (payloads ++ payload ∷ [])))
 
--- payloads with their places are what counts in a file, up to this gate
+-- payloads with their places are what counts in a file, up to this commit byte
 pub record ListedTo (file : List ℕ) (payloads : List Payload) (content : Content) (at : ℕ) : Type 0 where
   pub first : ℕ
   pub all : payloads_of payloads ≡ payload_list content
@@ -70,7 +70,7 @@ base_listed file version content new bytes at later is moves follows =
       begins = inr (record { mark = follows.mark; before = follows.before; rest = follows.gate ∷ follows.rest; split = follows.split; place = follows.place });
     }
 
--- where nothing counted so far and none is a base, a payload stands behind the first gate
+-- if nothing counted so far and the next payload isn't a base, it is at the first commit byte
 first_place : (file : List ℕ) (version : Version) (content : Content) (payload : List ℕ) (at : ℕ) → Follows file version content payload at → is_base version payload ≡ false
     → payload_list content ≡ [] → BeginsIn file content.base at
 first_place file version content payload at follows plain none = no_base file content at none at_first

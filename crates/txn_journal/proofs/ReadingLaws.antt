@@ -18,9 +18,9 @@ use Rattle.txn_journal.proofs.ContentLaws.{base_counts, head_and_rest, next_coun
 use Rattle.txn_journal.proofs.FrameLaws.{front-push, length-front-push, fit-push}
 use Rattle.txn_journal.proofs.UniqueLaws.{goes_on, same_payload}
 
--- ---- the frames before a gate
+-- ---- the frames before a commit byte
 
--- a file is what stands before a gate, the gate, and what follows
+-- a file is what precedes a commit byte, that byte, and what follows
 module _ (file : List ℕ) (mark at : ℕ) (payloads : List (List ℕ)) (read : HasFrames file mark at payloads) (within : at < length file) where
   pub split : file ≡ front mark payloads ++ get_or file at 0 ∷ drop (at + 1) file
   split = sym (take-append-drop at file) ∙ ap (λ (l : List ℕ). l ++ drop at file) read.before ∙ ap (λ (l : List ℕ). front mark payloads ++ l) (drop_more file at 0 within)
@@ -57,7 +57,7 @@ module _ (file : List ℕ) (mark at : ℕ) (payloads : List (List ℕ)) (read : 
         fit = fit-push payloads payload read.fit (subst (λ (m : ℕ). m < 2 ^ 32) (sym size) head.2);
       }
 
--- what follows an open gate and what a list of frames says of it are the same
+-- what follows a commit byte of 1 is what a list of frames says of it
 behind_gate : (file : List ℕ) (mark at : ℕ) (payloads : List (List ℕ)) (payload rest : List ℕ) → HasFrames file mark at payloads → at < length file → file ≡ front mark (payloads ++ payload ∷ []) ++ rest
     → (get_or file at 0 ≡ 1) × (drop (at + 1) file ≡ body payload ++ rest)
 behind_gate file mark at payloads payload rest read within is =
@@ -274,7 +274,7 @@ module _ {D : Type 0} (bytes : D → Option (List ℕ)) (old : Progress D) (disk
       pub step_payload_now : is_base now payload ≡ false → Follows file now content payload old.at × ReadNow now (with_next content payload)
       step_payload_now = subst (λ (v : Version). is_base v payload ≡ false → Follows file v content payload old.at × ReadNow v (with_next content payload)) (sym is_now) step_payload
 
--- a reader at the gate where reading begins
+-- a reader at the commit byte where reading begins
 pub opens_at : {D : Type 0} (bytes : D → Option (List ℕ)) (reader : Progress D) (disk : D) (standing : JournalState) (version : Version) (size at : ℕ) (file : List ℕ)
     → reader ≡ at_gate disk standing version size at → bytes disk ≡ Some file → size ≡ length file → IsReadTo standing version file at nothing → HasRead bytes reader file nothing
 opens_at {D} bytes reader disk standing version size at file made told long read =

@@ -1,4 +1,4 @@
--- What a file stands for is one list, and so is what stands before the damage.
+-- A file has one content, and one content before its damage.
 use Rattle.std.proofs.Common.{◌≡◌, ◌≢◌, ◌⊎◌, inl, inr, ⊎_elim, ℕ, ◌<◌, ◌≤◌, List, [], ◌∷◌, ◌++◌, length, take, drop, get_or, refl, sym, ◌∙◌, ap, subst, arith, append_assoc, length-append}
 use Rattle.std.proofs.lemmas.List.{take_at, drop_at}
 use Rattle.std.proofs.lemmas.Nat.{from_le_bytes-to_le_bytes_4}
@@ -7,11 +7,11 @@ use Rattle.txn_journal.specs.Contents.{Content, content_from, nothing, version_o
 use Rattle.txn_journal.specs.Frames.{AllFit, Fits, Holds, StandsFor, IsDamaged, IsShort, body, frames, front, magic}
 use Rattle.txn_journal.proofs.FrameLaws.{length-body}
 
--- the frames end here: the gate is closed, or too little stands behind it
+-- the frames end here: the commit byte isn't 1, or too little follows it
 abbrev pub Stops : ℕ → List ℕ → Type 0
 Stops gate rest = (gate ≢ 1) ⊎ IsShort rest
 
--- a whole frame follows an open gate, so they don't end there
+-- a whole frame follows a commit byte of 1, so the frames don't end there
 pub goes_on : (payload rest : List ℕ) → Fits payload → Stops 1 (body payload ++ rest) → 0 < length rest → ⊥
 goes_on payload rest fits (inl shut) more = shut refl
 goes_on payload rest fits (inr (inl few)) more = absurd (omega (arith, length-append (body payload) rest, length-body payload))
@@ -63,9 +63,9 @@ fronts_one file m n a b g h r s fit_a fit_b stop_g stop_h is_a is_b =
     let rest = frames_one a b g h r s fit_a fit_b stop_g stop_h both.1 in
     (both.0, rest.0, rest.1)
 
--- ---- what stands before two gates
+-- ---- what precedes two commit bytes
 
--- the frames before one gate are the first of those before another, or the other way round
+-- the frames before one commit byte are the first of those before another, or the reverse
 frames_compared : (a b : List (List ℕ)) (g h : ℕ) (r s : List ℕ) → AllFit a → AllFit b → frames a ++ g ∷ r ≡ frames b ++ h ∷ s
     → ((more : List (List ℕ)) × (b ≡ a ++ more)) ⊎ ((more : List (List ℕ)) × (a ≡ b ++ more))
 frames_compared [] b g h r s fit_a fit_b is = inl (b, refl)
@@ -78,7 +78,7 @@ frames_compared (p ∷ a) (q ∷ b) g h r s fit_a fit_b is =
     (λ more. inr (more.0, λ k. parts.0 k ∷ more.1 k))
     (frames_compared a b g h r s fit_a.1 fit_b.1 parts.1)
 
--- where the frames end at the other gate, those before the one are the first of them
+-- if the frames end at the second commit byte, those before the first are the first of them
 frames_begin : (a b : List (List ℕ)) (g h : ℕ) (r s : List ℕ) → AllFit a → AllFit b → Stops h s → frames a ++ g ∷ r ≡ frames b ++ h ∷ s → (more : List (List ℕ)) × (b ≡ a ++ more)
 frames_begin [] b g h r s fit_a fit_b stop is = (b, refl)
 frames_begin (p ∷ a) [] g h r s fit_a fit_b stop is =

@@ -11,8 +11,8 @@ use Rattle.txn_journal.specs.declared.journals.JournalState.TheVariants.{Bare, R
 use Rattle.txn_journal.specs.declared.versions.Version.{Version}
 use Rattle.txn_journal.specs.declared.versions.Version.TheVariants.{One}
 
--- a journal: its disk, its version, the place of the gate behind its last payload, and whether it has a header or
--- stopped
+-- a journal: its disk, its version, the place of the commit byte after its last payload, and whether it has a header
+-- or has stopped
 pub record Logged (D : Type 0) : Type 0 where
   pub disk : D
   pub version : Version
@@ -27,7 +27,7 @@ LiesAs Bare version file end content =
 LiesAs Ready version file end content = HoldsTo file version end content
 LiesAs Still version file end content = ⊥
 
--- a journal that didn't stop stands for this content, by what reads give
+-- a journal that didn't stop has this content, by what reads give
 pub record IsTold {D : Type 0} (bytes : D → Option (List ℕ)) (journal : Logged D) (content : Content) : Type 0 where
   pub file : List ℕ
   pub told : bytes journal.disk ≡ Some file
@@ -39,24 +39,24 @@ pub record IsAtRest {D : Type 0} (bytes : D → Option (List ℕ)) (may_leave : 
   pub tells : IsTold bytes journal content
   pub durable : Only tells.file (may_leave journal.disk)
 
--- each image since this moment stands for content that begins with this
+-- each image since this moment has a content that begins with this
 abbrev pub BeginSince : {D : Type 0} → (D → ℕ → List ℕ → Type 0) → D → ℕ → Content → Type 0
 BeginSince left_since disk t content = (c : List ℕ) → left_since disk t c → StandsForMore content c
 
--- an answer, and how the journal stood before it and stands after it: `Stopped` comes exactly where it had stopped,
--- and it stops by a fault
+-- an answer, and the state of the journal before and after it: it is `Stopped` exactly if the journal had stopped
+-- before, and a fault stops it
 abbrev pub Ends : Append → JournalState → JournalState → Type 0
 Ends Done before now = (before ≢ Still) × (now ≡ Ready)
 Ends DiskFault before now = (before ≢ Still) × (now ≡ Still)
 Ends Stopped before now = (before ≡ Still) × (now ≡ Still)
 
--- the count of faults rises with a fault, and else stays
+-- the count of faults rises with a fault, and stays otherwise
 abbrev pub IsCounted : Append → ℕ → ℕ → Type 0
 IsCounted Done before now = now ≡ before
 IsCounted DiskFault before now = Rose before now
 IsCounted Stopped before now = now ≡ before
 
--- P holds where all was done, and where the journal had stopped
+-- P if all was done, and P if the journal had stopped
 abbrev pub IfDone : Append → Type 0 → Type 0
 IfDone Done P = P
 IfDone DiskFault P = ⊤

@@ -4,7 +4,7 @@ use Rattle.std.specs.List.{list_any}
 use Rattle.txn_journal.specs.declared.versions.Version.{Version}
 use Rattle.txn_journal.specs.declared.versions.Version.TheVariants.{One, Two}
 
--- what counts: the base, where there is one, and the payloads behind it
+-- what counts: the base, if there is one, and the payloads after it
 pub record Content : Type 0 where
   pub base : Option (List ℕ)
   pub payloads : List (List ℕ)
@@ -30,7 +30,7 @@ is_base Two payload = nat_eq (slice_index payload 0) 8
 abbrev pub has_base : Version → List (List ℕ) → Bool
 has_base version payloads = list_any (is_base version) payloads
 
--- what counts once one more payload is there: where that is a base, nothing before it
+-- what counts with one more payload: if that is a base, nothing before it
 abbrev pub with_payload : Version → Content → List ℕ → Content
 with_payload version content payload =
     cond (is_base version payload) (record { base = Some payload; payloads = [] })
@@ -42,20 +42,20 @@ with_payloads version content [] = content
 with_payloads version content (payload ∷ payloads) =
     with_payloads version (with_payload version content payload) payloads
 
--- what counts of these payloads: the last base, and those behind it; all of them, where there is no base
+-- what counts of these payloads: the last base, and those after it; all of them, if there is no base
 abbrev pub content_from : Version → List (List ℕ) → Content
 content_from version payloads = with_payloads version nothing payloads
 
--- what counts as soon as the journal is of version 2
+-- what counts once the journal is of version 2
 abbrev pub content_of_version_2 : Content → Content
 content_of_version_2 content = with_payloads Two (record { base = content.base; payloads = [] }) content.payloads
 
--- a base alone, or nothing
+-- only a base, or nothing
 abbrev pub base_alone : Option (List ℕ) → List (List ℕ)
 base_alone None = []
 base_alone (Some payload) = payload ∷ []
 
--- what counts, one payload after the other
+-- what counts, as one list in order
 abbrev pub payload_list : Content → List (List ℕ)
 payload_list content = base_alone content.base ++ content.payloads
 

@@ -1,4 +1,4 @@
--- What the bytes of a journal stand for.
+-- What the bytes of a journal contain.
 use Rattle.std.specs.Prelude.{◌≡◌, ◌≢◌, ◌⊎◌, ℕ, false, cond, ◌+◌, ◌^◌, ◌<◌, ◌≤◌, List, [], ◌∷◌, ◌++◌, length, take, drop, map, ◌-◌, ⊤}
 use Rattle.std.specs.Int.{w32, to_le_bytes, from_le_bytes}
 use Rattle.txn_journal.specs.Contents.{Content, IsFront, content_from, has_base, is_base, nothing, version_of, with_payload}
@@ -9,7 +9,7 @@ use Rattle.txn_journal.specs.declared.versions.Version.{Version}
 abbrev pub magic : List ℕ
 magic = 84 ∷ 83 ∷ 67 ∷ 84 ∷ 76 ∷ 74 ∷ 48 ∷ []
 
--- they, the byte of version 1, which is `1`, and a closed gate
+-- the magic bytes, the byte of version 1, which is `1`, and a commit byte of 0
 abbrev pub header : List ℕ
 header = 84 ∷ 83 ∷ 67 ∷ 84 ∷ 76 ∷ 74 ∷ 48 ∷ 49 ∷ 0 ∷ []
 
@@ -17,12 +17,12 @@ header = 84 ∷ 83 ∷ 67 ∷ 84 ∷ 76 ∷ 74 ∷ 48 ∷ 49 ∷ 0 ∷ []
 abbrev pub body : List ℕ → List ℕ
 body payload = to_le_bytes w32 (length payload) ++ payload
 
--- each payload behind an open gate
+-- each payload after a commit byte of 1
 abbrev pub frames : List (List ℕ) → List ℕ
 frames [] = []
 frames (payload ∷ payloads) = 1 ∷ body payload ++ frames payloads
 
--- a journal with this byte of its version up to the gate behind these payloads
+-- a journal with this version byte, up to the commit byte after these payloads
 abbrev pub front : ℕ → List (List ℕ) → List ℕ
 front mark payloads = magic ++ mark ∷ frames payloads
 
@@ -34,7 +34,7 @@ abbrev pub AllFit : List (List ℕ) → Type 0
 AllFit [] = ⊤
 AllFit (payload ∷ payloads) = Fits payload × AllFit payloads
 
--- a file holds payloads of which this counts, and the gate behind them is closed; what stands behind it is ignored
+-- a file holds payloads of which this counts, and the commit byte after them isn't 1; what follows it is ignored
 pub record Holds (file : List ℕ) (content : Content) : Type 0 where
   pub mark : ℕ
   pub all : List (List ℕ)
@@ -45,21 +45,21 @@ pub record Holds (file : List ℕ) (content : Content) : Type 0 where
   pub fit : AllFit all
   pub counts : content ≡ content_from (version_of mark) all
 
--- a file stands for what counts in it: it has at most nine bytes and stands for nothing, or holds payloads
+-- a file has a content: nothing, if it has at most nine bytes, or what counts of the payloads that it holds
 abbrev pub StandsFor : List ℕ → Content → Type 0
 StandsFor file content = ((length file ≤ 9) × (content ≡ nothing)) ⊎ Holds file content
 
--- a file of this version holds payloads of which this counts, up to the closed gate at this place
+-- a file of this version holds payloads of which this counts, up to the commit byte at this place, which isn't 1
 pub record HoldsTo (file : List ℕ) (version : Version) (end : ℕ) (content : Content) : Type 0 where
   pub holds : Holds file content
   pub of_version : version_of holds.mark ≡ version
   pub place : end ≡ length (front holds.mark holds.all)
 
--- what stands behind an open gate is too short for a length, for that many bytes, and for a next gate
+-- what follows a commit byte of 1 is too short for a length, for that many bytes, and for the next commit byte
 abbrev pub IsShort : List ℕ → Type 0
 IsShort rest = (length rest < 4) ⊎ (length rest < 5 + from_le_bytes w32 (take 4 rest))
 
--- a file holds payloads of which this counts, and behind the open gate at this place it is too short
+-- a file holds payloads of which this counts, and after the commit byte of 1 at this place it is too short
 pub record BreaksOff (file : List ℕ) (content : Content) (at : ℕ) : Type 0 where
   pub mark : ℕ
   pub all : List (List ℕ)
@@ -81,17 +81,18 @@ pub record IsDamaged (file : List ℕ) (content : Content) (at : ℕ) : Type 0 w
   pub long : 9 < length file
   pub broken : IsForeign file content at ⊎ BreaksOff file content at
 
--- no whole frame behind these payloads is one of a base
+-- no whole frame after these payloads is one of a base
 abbrev pub NoBaseBehind : List ℕ → ℕ → List (List ℕ) → Type 0
 NoBaseBehind file mark payloads =
     (more : List (List ℕ)) (gate : ℕ) (rest : List ℕ) → AllFit (payloads ++ more)
     → file ≡ front mark (payloads ++ more) ++ gate ∷ rest → has_base (version_of mark) more ≡ false
 
--- what counts before a payload: nothing, where it is a base
+-- what counts before a payload: nothing, if it is a base
 abbrev pub counted_before : Version → List (List ℕ) → List ℕ → Content
 counted_before version payloads payload = cond (is_base version payload) nothing (content_from version payloads)
 
--- behind the open gate at this place stands a whole frame of this payload. It counts, and this counts before it
+-- after the commit byte of 1 at this place follows a whole frame of this payload. It counts, and this counts before
+-- it
 pub record Follows (file : List ℕ) (version : Version) (content : Content) (payload : List ℕ) (at : ℕ) : Type 0 where
   pub mark : ℕ
   pub before : List (List ℕ)
@@ -104,21 +105,21 @@ pub record Follows (file : List ℕ) (version : Version) (content : Content) (pa
   pub counts : content ≡ counted_before version before payload
   pub last : NoBaseBehind file mark (before ++ payload ∷ [])
 
--- a file stands for content that begins with this
+-- a file has a content that begins with this
 pub record StandsForMore (content : Content) (file : List ℕ) : Type 0 where
   pub all : Content
   pub stands : StandsFor file all
   pub begins : IsFront content all
 
--- a file stands for the one content or for the other
+-- a file has the one content or the other
 abbrev pub StandsForEither : Content → Content → List ℕ → Type 0
 StandsForEither one other file = StandsFor file one ⊎ StandsFor file other
 
--- a file stands for this content, with one more payload or without it
+-- a file has this content, with one more payload or without it
 abbrev pub WithOrWithout : Version → Content → List ℕ → List ℕ → Type 0
 WithOrWithout version content payload file = StandsForEither content (with_payload version content payload) file
 
--- payloads with the places of their open gates, the first of which stands at this place
+-- payloads with the places of their commit bytes, of which the first is at this place
 abbrev pub payloads_at : ℕ → List (List ℕ) → List Payload
 payloads_at at [] = []
 payloads_at at (payload ∷ payloads) = record { bytes = payload; at = at } ∷ payloads_at (at + 5 + length payload) payloads
@@ -126,6 +127,6 @@ payloads_at at (payload ∷ payloads) = record { bytes = payload; at = at } ∷ 
 abbrev pub payloads_of : List Payload → List (List ℕ)
 payloads_of payloads = map (λ p. p.bytes) payloads
 
--- the payload in its frame: behind four bytes and before the last
+-- the payload in its frame: after four bytes and before the last
 abbrev pub payload_of : List ℕ → List ℕ
 payload_of bytes = take (length bytes - 5) (drop 4 bytes)

@@ -1,4 +1,4 @@
--- The beginning of reading.
+-- The start of reading.
 use Rattle.std.specs.Prelude.{◌≡◌, ℕ, List, Option, ⊤}
 use Rattle.ts_schema.specs.Faults.{Rose}
 use Rattle.txn_journal.specs.Contents.{nothing}

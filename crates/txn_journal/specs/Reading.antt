@@ -32,8 +32,8 @@ StartsAs (StartsJournal version) file =
     (take 7 file ≡ magic) × (version ≡ version_of (slice_index file 7)) × ((9 < length file) ⊎ (file ≡ header))
 StartsAs StartsForeign file = (9 < length file) × (take 7 file ≢ magic)
 
--- what stands at a gate: it is closed, or a whole frame of this length follows, with this byte behind its length, or
--- it is open and too little follows
+-- the commit byte at a place isn't 1; or it is 1, and a whole frame of this length follows, with this byte after its
+-- length; or it is 1, and too little follows
 abbrev pub IsHead : Head → List ℕ → ℕ → Type 0
 IsHead Closed file at = slice_index file at ≢ 1
 IsHead (Frame n first) file at =
@@ -41,14 +41,14 @@ IsHead (Frame n first) file at =
     × (to_le_bytes w32 n ≡ take 4 (drop (at + 1) file)) × (first ≡ slice_index file (at + 5))
 IsHead Short file at = (slice_index file at ≡ 1) × IsShort (drop (at + 1) file)
 
--- a journal begins with the frames of these payloads, up to the gate at this place
+-- a journal begins with the frames of these payloads, up to the commit byte at this place
 pub record HasFrames (file : List ℕ) (mark at : ℕ) (payloads : List (List ℕ)) : Type 0 where
   pub before : take at file ≡ front mark payloads
   pub place : at ≡ length (front mark payloads)
   pub long : (9 < length file) ⊎ (file ≡ header)
   pub fit : AllFit payloads
 
--- behind these payloads a whole frame of a base follows, and no base behind it
+-- a whole frame of a base follows these payloads, and no base follows it
 pub record BaseFollows (file : List ℕ) (mark : ℕ) (payloads : List (List ℕ)) : Type 0 where
   pub payload : List ℕ
   pub gate : ℕ
@@ -60,8 +60,8 @@ pub record BaseFollows (file : List ℕ) (mark : ℕ) (payloads : List (List ℕ
 
 -- ---- a reader
 
--- its disk, how its file begins, of which version and how long it is, the place of the next gate, the payload that was
--- read last, and whether the end was found
+-- its disk, how its file begins, the version and length of the file, the place of the next commit byte, the payload
+-- that was read last, and whether the end was found
 pub record Progress (D : Type 0) : Type 0 where
   pub disk : D
   pub standing : JournalState
@@ -71,7 +71,7 @@ pub record Progress (D : Type 0) : Type 0 where
   pub payload : List ℕ
   pub is_done : Bool
 
--- a reader that has read no payload, at this gate
+-- a reader that has read no payload, at this commit byte
 abbrev pub at_gate : {D : Type 0} → D → JournalState → Version → ℕ → ℕ → Progress D
 at_gate disk standing version size at =
     record {
@@ -84,14 +84,14 @@ at_gate disk standing version size at =
       is_done = false;
     }
 
--- what counts so far: that of the payloads before the place, and no base follows; or nothing yet, where the last base
--- follows
+-- what counts so far: what counts of the payloads before the place, if no base follows, and nothing yet, if the last
+-- base follows
 abbrev pub Counts : List ℕ → ℕ → List (List ℕ) → Content → Type 0
 Counts file mark payloads content =
     ((content ≡ content_from (version_of mark) payloads) × NoBaseBehind file mark payloads)
     ⊎ ((content ≡ nothing) × BaseFollows file mark payloads)
 
--- a journal of this version was read up to the gate at this place
+-- a journal of this version was read up to the commit byte at this place
 pub record ReadsTo (file : List ℕ) (version : Version) (at : ℕ) (content : Content) : Type 0 where
   pub mark : ℕ
   pub before : List (List ℕ)
@@ -105,7 +105,7 @@ IsReadTo Bare version file at content = LiesAs Bare version file at content
 IsReadTo Ready version file at content = ReadsTo file version at content
 IsReadTo Still version file at content = ⊥
 
--- the reader has read this much of this file, and where it found the end, there is no more
+-- the reader has read this much of this file; if it found the end, there is no more
 pub record HasRead {D : Type 0} (bytes : D → Option (List ℕ)) (reader : Progress D) (file : List ℕ)
     (content : Content) : Type 0 where
   pub told : bytes reader.disk ≡ Some file
@@ -121,7 +121,7 @@ with_next content payload = record { base = content.base; payloads = content.pay
 abbrev pub based_on : List ℕ → Content
 based_on payload = record { base = Some payload; payloads = [] }
 
--- what one step of reading answers, where this much counted so far
+-- what one step of reading answers, if this much counted so far
 abbrev pub Steps : {D : Type 0} → (D → Option (List ℕ)) → Next → List ℕ → Content → Progress D → Progress D → Type 0
 Steps bytes (Base at) file content old new =
     Follows file new.version content new.payload at × HasRead bytes new file (based_on new.payload)
@@ -132,7 +132,7 @@ Steps bytes (Damaged at) file content old new = IsDamaged file content at × Has
 Steps bytes DiskFault file content old new = HasRead bytes new file content
 Steps bytes NoMemory file content old new = HasRead bytes new file content
 
--- the place moves on by what a payload takes, and stays before the end of the file, which may have grown
+-- the place moves past a payload, and stays before the end of the file, which may have grown
 pub record GoesBehind {D : Type 0} (at : ℕ) (old new : Progress D) : Type 0 where
   pub from : at ≡ old.at
   pub to : new.at ≡ old.at + 5 + length new.payload
@@ -156,7 +156,7 @@ is_end (Damaged at) = false
 is_end DiskFault = false
 is_end NoMemory = false
 
--- the count of faults rises with a fault, and else stays
+-- the count of faults rises with a fault, and stays otherwise
 abbrev pub CountsNext : Next → ℕ → ℕ → Type 0
 CountsNext (Base at) before now = now ≡ before
 CountsNext (Payload at) before now = now ≡ before
@@ -174,13 +174,13 @@ IsStart (StartsJournal version) head size =
     (take 7 head ≡ magic) × (version ≡ version_of (slice_index head 7)) × ((9 < size) ⊎ (head ≡ header))
 IsStart StartsForeign head size = (9 < size) × (take 7 head ≢ magic)
 
--- a journal has a gate
+-- a journal has a commit byte
 abbrev pub IsSized : Start → ℕ → Type 0
 IsSized StartsBare size = ⊤
 IsSized (StartsJournal version) size = 9 ≤ size
 IsSized StartsForeign size = ⊤
 
--- what stands at a gate from which on so many bytes stand, by its first six
+-- what a commit byte and the five bytes after it say, if the file has so many bytes from it on
 abbrev pub JudgesHead : Head → List ℕ → ℕ → Type 0
 JudgesHead Closed head left = slice_index head 0 ≢ 1
 JudgesHead (Frame n first) head left =
@@ -189,13 +189,13 @@ JudgesHead (Frame n first) head left =
 JudgesHead Short head left =
     (slice_index head 0 ≡ 1) × ((left < 5) ⊎ (left ≤ 5 + from_le_bytes w32 (take 4 (drop 1 head))))
 
--- behind a frame there is a gate
+-- a commit byte follows a frame
 abbrev pub EndsWithin : Head → ℕ → ℕ → Type 0
 EndsWithin Closed at size = ⊤
 EndsWithin (Frame n first) at size = at + 5 + n < size
 EndsWithin Short at size = ⊤
 
--- reading begins at this gate in a file that begins so
+-- reading begins at this commit byte in a file that begins so
 abbrev pub BeginsAt : Start → List ℕ → ℕ → Type 0
 BeginsAt StartsBare file at = IsReadTo Bare One file at nothing
 BeginsAt (StartsJournal version) file at = IsReadTo Ready version file at nothing

@@ -1,4 +1,4 @@
--- A journal that is read at once.
+-- Reading a whole journal in one call.
 use Rattle.std.specs.Prelude.{◌≡◌, ◌≢◌, ℕ, List, [], ◌∷◌, ◌++◌, length, Option, None, Some, ⊤}
 use Rattle.ts_schema.specs.Faults.{Rose}
 use Rattle.txn_journal.specs.Calls.{IsAtRest, IsTold}
@@ -15,7 +15,7 @@ disk_of (Damaged disk payloads at) = disk
 disk_of (DiskFault disk) = disk
 disk_of (NoMemory disk) = disk
 
--- behind the open gate at this place of a file stands a frame of this payload
+-- after the commit byte of 1 at this place of a file is a frame of this payload
 pub record IsFrameAt (file : List ℕ) (at : ℕ) (payload : List ℕ) : Type 0 where
   pub mark : ℕ
   pub before : List (List ℕ)
@@ -23,12 +23,12 @@ pub record IsFrameAt (file : List ℕ) (at : ℕ) (payload : List ℕ) : Type 0 
   pub split : file ≡ front mark (before ++ payload ∷ []) ++ rest
   pub place : at ≡ length (front mark before)
 
--- what counts in a file begins at this place: at its base, or at the first gate where there is none
+-- what counts in a file begins at this place: at its base, or at the first commit byte if there is none
 abbrev pub BeginsIn : List ℕ → Option (List ℕ) → ℕ → Type 0
 BeginsIn file None first = first ≡ 8
 BeginsIn file (Some base) first = IsFrameAt file first base
 
--- payloads with their places are what counts in a file, one frame behind the other
+-- payloads with their places are what counts in a file, frame after frame
 pub record AreListed (file : List ℕ) (payloads : List Payload) (content : Content) : Type 0 where
   pub first : ℕ
   pub all : payloads_of payloads ≡ payload_list content
@@ -49,7 +49,7 @@ CountsRecovered (Damaged disk payloads at) before now = now ≡ before
 CountsRecovered (DiskFault disk) before now = Rose before now
 CountsRecovered (NoMemory disk) before now = now ≡ before
 
--- reads of the journal of a file that was read give what counts
+-- reads of the journal, once its file was read, give what counts
 abbrev pub TellsAfter : {D : Type 0} → (D → Option (List ℕ)) → List ℕ → Recovered D → Type 0
 TellsAfter bytes file (Ready journal payloads) =
     (content : Content) × AreListed file payloads content × IsTold bytes journal content

@@ -1,10 +1,10 @@
-//! A payload as it stands in a journal.
+//! A payload as it is stored in a journal.
 ghost use Rattle.std.specs.Prelude.{◌≡◌, [], ◌∷◌, ◌++◌};
 ghost use Rattle.txn_journal.specs.Frames.{Fits, body, payload_of};
 
 use std::marker::Model;
 
-/// A payload with its length before it and a closed gate behind it, as one write puts it into a journal.
+/// A payload with its length before it and a commit byte of 0 after it, as one write puts it into a journal.
 /// Contracts see it as the payload.
 #[derive(Drop)]
 pub struct Frame {
@@ -33,7 +33,7 @@ impl Frame {
         Frame { bytes }
     }
 
-    /// The length, the payload and the closed gate.
+    /// The length, the payload and the commit byte of 0.
     pub fn bytes(&self) -> &[u8]
         ensures bytes { result.now ≡ body self.now ++ 0 ∷ [] }
         ensures fits { Fits self.now }

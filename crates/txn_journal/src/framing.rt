@@ -1,4 +1,4 @@
-//! How frames are made.
+//! Construction of frames.
 ghost use Rattle.std.specs.Prelude.{◌≡◌, ◌<◌, ◌^◌, drop, IfOk};
 ghost use Rattle.std.specs.Int.{w32, to_le_bytes};
 ghost use Rattle.txn_journal.specs.Frames.{Fits, body};
@@ -7,10 +7,10 @@ use crate::frames::Frame;
 use std::alloc::Global;
 use ts_schema::{NoMemory, Seq};
 
-/// The bytes of a length and of a gate.
+/// The number of bytes of a length and a commit byte.
 const AROUND: usize = 5;
 
-/// The frame of a payload that is there as a list. The program makes its frames by `open_frame` and
+/// Returns the frame of a payload that exists as a list. The program builds its frames by `open_frame` and
 /// `close_frame`, without such a list.
 pub fn frame(alloc: Global, payload: &Seq<u8>) -> Result<Frame, NoMemory>
     requires fits { Fits payload.now }
@@ -21,8 +21,8 @@ pub fn frame(alloc: Global, payload: &Seq<u8>) -> Result<Frame, NoMemory>
     close_frame(bytes)
 }
 
-/// The beginning of a frame of a payload of so many bytes, with room for all of it. The payload is
-/// appended to it, and `close_frame` makes the frame, so that no payload is copied.
+/// Returns the beginning of a frame of a payload of `length` bytes, with room for all of it. The caller
+/// appends the payload, and `close_frame` completes the frame, so no payload is copied.
 pub fn open_frame(alloc: Global, length: usize) -> Result<Vec<u8>, NoMemory>
     requires { length < 2 ^ 32 }
     ensures begun { IfOk result (λ bytes. bytes.items ≡ to_le_bytes w32 length) }
@@ -32,7 +32,7 @@ pub fn open_frame(alloc: Global, length: usize) -> Result<Vec<u8>, NoMemory>
     Ok(bytes)
 }
 
-/// The frame of the payload that stands behind its length.
+/// Returns the frame of the payload that follows its length in `bytes`.
 pub fn close_frame(bytes: Vec<u8>) -> Result<Frame, NoMemory>
     requires begun { bytes.items ≡ body (drop 4 bytes.items) }
     requires fits { Fits (drop 4 bytes.items) }

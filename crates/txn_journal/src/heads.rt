@@ -8,25 +8,26 @@ ghost use Rattle.txn_journal.specs.Reading.{StartsAs, IsHead, IsStart, IsSized, 
 use crate::versions::Version;
 use ts_disk::{Disk, Failed, MOST_BYTES};
 
-/// What a journal begins with. The byte of its version follows.
+/// The first seven bytes of a journal. The version byte follows them.
 pub const MAGIC: [u8; 7] = *b"TSCTLJ0";
 
-/// The magic bytes, the byte of version 1, and a closed gate.
+/// The magic bytes, the byte of version 1, and a commit byte of 0.
 pub const HEADER: [u8; 9] = *b"TSCTLJ01\0";
 
-/// The place of the byte of the version.
+/// The place of the version byte.
 pub const VERSION_BYTE: u64 = 7;
 
-/// The place of the first gate.
+/// The place of the first commit byte.
 pub const FIRST_GATE: u64 = 8;
 
-/// A gate in front of a frame that counts.
+/// The commit byte before a frame that counts.
 pub const OPEN: u8 = 1;
 
-/// The bytes of a gate and of a length.
+/// The number of bytes of a commit byte and a length.
 const GATE_AND_LENGTH: u64 = 5;
 
-/// The bytes of a gate, of a length, and of what follows: a payload's first, or the next gate.
+/// The number of bytes of a commit byte, a length, and the byte after it: the first of a payload, or the next
+/// commit byte.
 const HEAD_BYTES: usize = 6;
 
 /// How a file begins.
@@ -36,11 +37,11 @@ pub enum Start {
     Bare,
     /// It begins with the magic bytes and is longer than a header, or it is a header.
     Journal(Version),
-    /// It is longer than a header, and begins otherwise.
+    /// It is longer than a header, and begins with other bytes.
     Foreign,
 }
 
-/// How a file of so many bytes begins.
+/// Reads how a file of `size` bytes begins.
 pub fn read_start<D: Disk>(disk: &mut D, size: u64) -> Result<Start, Failed>
     requires size { HasLength (D.bytes disk.old) size }
     ensures starts { (file : List ℕ) → D.bytes disk.old ≡ Some file → IfOk result (λ start. StartsAs start file) }
@@ -56,7 +57,7 @@ pub fn read_start<D: Disk>(disk: &mut D, size: u64) -> Result<Start, Failed>
     Ok(judge_start(&head, size))
 }
 
-/// How a file of so many bytes begins, by its first nine.
+/// How a file of `size` bytes begins, by its first nine bytes.
 fn judge_start(head: &[u8; 9], size: u64) -> Start
     requires { 9 ≤ size }
     ensures { IsStart result head.now size }
@@ -74,7 +75,7 @@ fn judge_start(head: &[u8; 9], size: u64) -> Start
     }
 }
 
-/// The version that the byte behind the magic bytes says.
+/// Reads the version from the byte after the magic bytes.
 pub fn read_version<D: Disk>(disk: &mut D) -> Result<Version, Failed>
     requires range { HasRange (D.bytes disk.old) 8 }
     ensures version { (file : List ℕ) → D.bytes disk.old ≡ Some file
@@ -87,19 +88,19 @@ pub fn read_version<D: Disk>(disk: &mut D) -> Result<Version, Failed>
     Ok(Version::of(mark[0]))
 }
 
-/// What stands at a gate.
+/// What a commit byte and the bytes after it say.
 #[derive(Clone, Copy)]
 pub enum Head {
-    /// The gate is closed.
+    /// The commit byte isn't 1.
     Closed,
-    /// The gate is open, and a whole frame of a payload of so many bytes follows. Behind its length stands
-    /// this byte: the payload's first, or the next gate.
+    /// The commit byte is 1, and a whole frame follows, of a payload of `length` bytes. `first` is the byte after
+    /// the length: the first of the payload, or the next commit byte.
     Frame { length: u64, first: u8 },
-    /// The gate is open, and too few bytes follow.
+    /// The commit byte is 1, and too few bytes follow.
     Short,
 }
 
-/// What stands at the gate at place `at` of a file of so many bytes.
+/// Reads the commit byte at place `at` of a file of `size` bytes, and the beginning of its frame.
 pub fn read_head<D: Disk>(disk: &mut D, at: u64, size: u64) -> Result<Head, Failed>
     requires within { at < size }
     requires most { size ≤ MOST_BYTES }
@@ -115,15 +116,16 @@ pub fn read_head<D: Disk>(disk: &mut D, at: u64, size: u64) -> Result<Head, Fail
     Ok(judge_head(&head, size - at))
 }
 
-/// What stands at a gate, and how many bytes the file has.
+/// What a commit byte and the bytes after it say, and how many bytes the file has.
 #[derive(Clone, Copy)]
 pub struct GateAt {
     pub head: Head,
     pub size: u64,
 }
 
-/// What stands at the gate at place `at` of a file that had so many bytes. Another process may be
-/// writing the file: where a frame looks short, the length is asked for again until it doesn't grow.
+/// Reads the commit byte at place `at` of a file that had `size` bytes, and the beginning of its frame.
+/// Another process may be writing the file. If the frame looks short, this function reads the length again
+/// until it stops growing.
 pub fn sight_head<D: Disk>(disk: &mut D, at: u64, size: u64) -> Result<GateAt, Failed>
     requires within { at < size }
     requires most { size ≤ MOST_BYTES }
@@ -151,7 +153,7 @@ pub fn sight_head<D: Disk>(disk: &mut D, at: u64, size: u64) -> Result<GateAt, F
     }
 }
 
-/// What stands at a gate with its first bytes, where so many bytes stand from it on.
+/// What a commit byte and the five bytes after it say, if the file has `left` bytes from it on.
 fn judge_head(head: &[u8; 6], left: u64) -> Head
     requires { 0 < left }
     ensures { JudgesHead result head.now left }

@@ -13,18 +13,18 @@ use crate::writes::{put_frame, put_version, write_synced};
 use std::marker::Model;
 use ts_disk::{Disk, Failed};
 
-/// What `Journal::arm`, `Journal::append` or `Journal::raise_version` answered.
+/// The outcome of `Journal::arm`, `Journal::append` or `Journal::raise_version`.
 #[derive(Clone, Copy, Debug, PartialEq, Eq)]
 pub enum Append {
-    /// It is on the disk, and stays there.
+    /// The disk has it, and it stays there.
     Done,
-    /// The disk failed. The journal is stopped from now on.
+    /// The disk failed. From now on the journal has stopped.
     DiskFault,
-    /// The journal had stopped before, and nothing was done.
+    /// The journal had stopped before, and the call did nothing.
     Stopped,
 }
 
-/// How a journal stands.
+/// The state of a journal.
 #[derive(Clone, Copy, Debug, PartialEq, Eq)]
 pub enum JournalState {
     /// Its file has at most nine bytes, and no header.
@@ -35,13 +35,13 @@ pub enum JournalState {
     Still,
 }
 
-/// A journal that takes payloads.
+/// A journal to which payloads can be appended.
 #[derive(Drop)]
 pub struct Journal<D: Disk> {
     disk: D,
-    /// One of a file without a header will be of version 1.
+    /// A file without a header will be of version 1.
     version: Version,
-    /// The place of the gate behind the last payload.
+    /// The place of the commit byte after the last payload.
     end: u64,
     standing: JournalState,
 }
@@ -59,7 +59,7 @@ impl<D: Disk> Model for Journal<D> {
 }
 
 impl<D: Disk> Journal<D> {
-    /// A journal of this version on this disk, whose gate behind the last payload stands at this place.
+    /// A journal of this version on this disk. `end` is the place of the commit byte after its last payload.
     pub(crate) fn new(disk: D, version: Version, end: u64, standing: JournalState) -> Journal<D>
         requires placed { IsPlaced (D.bytes disk) standing end }
         ensures made { result ≡ record { disk = disk; version = version; end = end; standing = standing } }
@@ -72,28 +72,28 @@ impl<D: Disk> Journal<D> {
         }
     }
 
-    /// Its version: 1 or 2. A journal without a header gets one of version 1.
+    /// Returns the version, 1 or 2. A journal without a header gets version 1.
     pub fn version(&self) -> u8
         ensures { result ≡ number_of self.now.version }
     {
         self.version.number()
     }
 
-    /// Writes and syncs the header where the file has at most nine bytes and isn't the header, and else
-    /// does nothing.
+    /// Writes and syncs the header if the file has at most nine bytes and isn't the header. Otherwise does
+    /// nothing.
     pub fn arm(&mut self) -> Append
         ensures tells { (content : Content) → IsTold D.bytes self.old content
             → IfDone result (IsTold D.bytes self.new content) }
         ensures done { (content : Content) → IsAtRest D.bytes D.may_leave self.old content
             → IfDone result (IsAtRest D.bytes D.may_leave self.new content) }
-        // A crash at any moment leaves a file that stands for the same.
+        // A crash at any moment leaves a file of the same content.
         ensures any_moment { (content : Content) → IsAtRest D.bytes D.may_leave self.old content
             → LeavesOnly D.moment D.left_since self.old.disk self.new.disk (λ file. StandsFor file content) }
-        // And since each earlier moment at which there was less, it leaves what begins with that.
+        // If each image since an earlier moment has a content that begins with `before`, each still does.
         ensures earlier { (t : ℕ) (before content : Content) → IsAtRest D.bytes D.may_leave self.old content
             → IsFront before content → t ≤ D.moment self.old.disk
             → BeginSince D.left_since self.old.disk t before → BeginSince D.left_since self.new.disk t before }
-        // So does what reads give, whether all of it was on the disk or not.
+        // Reads give such a file too, whether or not all of it was on the disk.
         ensures shown { (content : Content) → IsTold D.bytes self.old content
             → IsSomeAnd (D.bytes self.new.disk) (λ file. StandsFor file content) }
         ensures ends { Ends result self.old.standing self.new.standing }
@@ -122,22 +122,22 @@ impl<D: Disk> Journal<D> {
         }
     }
 
-    /// Puts a payload behind the others: its frame, a sync, its gate, a sync. It takes no memory. Once it
-    /// answers `Done`, every crash leaves a file that has it.
+    /// Appends a payload: writes its frame, syncs, sets its commit byte, and syncs. Takes no memory. Once it
+    /// returns `Done`, every crash leaves a file that has the payload.
     pub fn append(&mut self, frame: &Frame) -> Append
         requires armed { self.old.standing ≢ JournalState.Bare }
         ensures done { (content : Content) → IsTold D.bytes self.old content → IfDone result
             (IsAtRest D.bytes D.may_leave self.new (with_payload self.old.version content frame.now)) }
-        // A crash at any moment leaves a file that stands for what was there, with this payload or without it.
+        // A crash at any moment leaves a file of the same content, with this payload or without it.
         ensures any_moment { (content : Content) → IsAtRest D.bytes D.may_leave self.old content
             → LeavesOnly D.moment D.left_since self.old.disk self.new.disk
             (WithOrWithout self.old.version content frame.now) }
-        // And since each earlier moment with which both begin, it leaves what begins with the same.
+        // If each image since an earlier moment has a content that begins with `before`, each still does.
         ensures earlier { (t : ℕ) (before content : Content) → IsAtRest D.bytes D.may_leave self.old content
             → IsFront before content → IsFront before (with_payload self.old.version content frame.now)
             → t ≤ D.moment self.old.disk
             → BeginSince D.left_since self.old.disk t before → BeginSince D.left_since self.new.disk t before }
-        // So does what reads give, whether all of it was on the disk or not.
+        // Reads give such a file too, whether or not all of it was on the disk.
         ensures shown { (content : Content) → IsTold D.bytes self.old content
             → IsSomeAnd (D.bytes self.new.disk) (WithOrWithout self.old.version content frame.now) }
         ensures ends { Ends result self.old.standing self.new.standing }
@@ -161,18 +161,18 @@ impl<D: Disk> Journal<D> {
         }
     }
 
-    /// Makes a journal of version 1 one of version 2: writes the byte of its version, and syncs. In version 2
-    /// it does nothing.
+    /// Raises a journal of version 1 to version 2: writes the version byte, and syncs. In version 2 it does
+    /// nothing.
     pub fn raise_version(&mut self) -> Append
         requires armed { self.old.standing ≢ JournalState.Bare }
         ensures tells { (content : Content) → IsTold D.bytes self.old content
             → IfDone result (IsTold D.bytes self.new (content_of_version_2 content)) }
         ensures done { (content : Content) → IsAtRest D.bytes D.may_leave self.old content
             → IfDone result (IsAtRest D.bytes D.may_leave self.new (content_of_version_2 content)) }
-        // A crash at any moment leaves a file that stands for what counts in the one version or in the other.
+        // A crash at any moment leaves a file with the content of the one version or of the other.
         ensures any_moment { (content : Content) → IsAtRest D.bytes D.may_leave self.old content
             → LeavesOnly D.moment D.left_since self.old.disk self.new.disk (StandsForEither content (content_of_version_2 content)) }
-        // So does what reads give, whether all of it was on the disk or not.
+        // Reads give such a file too, whether or not all of it was on the disk.
         ensures shown { (content : Content) → IsTold D.bytes self.old content
             → IsSomeAnd (D.bytes self.new.disk) (StandsForEither content (content_of_version_2 content)) }
         ensures ends { Ends result self.old.standing self.new.standing }
@@ -200,7 +200,7 @@ impl<D: Disk> Journal<D> {
         }
     }
 
-    /// The disk.
+    /// Returns the disk.
     pub fn close(self) -> D
         ensures disk { result ≡ self.disk }
     {

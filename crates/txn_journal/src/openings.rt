@@ -1,4 +1,4 @@
-//! The beginning of reading.
+//! The start of reading.
 ghost use Rattle.std.specs.Prelude.{◌≡◌, ℕ, ◌≤◌, List, Some, IfOk};
 ghost use Rattle.ts_disk.specs.Disk.{Counted, HasLength, Keeps};
 ghost use Rattle.txn_journal.specs.Opening.{Opens, CountsOpened, disk_of_opened};
@@ -16,19 +16,19 @@ use crate::versions::Version;
 use std::alloc::Global;
 use ts_disk::{Disk, Failed, MOST_BYTES};
 
-/// What the beginning of reading found.
+/// What `Reader::open` found.
 #[derive(Drop)]
 pub enum OpenOutcome<D: Disk> {
     /// The journal may be read.
     Reading(Reader<D>),
-    /// The file is longer than a header and doesn't begin as a journal; the damaged place is 0.
+    /// The file is longer than a header and doesn't begin as a journal. The damaged place is 0.
     Damaged { disk: D, at: u64 },
     /// The disk failed.
     DiskFault(D),
 }
 
 impl<D: Disk> Reader<D> {
-    /// Begins to read the journal on this disk. It takes no memory.
+    /// Begins to read the journal on this disk. Takes no memory.
     pub fn open(alloc: Global, disk: D) -> OpenOutcome<D>
         ensures opens { (file : List ℕ) → D.bytes disk ≡ Some file → Opens D.bytes result file }
         ensures kept { Keeps D.bytes D.may_leave D.moment D.left_since disk (disk_of_opened result) }
@@ -79,7 +79,8 @@ fn find_start<D: Disk>(disk: &mut D) -> Result<FileStart, Failed>
     Ok(FileStart { start, beginning })
 }
 
-/// Where reading begins in a file that begins so: at the first gate, but for a journal of version 2.
+/// Where reading begins in a file that begins so: at the first commit byte, or in a journal of version 2 at
+/// its last base, if it has one.
 fn find_beginning<D: Disk>(disk: &mut D, start: Start, size: u64) -> Result<ReadStart, Failed>
     requires sized { IsSized start size }
     requires most { size ≤ MOST_BYTES }

@@ -1,4 +1,4 @@
-//! What a journal holds.
+//! What a journal contains.
 use ts_schema::Seq;
 
 /// A payload of a journal.
@@ -6,6 +6,6 @@ use ts_schema::Seq;
 pub struct Payload {
     /// Its bytes.
     pub bytes: Seq<u8>,
-    /// The place of its open gate, from the beginning of the journal.
+    /// The place of its commit byte, from the beginning of the journal.
     pub at: u64,
 }

@@ -17,8 +17,8 @@ pub struct ReadStart {
     pub size: u64,
 }
 
-/// Finds the gate of the last base, or the first gate where there is no base. It passes frames by their
-/// lengths, and reads no payload but its first byte.
+/// Finds the commit byte of the last base, or the first commit byte if there is no base. Passes frames by
+/// their lengths, and reads only the first byte of each payload.
 pub fn find_base<D: Disk>(disk: &mut D, size: u64) -> Result<ReadStart, Failed>
     requires gate { 9 ≤ size }
     requires most { size ≤ MOST_BYTES }
@@ -49,7 +49,7 @@ pub fn find_base<D: Disk>(disk: &mut D, size: u64) -> Result<ReadStart, Failed>
     }
 }
 
-/// The gate of the last base, where the frame at place `at` is one of a base or isn't.
+/// Returns the place of the last base's commit byte, once the frame at place `at` was passed.
 fn last_base(base: u64, at: u64, is_base: bool) -> u64
     requires { base ≤ at }
     ensures last { result ≡ cond is_base at base }

@@ -17,16 +17,16 @@ use std::mem;
 use ts_disk::{Disk, Failed, MOST_BYTES};
 use ts_schema::Seq;
 
-/// Reads the payloads of a journal in order, and holds one of them at a time. It writes nothing.
+/// Reads the payloads of a journal in order, and holds one of them at a time. Writes nothing.
 #[derive(Drop)]
 pub struct Reader<D: Disk> {
     disk: D,
     /// How the file begins: bare or ready.
     standing: JournalState,
     version: Version,
-    /// How many bytes the file had when that was last asked for.
+    /// How many bytes the file had when its length was last read.
     size: u64,
-    /// The place of the next gate.
+    /// The place of the next commit byte.
     at: u64,
     payload: Vec<u8>,
     is_done: bool,
@@ -55,18 +55,18 @@ impl<D: Disk> Model for Reader<D> {
 /// What one step of reading found.
 #[derive(Clone, Copy, Debug, PartialEq, Eq)]
 pub enum Next {
-    /// A base, which `Reader::payload` gives, with the place of its open gate. What was read before it
-    /// counts no more.
+    /// A base, which `Reader::payload` returns, with the place of its commit byte. What was read before it no
+    /// longer counts.
     Base(u64),
-    /// Another payload, which `Reader::payload` gives, with the place of its open gate.
+    /// Another payload, which `Reader::payload` returns, with the place of its commit byte.
     Payload(u64),
-    /// A closed gate ends the journal, or the file has at most nine bytes and isn't a header.
+    /// A commit byte that isn't 1 ends the journal, or the file has at most nine bytes and isn't a header.
     End,
-    /// Behind the open gate at this place the file is too short for its frame and a next gate.
+    /// After the commit byte of 1 at this place the file is too short for a frame and the next commit byte.
     Damaged(u64),
-    /// The disk failed. Another step tries again.
+    /// The disk failed. The next step tries again.
     DiskFault,
-    /// There is no memory for the payload. Another step tries again.
+    /// There is no memory for the payload. The next step tries again.
     NoMemory,
 }
 
@@ -93,9 +93,9 @@ impl<D: Disk> Reader<D> {
         }
     }
 
-    /// Reads the next payload. After `Base` and `Payload` there may be others. After each other answer the reader
-    /// stays at the same gate, and another step begins there. Another process may be writing the first base of
-    /// the file meanwhile, which makes the journal one of version 2: told bytes don't show that.
+    /// Reads the next payload. After `Base` and `Payload` others may follow. After each other answer the reader
+    /// stays at the same commit byte, and the next step begins there. Meanwhile another process may write the
+    /// first base of the file, which raises the journal to version 2. Contracts over known bytes don't show that.
     pub fn next(&mut self) -> Next
         ensures steps { (file : List ℕ) (content : Content) → HasRead D.bytes self.old file content
             → Steps D.bytes result file content self.old self.new }
@@ -144,15 +144,15 @@ impl<D: Disk> Reader<D> {
         }
     }
 
-    /// The payload of the last step, where that answered `Base` or `Payload` and the payload wasn't taken out since.
-    /// After `DiskFault` and `NoMemory` it may be any bytes.
+    /// Returns the payload of the last step, if that answered `Base` or `Payload` and `take_out` wasn't called
+    /// since. After `DiskFault` and `NoMemory` it may be any bytes.
     pub fn payload(&self) -> &[u8]
         ensures payload { result.now ≡ self.now.payload }
     {
         &self.payload
     }
 
-    /// The same, taken out of the reader, which holds it no longer.
+    /// Takes the same payload out of the reader, which no longer holds it.
     pub fn take_out(&mut self, alloc: Global) -> Seq<u8>
         ensures payload { result ≡ self.old.payload }
         ensures disk { self.new.disk ≡ self.old.disk }
@@ -163,7 +163,7 @@ impl<D: Disk> Reader<D> {
         Seq::of(mem::replace(&mut self.payload, Vec::new(alloc)))
     }
 
-    /// The journal, once the end was found.
+    /// Returns the journal, once the end was found.
     pub fn finish(self) -> Journal<D>
         requires done { self.is_done ≡ true }
         ensures disk { result.disk ≡ self.disk }
@@ -177,7 +177,7 @@ impl<D: Disk> Reader<D> {
         Journal::new(self.disk, self.version, self.at, self.standing)
     }
 
-    /// The disk.
+    /// Returns the disk.
     pub fn close(self) -> D
         ensures disk { result ≡ self.disk }
     {
@@ -211,9 +211,9 @@ fn read_payload<D: Disk>(disk: &mut D, at: u64, count: u64, payload: &mut Vec<u8
     }
 }
 
-/// The version of a journal of which this payload was read. No event begins as a base does, so where the
-/// payload of a journal of version 1 does, another process may have raised the version since that was
-/// read, and it is read again.
+/// Returns the version of a journal of which this payload was read. No event begins as a base does. If the
+/// payload of a journal of version 1 does, another process may have raised the version since it was read, so
+/// this function reads it again.
 fn version_now<D: Disk>(disk: &mut D, version: Version, payload: &[u8]) -> Result<Version, Failed>
     requires range { HasRange (D.bytes disk.old) 8 }
     ensures told { (file : List ℕ) → D.bytes disk.old ≡ Some file → version_of (slice_index file 7) ≡ version

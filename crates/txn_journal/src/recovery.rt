@@ -1,4 +1,4 @@
-//! A journal that is read at once.
+//! Reading a whole journal in one call.
 ghost use Rattle.std.specs.Prelude.{◌≡◌, ℕ, [], ◌∷◌, ◌++◌, List, Some, IfOk, OnErr};
 ghost use Rattle.ts_disk.specs.CrashImage.{Only};
 ghost use Rattle.ts_disk.specs.Disk.{Keeps};
@@ -17,12 +17,12 @@ use ts_schema::{NoMemory, Seq};
 /// What reading a journal found.
 #[derive(Drop)]
 pub enum Recovered<D: Disk> {
-    /// What counts of the payloads of the open frames, and the journal behind them.
+    /// The payloads that count, and the journal, ready for more.
     Ready {
         journal: Journal<D>,
         payloads: Seq<Payload>,
     },
-    /// The first damaged place, and what counts of the payloads of the open frames before it.
+    /// The first damaged place, and the payloads that count before it.
     Damaged {
         disk: D,
         payloads: Seq<Payload>,
@@ -34,8 +34,8 @@ pub enum Recovered<D: Disk> {
     NoMemory(D),
 }
 
-/// Reads a journal from its base on. It writes nothing. It holds all these payloads at once, for callers that
-/// want a list of them; the program reads by `Reader`, which holds one at a time.
+/// Reads a journal from its base on. Writes nothing. Holds all these payloads at once, for callers that want
+/// a list of them. The program reads by `Reader`, which holds one at a time.
 pub fn recover<D: Disk>(alloc: Global, disk: D) -> Recovered<D>
     ensures recovers { (file : List ℕ) → D.bytes disk ≡ Some file → Recovers result file }
     ensures tells { (file : List ℕ) → D.bytes disk ≡ Some file → TellsAfter D.bytes file result }
@@ -56,7 +56,7 @@ pub fn recover<D: Disk>(alloc: Global, disk: D) -> Recovered<D>
     }
 }
 
-/// Reads all payloads, where none was read yet.
+/// Reads all payloads with a reader that has read none.
 fn read_all<D: Disk>(alloc: Global, reader: Reader<D>) -> Recovered<D>
     ensures recovers { (file : List ℕ) → HasRead D.bytes reader file nothing → Recovers result file }
     ensures tells { (file : List ℕ) → HasRead D.bytes reader file nothing → TellsAfter D.bytes file result }
@@ -105,7 +105,7 @@ fn keep(alloc: Global, payloads: &mut Seq<Payload>, bytes: &[u8], at: u64) -> Re
     payloads.push(Payload { bytes: copy, at })
 }
 
-/// Keeps a copy of a payload, and no other payload.
+/// Keeps a copy of a payload, and drops the others.
 fn keep_alone(
     alloc: Global,
     payloads: &mut Seq<Payload>,

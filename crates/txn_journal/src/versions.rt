@@ -2,7 +2,7 @@
 ghost use Rattle.std.specs.Prelude.{◌≡◌, ◌&&◌, nat_eq, nat_lt};
 ghost use Rattle.txn_journal.specs.Contents.{is_base, number_of, version_of};
 
-/// The version of a journal: what the byte behind its magic bytes says.
+/// The version of a journal: what its version byte says.
 #[derive(Clone, Copy, Debug, PartialEq, Eq)]
 pub enum Version {
     /// Each payload counts.
@@ -11,14 +11,15 @@ pub enum Version {
     Two,
 }
 
-/// The byte of version 2. Each other byte is version 1, since a crash while it is written may leave any.
+/// The version byte of version 2. Each other byte is version 1, since a crash during its write may leave any
+/// byte.
 pub const SECOND: u8 = b'2';
 
-/// The byte that a base begins with.
+/// The first byte of a base.
 const BASE: u8 = 8;
 
 impl Version {
-    /// The version of a journal with this byte.
+    /// The version of a journal with this version byte.
     pub(crate) fn of(mark: u8) -> Version
         ensures { result ≡ version_of mark }
     {
@@ -29,7 +30,7 @@ impl Version {
         }
     }
 
-    /// 1 or 2.
+    /// Returns 1 or 2.
     pub fn number(self) -> u8
         ensures { result ≡ number_of self }
     {
@@ -50,7 +51,7 @@ impl Version {
     }
 }
 
-/// Whether a payload of so many bytes, behind whose length this byte stands, is a base in version 2.
+/// Whether a payload of `length` bytes with this byte after its length is a base in version 2.
 pub fn begins_base(length: u64, first: u8) -> bool
     ensures { result ≡ (nat_lt 0 length && nat_eq first 8) }
 {

@@ -1,4 +1,4 @@
-//! A write that is put onto the disk before anything else.
+//! Writes that are synced before anything else is written.
 ghost use Rattle.std.specs.Prelude.{◌≡◌, ℕ, ◌+◌, ◌≤◌, [], ◌∷◌, ◌++◌, List, Some, length, OnOk, IsSomeAnd};
 ghost use Rattle.ts_disk.specs.CrashImage.{file_after_write, Torn, Only, LeavesOnly};
 ghost use Rattle.ts_disk.specs.Disk.{Counted, HasRange};
@@ -17,10 +17,10 @@ use ts_disk::{Disk, Failed, MOST_BYTES};
 pub fn write_synced<D: Disk>(disk: &mut D, at: u64, piece: &[u8]) -> Result<(), Failed>
     requires most { at ≤ MOST_BYTES }
     requires range { HasRange (D.bytes disk.old) at }
-    // From a disk whose bytes are all on it, a crash at any moment leaves them as the write may tear them.
+    // If all bytes of the disk are on it, a crash at any moment leaves them as the write may tear them.
     ensures crash { (file : List ℕ) → D.bytes disk.old ≡ Some file → Only file (D.may_leave disk.old)
         → LeavesOnly D.moment D.left_since disk.old disk.new (Torn at (length piece.now) file) }
-    // So does what reads give, whether all of it was on the disk or not.
+    // Reads give such bytes too, whether or not all of them were on the disk.
     ensures shown { (file : List ℕ) → D.bytes disk.old ≡ Some file
         → IsSomeAnd (D.bytes disk.new) (Torn at (length piece.now) file) }
     ensures done { OnOk result ((file : List ℕ) → D.bytes disk.old ≡ Some file
@@ -34,7 +34,8 @@ pub fn write_synced<D: Disk>(disk: &mut D, at: u64, piece: &[u8]) -> Result<(), 
     disk.sync()
 }
 
-/// Writes a frame behind the closed gate at place `end` and syncs, and then opens that gate and syncs.
+/// Writes a frame after the commit byte at place `end`, which isn't 1, and syncs. Then sets that byte to 1
+/// and syncs.
 pub fn put_frame<D: Disk>(disk: &mut D, end: u64, frame: &Frame) -> Result<(), Failed>
     requires most { end + 1 ≤ MOST_BYTES }
     requires range { HasRange (D.bytes disk.old) (end + 1) }
@@ -48,8 +49,8 @@ pub fn put_frame<D: Disk>(disk: &mut D, end: u64, frame: &Frame) -> Result<(), F
     ensures most { OnOk result (end + 6 + length frame.now ≤ MOST_BYTES) }
     ensures counted { Counted (D.faults disk.old) (D.faults disk.new) result }
 {
-    // The gate is opened by a write of its own, over a byte that stands closed on the disk. With the frame
-    // in one write, a crash might leave the gate open and the frame torn.
+    // A separate write sets the commit byte, over a byte that isn't 1 on the disk. With the frame in one write, a
+    // crash might leave the commit byte at 1 and the frame torn.
     write_synced(disk, end + 1, frame.bytes())?;
     write_synced(disk, end, &[OPEN])
 }
@@ -57,7 +58,7 @@ pub fn put_frame<D: Disk>(disk: &mut D, end: u64, frame: &Frame) -> Result<(), F
 /// Writes the byte of version 2 and syncs.
 pub fn put_version<D: Disk>(disk: &mut D) -> Result<(), Failed>
     requires range { HasRange (D.bytes disk.old) 8 }
-    // As long as the write may be torn the byte may be any.
+    // While the write may be torn, the byte may be any.
     ensures any_moment { (end : ℕ) (content : Content) → Rests D.bytes D.may_leave disk.old One end content
         → LeavesOnly D.moment D.left_since disk.old disk.new (StandsForEither content (content_of_version_2 content)) }
     ensures shown { (end : ℕ) (content : Content) → Tells D.bytes disk.old One end content

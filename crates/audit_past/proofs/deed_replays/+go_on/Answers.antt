@@ -11,7 +11,7 @@ pub returns-in-End : goal.returns-in-End
 returns-in-End g t c = λ p read bytes k.
     went_ends g.P.Shot.Shown bytes c.args.went.said (g.P.Past.all c.args.past.now) c.args.went.at c.args.looks.now p read c.args.went.next c.in-End.completion c.led_by.result c.in-End.is c.requires.within k c.led_by.ensures
 
--- ---- a deed
+-- ---- a store call
 
 pub act-requires-clause-asks : goal.act-requires-clause-asks
 act-requires-clause-asks g t c = λ _ _.

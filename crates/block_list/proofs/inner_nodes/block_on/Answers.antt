@@ -1,4 +1,4 @@
--- A block of the shelf is a run of the list.
+-- A block of the inner node is a run of the list.
 use Rattle.std.proofs.Common.{◌≡◌, ◌-◌, ◌∙◌, subst, arith}
 use Rattle.std.proofs.lemmas.Option.{IfSome_then}
 use Rattle.std.specs.Arc.{arc_value}

@@ -1,4 +1,4 @@
--- The cells of the group are a row once it is told where they end.
+-- The cells of the group are a row once their end is stored.
 use Rattle.std.proofs.Common.{ap, length}
 use Rattle.cell_rows.proofs.PartLaws.{row_ended}
 use Rattle.cell_groups.specs.Groups.{group_shown}

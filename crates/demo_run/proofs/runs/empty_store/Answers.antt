@@ -1,4 +1,4 @@
--- A disk without a byte stands for the empty history, and is damaged nowhere.
+-- A disk without a byte represents the empty history, and is not damaged.
 use Rattle.std.proofs.Common.{◌≡◌, ◌∙◌, ap, [], Some}
 use Rattle.std.proofs.lemmas.Result.{IfOk-weaker}
 use Rattle.ts_disk.specs.MemDisk.{known_bytes}

@@ -1,4 +1,4 @@
--- The columns of the row are a row of cells once it is told where they end.
+-- The columns of the row are a row of cells once the place of their end is recorded.
 use Rattle.std.proofs.Common.{ap, length}
 use Rattle.cell_rows.proofs.PartLaws.{row_ended}
 use Rattle.ts_model.specs.Answers.{all_columns}

@@ -1,4 +1,4 @@
--- The replies to the lines that are done were written, and the store goes on.
+-- The replies to the executed lines were written, and the store hasn't stopped.
 use Rattle.std.proofs.Common.{◌≡◌, ◌+◌, ◌<◌, ◌≤◌, ◌^◌, true, false}
 use Rattle.std.specs.Io.KnownBytes.{prepend_known}
 use Rattle.ts_io.specs.Reader.{Follows}

@@ -18,7 +18,7 @@ returns-in-End-clause-change g t c = λ bytes fits. (subst (λ n. NextFits g.B.S
 pub returns-in-End-clause-lost : goal.returns-in-End-clause-lost
 returns-in-End-clause-lost g t c = lost_ended c.args.next c.in-End.completion (g.B.Backend.state c.args.backend.now) c.in-End.is
 
--- ---- a deed, and what follows it
+-- ---- a store call, and what follows it
 
 pub returns-in_err-advanced-in-Deed-clause-ends : goal.returns-in_err-advanced-in-Deed-clause-ends
 returns-in_err-advanced-in-Deed-clause-ends g t c = λ p read.

@@ -1,4 +1,4 @@
--- What the call has done is told by how the checkpoint ended.
+-- The end of the checkpoint determines what the call has done.
 use Rattle.std.proofs.Common.{◌≡◌, ℕ, List, refl}
 use Rattle.ts_store.specs.Stands.{Stands}
 use Rattle.ts_store.specs.Stores.{opening_history, history_seen}

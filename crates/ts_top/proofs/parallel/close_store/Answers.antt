@@ -1,4 +1,4 @@
--- A store that made no event says that its file stands for the opening history.
+-- The file of a store that created no event represents the opening history.
 use Rattle.std.proofs.Common.{ap, subst}
 use Rattle.ts_store.specs.Images.{IsBetween, StandsForEither, latest}
 use Rattle.ts_store.specs.Stands.{Stands}

@@ -1,4 +1,4 @@
--- Where its disk may cross threads, a store may too; what its run left is told by the closed store.
+-- If its disk may cross threads, a store may too; the closed store shows what its run left.
 use Rattle.std.proofs.Common.{◌≡◌, ℕ, List, sym, ap, ◌∙◌, subst}
 use denote.Exit.{no}
 use denote.Param.Send.{arg_send, param_send}

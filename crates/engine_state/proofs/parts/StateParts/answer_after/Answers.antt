@@ -1,4 +1,4 @@
--- The state after the operations stands for the history with their commit on top, and answers as any other state.
+-- The state after the operations represents the history with their commit on top, and answers like any other state.
 use Rattle.ts_model.specs.declared.events.Event.TheVariants.{Commit}
 use Rattle.ts_model.specs.History.{◌▸◌}
 use Rattle.engine_state.proofs.parts.StateParts.answer_after.Goals as goal

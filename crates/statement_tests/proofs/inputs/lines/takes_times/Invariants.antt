@@ -1,4 +1,4 @@
--- The reader goes on, and knows whether the source has told its end.
+-- The reader continues, and knows whether the source has reported its end.
 use Rattle.std.proofs.Common.{◌≡◌, true, Some}
 use Rattle.ts_io.specs.Reader.{Follows}
 use Rattle.statement_tests.proofs.inputs.lines.takes_times.Given as goal

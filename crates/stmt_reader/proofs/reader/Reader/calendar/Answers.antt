@@ -9,7 +9,7 @@ use Rattle.stmt_syntax.specs.declared.statements.Stmt.TheVariants as stmt
 use Rattle.stmt_reader.proofs.Loops.{go_on_fails}
 use Rattle.stmt_reader.proofs.reader.Reader.calendar.Goals as goal
 
--- behind its head it goes on with the rest of a fold
+-- after its head it continues with the rest of a fold
 goes_on : (h : CalendarHead) (s t : Stream) → calendar_bucket s ≡ Ok (h, t) → calendar_rest s ≡ go_on (fold_behind calendar_word h.head t) (λ f. gives (stmt.Calendar h.number h.unit f))
 unfolding calendar_rest bind
 goes_on h s t e = ap (λ r. go_on r (λ b u. go_on (fold_behind calendar_word b.head u) (λ f. gives (stmt.Calendar b.number b.unit f)))) e

@@ -1,4 +1,4 @@
--- The line began with bytes that are gone, goes on with those held, and is too long already.
+-- The line began with bytes that are gone, continues with those held, and is too long already.
 use Rattle.std.proofs.Common.{◌≡◌, ◌<◌, true, false, [], length, take}
 use Rattle.std.specs.Io.KnownBytes.{prepend_known}
 use Rattle.ts_io.specs.Lines.{ended_lines}
