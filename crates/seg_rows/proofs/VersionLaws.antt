@@ -1,14 +1,17 @@
 -- Laws of versions: what one more version adds to what is shown or taken.
 use Rattle.std.proofs.Common.{◌≡◌, ℕ, ◌<◌, ◌≤◌, ◌+◌, Bool, true, false, cond, ◌&&◌, Option, Some, None, ℤ, List, [], ◌∷◌, ◌++◌, length, get_or, take, drop, map, refl, sym, ◌∙◌, ap, arith}
 use Rattle.std.specs.List.{filter}
+use Rattle.std.proofs.Math.Bool.{and-false}
+use Rattle.std.specs.Prelude.{not}
+use Rattle.std.proofs.lemmas.Int.{ints, clamps}
 use Rattle.std.proofs.lemmas.List.Folds.{list_all-append}
 use Rattle.std.proofs.lemmas.List.{append_assoc, append-nil, map-append, length-append, length-map, take_at, take-append-drop}
 use Rattle.std.proofs.lemmas.List.Elements.{filter_more, filter-append}
 use Rattle.std.proofs.lemmas.List.Sums.{length-filter, count_by-le-length}
-use Rattle.ts_bucket.specs.Spans.{SpanValue}
+use Rattle.ts_bucket.specs.Spans.{HullValue, SpanValue, in_span}
 use Rattle.ts_schema.specs.declared.rows.Row.{Row}
 use Rattle.ts_schema.specs.declared.conditions.Test.{Test}
-use Rattle.seg_rows.specs.Hulls.{joined_hull, hull_at, hull_of}
+use Rattle.seg_rows.specs.Hulls.{joined_hull, hull_at, hull_of, misses}
 use Rattle.seg_rows.specs.Versions.{Version, visible_at, shown_at, rows_of, rows_at, is_taken, taken_at, after_kill, later_time, latest_of, latest_at}
 use Rattle.seg_rows.proofs.HullLaws.{hull_of-append, latest_of-append, later_time-assoc, later_apart}
 
@@ -47,6 +50,23 @@ pub rows_at-take : (p : ℕ) (s : SpanValue) (vs : List Version) (i : ℕ)
 rows_at-take p s vs i =
     sym (take_at (rows_at p s (take i vs)) (rows_at p s (drop i vs)) _ refl)
     ∙ ap (take (length (rows_at p s (take i vs)))) (sym (rows_at-append p s (take i vs) (drop i vs)) ∙ ap (rows_at p s) (take-append-drop i vs))
+
+-- a span that the hull of one more time misses doesn't hold it, and misses the hull without it
+misses_time : (s : SpanValue) (t : ℤ) (k : Option HullValue) → misses s (joined_hull (hull_at t) k) ≡ true → in_span s t ≡ false
+misses_time s t None e = grind (arith, ints)
+misses_time s t (Some h) e = grind (arith, ints, clamps)
+
+misses_rest : (s : SpanValue) (t : ℤ) (k : Option HullValue) → misses s (joined_hull (hull_at t) k) ≡ true → misses s k ≡ true
+misses_rest s t None e = refl
+misses_rest s t (Some h) e = grind (arith, ints, clamps)
+
+-- where a span misses the hull of all times, nothing is shown
+pub none_shown : (p : ℕ) (s : SpanValue) (vs : List Version) → misses s (hull_of (rows_of vs)) ≡ true → rows_at p s vs ≡ []
+none_shown p s [] e = refl
+none_shown p s (v ∷ vs) e =
+    let outside : in_span s v.row.at ≡ false = misses_time s v.row.at (hull_of (rows_of vs)) e in
+    let hidden : shown_at p s v ≡ false = rw outside (and-false (visible_at p v)) in
+    rw hidden (none_shown p s vs (misses_rest s v.row.at (hull_of (rows_of vs)) e))
 
 length-append-cond : {X : Type 0} (xs : List X) (b : Bool) (x : X) → length (xs ++ cond b (x ∷ []) []) ≡ length xs + cond b 1 0
 length-append-cond xs true x = simp length-append

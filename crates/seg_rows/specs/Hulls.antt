@@ -1,7 +1,7 @@
 -- The hull of rows: their least and their greatest time.
-use Rattle.std.specs.Prelude.{List, [], ◌∷◌, ℤ, Option, Some, None}
+use Rattle.std.specs.Prelude.{Bool, true, not, List, [], ◌∷◌, ℤ, Option, Some, None}
 use Rattle.std.specs.Int.{int_min, int_max}
-use Rattle.ts_bucket.specs.Spans.{HullValue}
+use Rattle.ts_bucket.specs.Spans.{HullValue, SpanValue, overlaps}
 use Rattle.ts_schema.specs.declared.rows.Row.{Row}
 
 -- the least hull that holds what either holds
@@ -23,3 +23,8 @@ hull_of (row ∷ rows) = joined_hull (hull_at row.at) (hull_of rows)
 abbrev pub most_of : Option HullValue → Option ℤ
 most_of None = None
 most_of (Some h) = Some h.most
+
+-- the span and the hull have no number in common
+abbrev pub misses : SpanValue → Option HullValue → Bool
+misses s None = true
+misses s (Some h) = not (overlaps h s)

@@ -2,15 +2,61 @@
 ghost use Rattle.std.specs.Prelude.{◌≡◌, true, ◌++◌, ◌∷◌, [], cond, length, OnOk, OnErr, IfOk};
 ghost use Rattle.ts_bucket.specs.Spans.{in_span};
 ghost use Rattle.ts_schema.specs.Counts.{raised_by, RaisedUpTo};
+ghost use Rattle.seg_rows.specs.Hulls.{hull_of, misses};
 ghost use Rattle.seg_rows.specs.Lives.{Covers, versions_of, with_life};
 ghost use Rattle.seg_rows.specs.Versions.{latest_at, later_time, rows_at, shown_at, visible_at, GainsFirst};
 
 use crate::lives::{Life, Lives};
-use ts_bucket::Span;
+use ts_bucket::{Hull, Span, meets};
 use ts_schema::{NoMemory, Row, Seq, Steps};
 
+/// Appends the rows of the span that are visible at a position, where the rows have this hull. Ticks once per
+/// version. Where the hull misses the span, no row is looked at.
+pub fn scan_span<L>(
+    rows: &[Row],
+    lives: &Lives,
+    hull: Option<Hull>,
+    pos: u64,
+    span: Span,
+    out: &mut Seq<Row>,
+    steps: &mut Steps<L>,
+) -> Result<(), NoMemory>
+    requires covers { Covers (length rows.now) lives.now }
+    requires hull { hull ≡ hull_of rows.now }
+    ensures rows { OnOk result (out.new ≡ out.old ++ rows_at pos span (versions_of rows.now lives.now)) }
+    ensures part { OnErr result (GainsFirst (rows_at pos span (versions_of rows.now lives.now)) out.old out.new) }
+    ensures ticks { OnOk result (steps.new ≡ raised_by (length rows.now) steps.old) }
+    ensures at_most { OnErr result (RaisedUpTo (length rows.now) steps.old steps.new) }
+{
+    if is_missed(span, hull) {
+        tick_times(rows.len(), steps);
+        return Ok(());
+    }
+    scan_rows(rows, lives, pos, span, out, steps)
+}
+
+/// Whether a span and a hull have no number in common.
+fn is_missed(span: Span, hull: Option<Hull>) -> bool
+    ensures { result ≡ misses span hull }
+{
+    match hull {
+        None => true,
+        Some(hull) => !meets(hull, span),
+    }
+}
+
+/// Ticks so many times.
+fn tick_times<L>(times: usize, count: &mut Steps<L>)
+    ensures { count.new ≡ raised_by times count.old }
+{
+    let _so_far = count.count();
+    for _ in 0..times {
+        count.tick();
+    }
+}
+
 /// Appends the rows of the span that are visible at a position. Ticks once per version.
-pub fn scan_rows<L>(
+fn scan_rows<L>(
     rows: &[Row],
     lives: &Lives,
     pos: u64,

@@ -9,7 +9,7 @@ use crate::deletes::{lives_after, taken_by};
 use crate::hulls::{greatest_time, join_hulls, row_hull};
 use crate::joins::{joined_lives, joined_rows};
 use crate::lives::Lives;
-use crate::scans::{is_no_later, last_time, later, scan_rows};
+use crate::scans::{is_no_later, last_time, later, scan_span};
 use std::alloc::Global;
 use std::marker::Model;
 use std::sync::Arc;
@@ -156,7 +156,8 @@ impl Segment {
     }
 
     /// Appends the rows of the span that are visible at a position, in the order of the versions. Ticks once
-    /// per version. When out of memory, `out` has gained the first of these rows.
+    /// per version, and looks at none where the hull of all times misses the span. When out of memory, `out` has
+    /// gained the first of these rows.
     pub fn scan<L>(
         &self,
         pos: u64,
@@ -169,7 +170,15 @@ impl Segment {
         ensures ticks { OnOk result (steps.new ≡ raised_by (length self.now) steps.old) }
         ensures at_most { OnErr result (RaisedUpTo (length self.now) steps.old steps.new) }
     {
-        scan_rows(self.rows.items(), &self.lives, pos, span, out, steps)
+        scan_span(
+            self.rows.items(),
+            &self.lives,
+            self.hull,
+            pos,
+            span,
+            out,
+            steps,
+        )
     }
 
     /// The greatest time that is visible at a position, and `None` exactly where no version is.
