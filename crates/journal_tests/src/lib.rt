@@ -7,6 +7,8 @@ mod checkpoints;
 #[cfg(test)]
 mod disks;
 #[cfg(test)]
+mod files;
+#[cfg(test)]
 mod journals;
 #[cfg(test)]
 mod locks;

@@ -1,4 +1,5 @@
 pub mod ActLaws
+pub mod FileLaws
 pub mod Images
 pub mod PickLaws
 pub mod Replays

@@ -53,7 +53,7 @@ length-patched file at bytes n le ends =
       omega (arith, size, length-written filled at bytes),
     )
 
-get_or-patched : (file : List ℕ) (at : ℕ) (bytes : List ℕ) (j : ℕ) → j < length file → (j < at) ⊎ (at + length bytes ≤ j) → get_or (file_with file at bytes) j 0 ≡ get_or file j 0
+pub get_or-patched : (file : List ℕ) (at : ℕ) (bytes : List ℕ) (j : ℕ) → j < length file → (j < at) ⊎ (at + length bytes ≤ j) → get_or (file_with file at bytes) j 0 ≡ get_or file j 0
 get_or-patched file at bytes j le outside =
     let filled = file ++ replicate (at - length file) 0 in
     get_or-written filled at bytes j (omega (arith, length-append file (replicate (at - length file) 0))) outside ∙ get_or_append_left file (replicate (at - length file) 0) 0 j le

@@ -1,12 +1,15 @@
-//! A real file as a disk.
-ghost use Rattle.std.specs.Prelude.{◌≡◌, ◌≤◌, None, ⊤};
+//! A file as a disk.
+ghost use Rattle.std.specs.Prelude.{◌≡◌, ℕ, ◌+◌, ◌-◌, ◌<◌, ◌≤◌, None, length, OnOk, OnErr, IfOk, IfSome, ⊤};
 ghost use Rattle.ts_schema.specs.Counts.{one_more};
+ghost use Rattle.ts_disk.specs.CrashImage.{Torn, Follows, LeavesNoMore, Only, Elapses};
+ghost use Rattle.ts_disk.specs.Disk.{Counted, HasLength, HasRange, IsRange, Writes, Keeps};
+ghost use Rattle.ts_disk.specs.FileCalls.{IsLengthOf, ReadsFile, WritesAhead, SyncsFile, Spares, after_zeros, untold, any_image, one_moment, any_past};
+ghost use Rattle.ts_disk.specs.declared.disks.TheConstants.{MOST_BYTES};
 
 use crate::disks::{Disk, Failed, MOST_BYTES};
-use std::fs::OpenFile;
+use crate::file_calls::FileCalls;
 use std::io;
 use std::marker::Model;
-use std::os::unix::fs::FileExt;
 
 /// By how many bytes the file grows at a time, so that few syncs have to wait for new blocks.
 const STEP: u64 = 1 << 18;
@@ -14,8 +17,8 @@ const STEP: u64 = 1 << 18;
 /// The zeros that one write adds as the file grows.
 const ZEROS: [u8; 4096] = [0; 4096];
 
-/// An open file as a disk, by positioned reads and writes and data syncs, with a count of its errors.
-/// Contracts see only the count: of a file they promise neither what a read gives nor what a crash leaves.
+/// An open file as a disk, with a count of its errors. As a disk it promises neither what a read gives nor what
+/// a crash leaves. The clauses `file` say which calls of the file it makes, and what it does with their errors.
 ///
 /// A write past the end that doesn't begin at place 0 may leave zeros after its bytes: the file grows ahead
 /// in steps.
@@ -28,17 +31,17 @@ pub struct FileDisk<F> {
 }
 
 impl<F> Model for FileDisk<F> {
-    ghost use Rattle.std.specs.Prelude.{ℕ};
+    ghost use Rattle.ts_disk.specs.FileCalls.{OnFile};
 
-    ghost Value = { ℕ };
+    ghost Value = { OnFile F };
 
-    ghost view = { λ s. s.faults };
+    ghost view = { λ s. record { file = s.file; faults = s.faults } };
 }
 
-impl<F: FileExt + OpenFile> FileDisk<F> {
+impl<F: FileCalls> FileDisk<F> {
     /// The disk of this file, which must be open for reading and writing.
     pub fn new(file: F) -> FileDisk<F>
-        ensures no_fault { result ≡ 0 }
+        ensures made { result ≡ record { file = file; faults = 0 } }
     {
         FileDisk {
             file,
@@ -47,9 +50,16 @@ impl<F: FileExt + OpenFile> FileDisk<F> {
         }
     }
 
+    /// Returns the file, for tests that check which calls were made of it.
+    pub fn file(&self) -> &F
+        ensures { result.now ≡ self.now.file }
+    {
+        &self.file
+    }
+
     /// Counts one more fault.
     fn count_fault(&mut self) -> Failed
-        ensures { self.new ≡ one_more self.old }
+        ensures counted { self.new ≡ record self.old { faults = one_more self.old.faults } }
     {
         self.faults = self.faults.saturating_add(1);
         Failed
@@ -57,43 +67,54 @@ impl<F: FileExt + OpenFile> FileDisk<F> {
 
     /// Writes a piece, and zeros after it if it goes past the end and doesn't begin at place 0. The first bytes
     /// of a file are written without zeros, since a crash may leave any length up to the new one.
-    fn write_and_grow(&mut self, at: u64, piece: &[u8], end: u64) -> io::Result<()>
-        requires within { end ≤ MOST_BYTES }
-        ensures { self.new ≡ self.old }
+    fn write_and_grow(&mut self, at: u64, piece: &[u8]) -> io::Result<()>
+        requires within { at + length piece.now ≤ MOST_BYTES }
+        ensures file { WritesAhead (F.known self.old.file) at piece.now result (F.known self.new.file) }
+        ensures faults { self.new.faults ≡ self.old.faults }
     {
-        self.file.write_all_at(piece, at)?;
+        let end = at + piece.len() as u64;
+        self.file.write(at, piece)?;
         if at > 0 && end > self.room {
-            let len = self.file.metadata()?.len();
-            self.room = if end < len { len } else { self.grow(end)? };
+            let len = self.file.len()?;
+            self.room = if end < len {
+                len
+            } else {
+                grow(&mut self.file, end)?
+            };
         }
         Ok(())
     }
-
-    /// Writes zeros from place `end` on up to a whole number of steps, and returns the new length.
-    fn grow(&self, end: u64) -> io::Result<u64>
-        requires within { end ≤ MOST_BYTES }
-    {
-        let goal = (end / STEP + 1) * STEP;
-        let mut at = end;
-        while at < goal {
-            let n = (goal - at).min(ZEROS.len() as u64);
-            self.file.write_all_at(&ZEROS[..n as usize], at)?;
-            at += n;
-        }
-        Ok(goal)
-    }
 }
 
-impl<F: FileExt + OpenFile> Disk for FileDisk<F> {
-    ghost bytes = { λ _. None };
+/// Writes zeros from place `end` on, which is the end of the file, up to a whole number of steps. Returns the new
+/// length.
+fn grow<F: FileCalls>(file: &mut F, end: u64) -> io::Result<u64>
+    requires within { end ≤ MOST_BYTES }
+    requires at_end { IfSome (F.known file.old) (λ s. length s.bytes ≡ end) }
+    ensures longer { IfOk result (λ n. end ≤ n) }
+    ensures zeros { IfOk result (λ n. F.known file.new ≡ after_zeros (F.known file.old) (n - end)) }
+    ensures spares { OnErr result (Spares (F.known file.old) end 0 (F.known file.new)) }
+{
+    let goal = (end / STEP + 1) * STEP;
+    let mut at = end;
+    while at < goal {
+        let n = (goal - at).min(ZEROS.len() as u64);
+        file.write(at, &ZEROS[..n as usize])?;
+        at += n;
+    }
+    Ok(goal)
+}
 
-    ghost may_leave = { λ _ _. ⊤ };
+impl<F: FileCalls> Disk for FileDisk<F> {
+    ghost bytes = { untold };
 
-    ghost moment = { λ _. 0 };
+    ghost may_leave = { any_image };
 
-    ghost left_since = { λ _ _ _. ⊤ };
+    ghost moment = { one_moment };
 
-    ghost faults = { λ s. s };
+    ghost left_since = { any_past };
+
+    ghost faults = { λ s. s.faults };
 
     ghost counts_now = { λ _ _ _ _ _. tt };
 
@@ -105,32 +126,64 @@ impl<F: FileExt + OpenFile> Disk for FileDisk<F> {
         self.faults
     }
 
-    fn len(&mut self) -> Result<u64, Failed> {
-        match self.file.metadata() {
-            Ok(info) if info.len() <= MOST_BYTES => Ok(info.len()),
+    fn len(&mut self) -> Result<u64, Failed>
+        ensures length { IfOk result (λ n. HasLength (untold self.old) n) }
+        ensures most { IfOk result (λ n. n ≤ MOST_BYTES) }
+        ensures kept { Keeps untold any_image one_moment any_past self.old self.new }
+        ensures file_length { IfOk result (λ n. IsLengthOf (F.known self.old.file) n) }
+        ensures file { OnOk result (F.known self.new.file ≡ F.known self.old.file) }
+        ensures counted { Counted self.old.faults self.new.faults result }
+    {
+        match self.file.len() {
+            Ok(n) if n <= MOST_BYTES => Ok(n),
             _ => Err(self.count_fault()),
         }
     }
 
-    fn read_at(&mut self, at: u64, into: &mut [u8]) -> Result<(), Failed> {
-        match self.file.read_exact_at(into, at) {
+    fn read_at(&mut self, at: u64, into: &mut [u8]) -> Result<(), Failed>
+        requires most { at + length into.old ≤ MOST_BYTES }
+        requires range { HasRange (untold self.old) (at + length into.old) }
+        ensures bytes { OnOk result (IsRange (untold self.old) at into.new) }
+        ensures kept { Keeps untold any_image one_moment any_past self.old self.new }
+        ensures file { ReadsFile (F.known self.old.file) at result into.new (F.known self.new.file) }
+        ensures counted { Counted self.old.faults self.new.faults result }
+    {
+        match self.file.read(at, into) {
             Ok(()) => Ok(()),
             Err(_) => Err(self.count_fault()),
         }
     }
 
-    fn write_at(&mut self, at: u64, piece: &[u8]) -> Result<(), Failed> {
+    fn write_at(&mut self, at: u64, piece: &[u8]) -> Result<(), Failed>
+        requires most { at ≤ MOST_BYTES }
+        requires range { HasRange (untold self.old) at }
+        ensures written { Writes (untold self.old) at piece.now result (untold self.new) }
+        ensures most { OnOk result (at + length piece.now ≤ MOST_BYTES) }
+        ensures crash { Follows (Torn at (length piece.now)) (any_image self.old) (any_image self.new) }
+        ensures time { Elapses (one_moment self.old) (one_moment self.new) (any_past self.old) (any_past self.new)
+            (any_image self.new) }
+        ensures file { WritesAhead (F.known self.old.file) at piece.now result (F.known self.new.file) }
+        ensures counted { Counted self.old.faults self.new.faults result }
+    {
         if piece.len() as u64 > MOST_BYTES - at {
             return Err(self.count_fault());
         }
-        match self.write_and_grow(at, piece, at + piece.len() as u64) {
+        match self.write_and_grow(at, piece) {
             Ok(()) => Ok(()),
             Err(_) => Err(self.count_fault()),
         }
     }
 
-    fn sync(&mut self) -> Result<(), Failed> {
-        match self.file.sync_data() {
+    fn sync(&mut self) -> Result<(), Failed>
+        ensures same { untold self.new ≡ untold self.old }
+        ensures durable { OnOk result (IfSome (untold self.old) (λ file. Only file (any_image self.new))) }
+        ensures crash { LeavesNoMore (any_image self.old) (any_image self.new) }
+        ensures time { Elapses (one_moment self.old) (one_moment self.new) (any_past self.old) (any_past self.new)
+            (any_image self.new) }
+        ensures file { SyncsFile (F.known self.old.file) result (F.known self.new.file) }
+        ensures counted { Counted self.old.faults self.new.faults result }
+    {
+        match self.file.sync() {
             Ok(()) => Ok(()),
             Err(_) => Err(self.count_fault()),
         }
