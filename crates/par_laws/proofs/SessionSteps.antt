@@ -14,7 +14,7 @@ use Rattle.ts_sessions.specs.Script.{SessionLine, has_fault}
 use Rattle.ts_sessions.specs.Sessions.{Reports}
 use Rattle.ts_sessions.specs.Procedures.{Procedure}
 use Rattle.par_laws.specs.Parallel.{SessionReplies, SessionExecuted, SessionExecutedTo, exchange_of, exchanges_of, places_after}
-use Rattle.par_laws.specs.declared.exchanges.Exchange.{Exchange}
+use Rattle.transcript.specs.declared.transcripts.Exchange.{Exchange}
 use Rattle.par_laws.specs.Walked.{Walked}
 use Rattle.par_laws.proofs.WalkedLaws.{walked_more}
 

@@ -8,7 +8,7 @@ use Rattle.ts_sessions.specs.Actors.{HadBegun}
 use Rattle.ts_sessions.specs.Places.{Block, Turn}
 use Rattle.ts_sessions.specs.Procedures.{Procedure}
 use Rattle.ts_sessions.specs.Script.{SessionLine, SessionScript, has_fault, text_of}
-use Rattle.par_laws.specs.declared.exchanges.Exchange.{Exchange}
+use Rattle.transcript.specs.declared.transcripts.Exchange.{Exchange}
 use Rattle.par_laws.specs.Named.{RepliesNameEvents}
 use Rattle.par_laws.specs.Phases.{ExecutedTo, Executed, Phase}
 use Rattle.par_laws.specs.Stopped.{RepliesStopAt}

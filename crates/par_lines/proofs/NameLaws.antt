@@ -25,13 +25,13 @@ use Rattle.par_lines.specs.Places.{scripts_of}
 use Rattle.stmt_tokens.proofs.StatementLines.{statement_line}
 use Rattle.par_lines.proofs.Passing.{any_mapped, none_at}
 
-abbrev name_of : SessionScript → List ℕ
+abbrev pub name_of : SessionScript → List ℕ
 name_of script = script.name
 
-record AreNames (names : List (List ℕ)) : Type 0 where
-  few : length names ≤ most_sessions
-  named : All (λ name. IsTrue (is_name name)) names
-  apart : AllPairs (λ one other. one ≢ other) names
+pub record AreNames (names : List (List ℕ)) : Type 0 where
+  pub few : length names ≤ most_sessions
+  pub named : All (λ name. IsTrue (is_name name)) names
+  pub apart : AllPairs (λ one other. one ≢ other) names
 
 -- ---- one name more
 
@@ -66,7 +66,7 @@ names_with name line (x ∷ scripts) = by (same_name x.name name) (appears_in na
 
 -- ---- sorted lines
 
-abbrev Named : Sorted → Type 0
+abbrev pub Named : Sorted → Type 0
 Named s = AreNames (map name_of s.sessions)
 
 named_as : (name : List ℕ) (line : SessionLine) (s : Sorted) → IsTrue (is_name name) → Named s → Named (sorts_as name line s)
@@ -101,7 +101,7 @@ named_lines : (n : ℕ) (lines : List (List ℕ)) (s : Sorted) → Named s → N
 named_lines n [] s all = all
 named_lines n (line ∷ lines) s all = named_lines (suc n) lines (sorts n line s) (named_line n line s all)
 
-named_input : (input : List ℕ) → Named (sorted_lines input)
+pub named_input : (input : List ℕ) → Named (sorted_lines input)
 named_input input = named_lines 1 (lines_of input) (record { refusals = []; sessions = [] }) (record { few = omega arith; named = All-nil (λ name. IsTrue (is_name name)); apart = λ i j d l m. absurd (omega arith) })
 
 -- ---- the same of sessions by places

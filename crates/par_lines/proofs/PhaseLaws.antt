@@ -6,7 +6,7 @@ use Rattle.std.proofs.lemmas.List.Quantifiers.{position-Some}
 use Rattle.ts_model.specs.Roster.{same_name}
 use Rattle.par_lines.specs.declared.sessions.SessionLines.{SessionLines}
 use Rattle.par_lines.specs.Sorted.{at_once, final, only, setup}
-use Rattle.par_lines.specs.Places.{script_of, scripts_of}
+use Rattle.par_lines.specs.Places.{only_session, script_of, scripts_of, sessions_at_once}
 use Rattle.par_lines.proofs.Adding.{has_name}
 use Rattle.par_lines.proofs.Passing.{OnePasses, NonePasses, filter_mapped, none_passes, one_passes, others_twice, passing_others, position_none}
 
@@ -36,19 +36,15 @@ module _ (sessions : List SessionLines) where
   setup_is_not_final : (session : SessionLines) → has_name final session ≡ true → has_name setup session ≡ false
   setup_is_not_final session e = ap (λ name. same_name name setup) (same_text session.name final (sym e))
 
-  pub only_setup : (input : List ℕ) (taken : List SessionLines) → taken ≡ filter (has_name setup) sessions → scripts_of input taken ≡ only setup (scripts_of input sessions)
-  only_setup input taken e = ap (scripts_of input) e ∙ filter_mapped (script_of input) (λ script. same_name script.name setup) sessions
+  pub only_final : (taken left : List SessionLines) → left ≡ others → taken ≡ filter (has_name final) left → taken ≡ only_session final sessions
+  only_final taken left l e = e ∙ ap (filter (has_name final)) l ∙ passing_others (has_name setup) (has_name final) setup_is_not_final sessions
 
-  pub only_final : (input : List ℕ) (taken left : List SessionLines) → left ≡ others → taken ≡ filter (has_name final) left → scripts_of input taken ≡ only final (scripts_of input sessions)
-  only_final input taken left l e =
-      ap (scripts_of input) (e ∙ ap (filter (has_name final)) l ∙ passing_others (has_name setup) (has_name final) setup_is_not_final sessions)
-      ∙ filter_mapped (script_of input) (λ script. same_name script.name final) sessions
-
-  pub all_others : (left rest : List SessionLines) → left ≡ others → rest ≡ filter (λ session. not (has_name final session)) left
-      → rest ≡ filter (λ session. not (has_name setup session || has_name final session)) sessions
+  pub all_others : (left rest : List SessionLines) → left ≡ others → rest ≡ filter (λ session. not (has_name final session)) left → rest ≡ sessions_at_once sessions
   all_others left rest l e = e ∙ ap (filter (λ session. not (has_name final session))) l ∙ others_twice (has_name setup) (has_name final) sessions
 
-  pub only_others : (input : List ℕ) (rest : List SessionLines) → rest ≡ filter (λ session. not (has_name setup session || has_name final session)) sessions
-      → scripts_of input rest ≡ at_once (scripts_of input sessions)
-  only_others input rest e =
-      ap (scripts_of input) e ∙ filter_mapped (script_of input) (λ script. not (same_name script.name setup || same_name script.name final)) sessions
+  -- and their lines
+  pub only_script : (input name : List ℕ) → scripts_of input (only_session name sessions) ≡ only name (scripts_of input sessions)
+  only_script input name = filter_mapped (script_of input) (λ script. same_name script.name name) sessions
+
+  pub scripts_at_once : (input : List ℕ) → scripts_of input (sessions_at_once sessions) ≡ at_once (scripts_of input sessions)
+  scripts_at_once input = filter_mapped (script_of input) (λ script. not (same_name script.name setup || same_name script.name final)) sessions

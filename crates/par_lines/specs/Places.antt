@@ -1,14 +1,15 @@
 -- The lines and sessions of an input, by the places of sorted lines.
-use Rattle.std.specs.Prelude.{◌≡◌, ℕ, ◌+◌, ◌≤◌, List, length, map, take, drop, sum_by}
+use Rattle.std.specs.Prelude.{◌≡◌, ℕ, ◌+◌, ◌≤◌, ◌||◌, not, List, filter, length, map, take, drop, sum_by}
 use Rattle.std.specs.List.{All, range_with_len}
 use Rattle.std.specs.Option.{IfSome}
 use Rattle.stmt_syntax.specs.Limits.{longest_line}
+use Rattle.ts_model.specs.Roster.{same_name}
 use Rattle.ts_sessions.specs.Script.{SessionLine, SessionScript}
 use Rattle.par_lines.specs.declared.sessions.LinePlace.{LinePlace}
 use Rattle.par_lines.specs.declared.sessions.SessionLines.{SessionLines}
 use Rattle.par_lines.specs.declared.phases.Phases.{Phases}
 use Rattle.par_lines.specs.declared.sorting.SortedLines.{SortedLines}
-use Rattle.par_lines.specs.Sorted.{Sorted}
+use Rattle.par_lines.specs.Sorted.{Sorted, final, setup}
 
 -- ---- what an input has at a place
 
@@ -31,6 +32,17 @@ sorted_of input lines = record { refusals = lines.refusals.items; sessions = scr
 -- sessions are numbered from 0 in order
 abbrev pub AreNumbered : List SessionLines → Type 0
 AreNumbered sessions = map (λ session. session.number) sessions ≡ range_with_len 0 (length sessions)
+
+-- ---- who runs when
+
+-- the session with a name alone, where it appears
+abbrev pub only_session : List ℕ → List SessionLines → List SessionLines
+only_session name sessions = filter (λ session. same_name session.name name) sessions
+
+-- those that run in parallel
+abbrev pub sessions_at_once : List SessionLines → List SessionLines
+sessions_at_once sessions =
+    filter (λ session. not (same_name session.name setup || same_name session.name final)) sessions
 
 -- ---- how much it is
 

@@ -1,5 +1,5 @@
 -- The lines of an input, sorted by the sessions that they are of.
-use Rattle.std.specs.Prelude.{ℕ, suc, Bool, ◌||◌, not, cond, nat_lt, List, [], ◌∷◌, ◌++◌, length, take, filter}
+use Rattle.std.specs.Prelude.{◌≡◌, ◌<◌, ℕ, suc, Bool, ◌||◌, not, cond, nat_lt, List, [], ◌∷◌, ◌++◌, get_or, length, take, filter}
 use Rattle.std.specs.List.{list_any}
 use Rattle.ts_io.specs.Lines.{lines_of}
 use Rattle.ts_model.specs.Roster.{same_name}
@@ -19,6 +19,11 @@ use Rattle.ts_sessions.specs.Step.{bare}
 pub record Sorted : Type 0 where
   pub refusals : List ℕ
   pub sessions : List SessionScript
+
+-- among sessions in order of appearance, this one has this number, from 0
+pub record HasNumber (scripts : List SessionScript) (script : SessionScript) (number : ℕ) : Type 0 where
+  pub there : number < length scripts
+  pub is : get_or scripts number script ≡ script
 
 -- ---- one line
 

@@ -1,10 +1,10 @@
 //! Which sessions run alone, and which in parallel.
-ghost use Rattle.std.specs.Prelude.{◌≡◌, ◌≢◌, ◌≤◌, ℕ, List, not, filter, length};
+ghost use Rattle.std.specs.Prelude.{◌≡◌, ◌≢◌, ◌≤◌, ℕ, not, filter, length};
 ghost use Rattle.std.specs.List.{All, AllPairs};
 ghost use Rattle.std.specs.Option.{option_to_list};
 ghost use Rattle.ts_model.specs.Roster.{same_name};
-ghost use Rattle.par_lines.specs.Sorted.{setup, final, only, at_once};
-ghost use Rattle.par_lines.specs.Places.{scripts_of, AreWithin, IsWithin};
+ghost use Rattle.par_lines.specs.Sorted.{setup, final};
+ghost use Rattle.par_lines.specs.Places.{only_session, sessions_at_once, AreWithin, IsWithin};
 
 use crate::sessions::{SessionLines, place_of};
 
@@ -22,12 +22,9 @@ pub struct Phases {
 /// Splits sessions by who runs when. Those that run in parallel stay in order.
 pub fn into_phases(sessions: Vec<SessionLines>) -> Phases
     requires apart { AllPairs (λ one other. one.name ≢ other.name) sessions.items }
-    ensures setup { (input : List ℕ) → scripts_of input (option_to_list result.setup)
-        ≡ only setup (scripts_of input sessions.items) }
-    ensures at_once { (input : List ℕ) → scripts_of input result.at_once.items
-        ≡ at_once (scripts_of input sessions.items) }
-    ensures last { (input : List ℕ) → scripts_of input (option_to_list result.last)
-        ≡ only final (scripts_of input sessions.items) }
+    ensures setup { option_to_list result.setup ≡ only_session setup sessions.items }
+    ensures at_once { result.at_once.items ≡ sessions_at_once sessions.items }
+    ensures last { option_to_list result.last ≡ only_session final sessions.items }
     ensures few { length result.at_once.items ≤ length sessions.items }
     ensures within { (n : ℕ) → All (IsWithin n) sessions.items → AreWithin n result }
 {

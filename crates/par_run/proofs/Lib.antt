@@ -2,3 +2,6 @@ pub mod ReplyLaws
 pub mod CrewLaws
 pub mod OutputLaws
 pub mod RunLaws
+pub mod NameLaws
+pub mod ScriptLaws
+pub mod SoundLaws

@@ -1,43 +1,41 @@
 -- What workers have replied, one after the other.
-use Rattle.std.proofs.Common.{◌≡◌, ℕ, suc, ◌+◌, ◌<◌, ◌≤◌, Bool, true, false, List, [], ◌∷◌, ◌++◌, append_assoc, append-nil, get_or, length, map, take, nat_lt, sum_by, ap, refl, sym, ◌∙◌, subst, arith}
+use Rattle.std.proofs.Common.{◌≡◌, ℕ, ◌+◌, ◌<◌, ◌≤◌, Bool, true, false, List, [], ◌∷◌, ◌++◌, append_assoc, append-nil, flat_map, get_or, length, map, take, nat_lt, sum_by, ap, refl, sym, ◌∙◌, subst, arith}
 use Rattle.std.specs.Prelude.{◌||◌}
-use Rattle.std.specs.List.{concat, list_any}
-use Rattle.std.proofs.lemmas.List.{length_push, map-append, map_more, take_all}
-use Rattle.std.proofs.lemmas.List.Folds.{concat-append, list_any-append}
+use Rattle.std.specs.List.{list_any}
+use Rattle.std.proofs.lemmas.List.{flat_map_more, map-append, map_more, take_all, take_more}
+use Rattle.std.proofs.lemmas.List.Folds.{list_any-append}
 use Rattle.std.proofs.lemmas.List.Sums.{sum_by-append, sum_by-cons, sum_by_push}
 use Rattle.ts_schema.specs.Counts.{raised_by}
 use Rattle.par_workers.specs.Slots.{Slot, workers_of}
-use Rattle.par_laws.specs.declared.exchanges.Exchange.{Exchange}
+use Rattle.transcript.specs.declared.transcripts.Exchange.{Exchange}
+use Rattle.transcript.specs.declared.transcripts.SessionTranscript.{SessionTranscript}
 use Rattle.par_laws.specs.Parallel.{SessionReplies}
-use Rattle.par_run.specs.declared.ends.ParLine.{ParLine}
 use Rattle.par_run.specs.declared.workers.SessionWorker.{SessionWorker}
 use Rattle.par_run.specs.declared.outputs.Output.{Output as OutputMade}
-use Rattle.par_run.specs.Outputs.{Output, Says, all_lines, output_in, refusals_only, par_line, with_session, with_sessions}
+use Rattle.par_run.specs.Outputs.{Output, Says, output_in, refusals_only, replies_text, talk_of, with_session, with_sessions}
 use Rattle.par_run.specs.Workers.{ran_out, replies_of}
 
--- ---- the lines of one session, one after the other
+-- ---- the replies of one session, one after the other
 
--- the texts of replies, and of one more
-pub texts_more : (exchanges : List Exchange) (one : Exchange) (old now next : List ℕ) → now ≡ old ++ concat (map (λ e. e.reply) exchanges) → next ≡ now ++ one.reply → next ≡ old ++ concat (map (λ e. e.reply) (exchanges ++ one ∷ []))
-texts_more exchanges one old now next so_far more =
-    more ∙ ap (λ t. t ++ one.reply) so_far ∙ append_assoc old (concat (map (λ e. e.reply) exchanges)) one.reply
-    ∙ ap (λ t. old ++ t) (ap (λ t. concat (map (λ e. e.reply) exchanges) ++ t) (sym (append-nil one.reply))
-    ∙ sym (concat-append (map (λ e. e.reply) exchanges) (one.reply ∷ [])) ∙ sym (ap concat (map-append (λ e. e.reply) exchanges (one ∷ []))))
+abbrev reply : Exchange → List ℕ
+reply exchange = exchange.reply
 
--- the lines, and one more
-pub lines_more : (place : ℕ) (exchanges : List Exchange) (one : Exchange) (old now next : List ParLine) → now ≡ old ++ map (par_line place) exchanges → next ≡ now ++ par_line place one ∷ [] → next ≡ old ++ map (par_line place) (exchanges ++ one ∷ [])
-lines_more place exchanges one old now next so_far more =
-    more ∙ ap (λ l. l ++ par_line place one ∷ []) so_far ∙ append_assoc old (map (par_line place) exchanges) (par_line place one ∷ [])
-    ∙ ap (λ l. old ++ l) (sym (map-append (par_line place) exchanges (one ∷ [])))
+-- the texts of the replies up to a place, and of the one there
+pub texts_more : (exchanges : List Exchange) (i : ℕ) (one : Exchange) (old now next : List ℕ) → i < length exchanges → one ≡ get_or exchanges i one
+    → now ≡ old ++ flat_map reply (take i exchanges) → next ≡ now ++ one.reply → next ≡ old ++ flat_map reply (take (i + 1) exchanges)
+texts_more exchanges i one old now next lt same so_far more =
+    let longer : take i exchanges ++ one ∷ [] ≡ take (i + 1) exchanges = ap (λ e. take i exchanges ++ e ∷ []) same ∙ sym (take_more exchanges i one lt) in
+    more ∙ ap (λ t. t ++ one.reply) so_far ∙ flat_map_more reply old (take i exchanges) one ∙ ap (λ es. old ++ flat_map reply es) longer
+
+pub texts_all : (exchanges : List Exchange) (i : ℕ) (old now : List ℕ) → length exchanges ≤ i → now ≡ old ++ flat_map reply (take i exchanges) → now ≡ old ++ flat_map reply exchanges
+texts_all exchanges i old now le so_far = so_far ∙ ap (λ es. old ++ flat_map reply es) (take_all i exchanges le)
 
 -- ---- one session
 
--- what a session said and was replied was appended, where its place is the number of names before it
-pub appended : (replies : SessionReplies) (old new : OutputMade) (place : ℕ) → place ≡ length old.names.items → new.text.items ≡ old.text.items ++ concat (map (λ e. e.reply) replies.exchanges) → new.fault ≡ (old.fault || replies.fault)
-    → new.names.items ≡ old.names.items ++ replies.name ∷ [] → new.lines.items ≡ old.lines.items ++ map (par_line place) replies.exchanges → output_in new ≡ with_session replies (output_in old)
-appended replies old new place at text fault names lines =
-    let told = lines ∙ ap (λ n. old.lines.items ++ map (par_line n) replies.exchanges) at in
-    λ i. record { text = text i; fault = fault i; names = names i; lines = told i }
+-- what a session said and was replied was appended
+pub appended : (replies : SessionReplies) (old new : OutputMade) → new.text.items ≡ old.text.items ++ replies_text (talk_of replies) → new.fault ≡ (old.fault || replies.fault)
+    → new.sessions.items ≡ old.sessions.items ++ talk_of replies ∷ [] → output_in new ≡ with_session replies (output_in old)
+appended replies old new text fault sessions = λ i. record { text = text i; fault = fault i; sessions = sessions i }
 
 -- ---- the output of several sessions
 
@@ -51,30 +49,11 @@ with_both : (sessions others : List SessionReplies) (out : Output) → with_sess
 with_both [] others out = refl
 with_both (s ∷ sessions) others out = with_both sessions others (with_session s out)
 
--- nothing yet but refusals
-pub begun_with : (refusals : List ℕ) (made : OutputMade) → made.text.items ≡ refusals → made.fault ≡ nat_lt 0 (length refusals) → made.names.items ≡ [] → made.lines.items ≡ [] → output_in made ≡ refusals_only refusals
-begun_with refusals made text fault names lines = λ i. record { text = text i; fault = fault i; names = names i; lines = lines i }
-
--- those of three crews, one after the other
-pub three_crews : (one two three : List SessionReplies) (start begun first second third : Output) → begun ≡ start → first ≡ with_sessions one begun → second ≡ with_sessions two first → third ≡ with_sessions three second
-    → third ≡ with_sessions three (with_sessions two (with_sessions one start))
-three_crews one two three start begun first second third same a b d = d ∙ ap (with_sessions three) (b ∙ ap (with_sessions two) (a ∙ ap (with_sessions one) same))
-
--- one session has one name more
-pub names_more : (one : SessionReplies) (out : Output) → length (with_session one out).names ≡ length out.names + 1
-names_more one out = length_push out.names one.name
-
--- the replies of lines are those of their exchanges
-replies_stay : (place : ℕ) (exchanges : List Exchange) → map (λ line. line.reply) (map (par_line place) exchanges) ≡ map (λ e. e.reply) exchanges
-replies_stay place [] = refl
-replies_stay place (e ∷ exchanges) = ap (λ l. e.reply ∷ l) (replies_stay place exchanges)
-
 -- what stands in an output before some sessions, and what they add
-record Adds (refusals : List ℕ) (sessions : List SessionReplies) (old new : Output) : Type 0 where
-  text : new.text ≡ refusals ++ concat (map (λ line. line.reply) new.lines)
-  fault : new.fault ≡ (old.fault || list_any (λ replies. replies.fault) sessions)
-  names : new.names ≡ old.names ++ map (λ replies. replies.name) sessions
-  lines : new.lines ≡ old.lines ++ all_lines (length old.names) sessions
+record Adds (refusals : List ℕ) (replied : List SessionReplies) (old new : Output) : Type 0 where
+  text : new.text ≡ refusals ++ flat_map replies_text new.sessions
+  fault : new.fault ≡ (old.fault || list_any (λ replies. replies.fault) replied)
+  sessions : new.sessions ≡ old.sessions ++ map talk_of replied
 
 or_none : (b : Bool) → b ≡ (b || false)
 or_none true = refl
@@ -84,27 +63,14 @@ or_both : (a b c : Bool) → ((a || b) || c) ≡ (a || (b || c))
 or_both true b c = refl
 or_both false b c = refl
 
-text_more : (refusals : List ℕ) (one : SessionReplies) (old : Output) → old.text ≡ refusals ++ concat (map (λ line. line.reply) old.lines)
-    → (with_session one old).text ≡ refusals ++ concat (map (λ line. line.reply) (with_session one old).lines)
-text_more refusals one old so_far =
-    let place = length old.names in
-    let before = map (λ (line : ParLine). line.reply) old.lines in
-    let more = map (λ (e : Exchange). e.reply) one.exchanges in
-    ap (λ t. t ++ concat more) so_far ∙ append_assoc refusals (concat before) (concat more)
-    ∙ ap (λ t. refusals ++ t) (sym (concat-append before more) ∙ ap (λ l. concat (before ++ l)) (sym (replies_stay place one.exchanges)) ∙ sym (ap concat (map-append (λ line. line.reply) old.lines (map (par_line place) one.exchanges))))
-
-adds : (refusals : List ℕ) (sessions : List SessionReplies) (old : Output) → old.text ≡ refusals ++ concat (map (λ line. line.reply) old.lines) → Adds refusals sessions old (with_sessions sessions old)
-adds refusals [] old so_far = record { text = so_far; fault = or_none old.fault; names = sym (append-nil old.names); lines = sym (append-nil old.lines) }
-adds refusals (s ∷ sessions) old so_far =
-    let next = with_session s old in
-    let rest = adds refusals sessions next (text_more refusals s old so_far) in
-    let place : length next.names ≡ suc (length old.names) = omega (arith, names_more s old) in
+adds : (refusals : List ℕ) (replied : List SessionReplies) (old : Output) → old.text ≡ refusals ++ flat_map replies_text old.sessions → Adds refusals replied old (with_sessions replied old)
+adds refusals [] old so_far = record { text = so_far; fault = or_none old.fault; sessions = sym (append-nil old.sessions) }
+adds refusals (s ∷ replied) old so_far =
+    let rest = adds refusals replied (with_session s old) (ap (λ t. t ++ replies_text (talk_of s)) so_far ∙ flat_map_more replies_text refusals old.sessions (talk_of s)) in
     record {
       text = rest.text;
-      fault = rest.fault ∙ or_both old.fault s.fault (list_any (λ replies. replies.fault) sessions);
-      names = rest.names ∙ append_assoc old.names (s.name ∷ []) (map (λ replies. replies.name) sessions);
-      lines = rest.lines ∙ append_assoc old.lines (map (par_line (length old.names)) s.exchanges) (all_lines (length next.names) sessions)
-          ∙ ap (λ n. old.lines ++ (map (par_line (length old.names)) s.exchanges ++ all_lines n sessions)) place;
+      fault = rest.fault ∙ or_both old.fault s.fault (list_any (λ replies. replies.fault) replied);
+      sessions = rest.sessions ∙ append_assoc old.sessions (talk_of s ∷ []) (map talk_of replied);
     }
 
 -- what three crews replied, one after the other, is the output of all
@@ -116,7 +82,12 @@ says refusals before between after out reads is counted =
     let whole : with_sessions all first ≡ out =
     with_both (before ++ between) after first ∙ ap (with_sessions after) (with_both before between first) ∙ sym is in
     let a = subst (λ o. Adds refusals all first o) whole (adds refusals all first (sym (append-nil refusals))) in
-    record { text = a.text; fault = a.fault; names = a.names; lines = a.lines; reads = counted }
+    record { text = a.text; fault = a.fault; sessions = a.sessions; reads = counted }
+
+-- the names of sessions in a transcript
+pub talk_names : (replied : List SessionReplies) → map (λ (talk : SessionTranscript). talk.name) (map talk_of replied) ≡ map (λ replies. replies.name) replied
+talk_names [] = refl
+talk_names (r ∷ replied) = ap (λ l. r.name ∷ l) (talk_names replied)
 
 -- ---- rows read
 

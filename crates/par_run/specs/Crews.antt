@@ -13,7 +13,7 @@ use Rattle.par_lines.specs.Sorted.{Sorted, at_once, final, only, setup}
 use Rattle.par_run.specs.declared.crews.Crews.{Crews}
 use Rattle.par_run.specs.declared.workers.SessionWorker.{SessionWorker}
 use Rattle.par_run.specs.Outputs.{Output, Says}
-use Rattle.par_run.specs.Workers.{worker_script, IsReady}
+use Rattle.par_run.specs.Workers.{worker_script, IsNumbered, IsReady}
 use Rattle.ts_sessions.specs.declared.actors.Actor.{Ghosts as Actor}
 
 -- the sessions of workers
@@ -33,6 +33,13 @@ module _ {A B G T J : Type 0} where
     pub setup_is : scripts_in named crews.setup.items ≡ only setup lines.sessions
     pub at_once_are : scripts_in named crews.at_once.items ≡ at_once lines.sessions
     pub last_is : scripts_in named crews.last.items ≡ only final lines.sessions
+
+  -- each has the number of its session, where these have appeared
+  pub record AreNumbered (named : A → List ℕ) (numbered : A → ℕ) (appeared : List SessionScript)
+      (crews : Crews A B G T J) : Type 0 where
+    pub setup_is : All (IsNumbered named numbered appeared) (workers_of crews.setup.items)
+    pub at_once_are : All (IsNumbered named numbered appeared) (workers_of crews.at_once.items)
+    pub last_is : All (IsNumbered named numbered appeared) (workers_of crews.last.items)
 
   -- each is before its first line
   pub record AreReady {S K : Type 0} (actors : Actor A S K) (crews : Crews A B G T J) : Type 0 where
@@ -64,7 +71,7 @@ module _ {P : Type 0} (reply : P → List ℕ → ℕ → Procedure (Turn P)) (p
     pub after : List SessionReplies
     pub ran : RanInParallel reply p opening setup others final new before between after
     pub says : Says refusals (before ++ between ++ after) out reads
-    pub names : out.names ≡ map (λ session. session.name) (setup ++ others ++ final)
+    pub names : map (λ talk. talk.name) out.sessions ≡ map (λ session. session.name) (setup ++ others ++ final)
 
   -- the sessions of the sorted lines of an input did
   abbrev pub LinesRan : History → Sorted → State → Output → ℕ → Type 0

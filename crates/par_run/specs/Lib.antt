@@ -3,3 +3,4 @@ pub mod Outputs
 pub mod Workers
 pub mod Crews
 pub mod Ends
+pub mod Laws

@@ -1,42 +1,47 @@
--- What a run writes: the text of all replies, and each line with its reply.
-use Rattle.std.specs.Prelude.{◌≡◌, ℕ, suc, Bool, ◌||◌, List, [], ◌∷◌, ◌++◌, length, map, nat_lt, sum_by}
-use Rattle.std.specs.List.{concat, list_any}
+-- What a run writes: the text of all replies, and what each session said and was replied.
+use Rattle.std.specs.Prelude.{◌≡◌, ℕ, Bool, ◌||◌, List, [], ◌∷◌, ◌++◌, flat_map, length, map, nat_lt, sum_by}
+use Rattle.std.specs.List.{list_any}
 use Rattle.ts_schema.specs.Counts.{raised_by}
-use Rattle.par_laws.specs.declared.exchanges.Exchange.{Exchange}
+use Rattle.transcript.specs.declared.transcripts.SessionTranscript.{SessionTranscript}
+use Rattle.transcript.specs.declared.transcripts.Transcript.{Transcript}
 use Rattle.par_laws.specs.Parallel.{SessionReplies}
 use Rattle.par_run.specs.declared.ends.ParEnd.{ParEnd}
-use Rattle.par_run.specs.declared.ends.ParLine.{ParLine}
 use Rattle.par_run.specs.declared.outputs.Output.{Output as OutputMade}
 
--- the text of refusals and replies, whether one of them is a FAULT, the names of the sessions, and their lines with
--- their replies
+-- the text of refusals and replies, whether one of them is a FAULT, and the sessions with their lines and replies
 pub record Output : Type 0 where
   pub text : List ℕ
   pub fault : Bool
-  pub names : List (List ℕ)
-  pub lines : List ParLine
+  pub sessions : List SessionTranscript
 
 -- what was made of it
 abbrev pub output_in : OutputMade → Output
-output_in o = record { text = o.text.items; fault = o.fault; names = o.names.items; lines = o.lines.items }
+output_in o = record { text = o.text.items; fault = o.fault; sessions = o.sessions.items }
 
 -- what the end of a run has of it
 abbrev pub output_of : {B : Type 0} → ParEnd B → Output
-output_of end = record { text = end.text; fault = end.fault; names = end.names; lines = end.lines }
+output_of end = record { text = end.text; fault = end.fault; sessions = end.sessions }
 
--- ---- one session more
+-- the transcript of a run that began at a position
+abbrev pub transcript_in : ℕ → Output → Transcript
+transcript_in start out = record { start = start; sessions = out.sessions }
 
--- a line with its reply, of the session with this place among the names
-abbrev pub par_line : ℕ → Exchange → ParLine
-par_line place exchange = record { session = place; line = exchange.line; reply = exchange.reply }
+-- ---- one session
 
--- what a session said and was replied comes last
+-- what a session said and was replied, as a transcript has it
+abbrev pub talk_of : SessionReplies → SessionTranscript
+talk_of replies = record { name = replies.name; replies = replies.exchanges }
+
+-- the texts of its replies
+abbrev pub replies_text : SessionTranscript → List ℕ
+replies_text talk = flat_map (λ exchange. exchange.reply) talk.replies
+
+-- it comes last
 abbrev pub with_session : SessionReplies → Output → Output
 with_session replies out = record {
-  text = out.text ++ concat (map (λ exchange. exchange.reply) replies.exchanges);
+  text = out.text ++ replies_text (talk_of replies);
   fault = out.fault || replies.fault;
-  names = out.names ++ replies.name ∷ [];
-  lines = out.lines ++ map (par_line (length out.names)) replies.exchanges;
+  sessions = out.sessions ++ talk_of replies ∷ [];
 }
 
 -- so does what several did
@@ -46,20 +51,14 @@ with_sessions (replies ∷ others) out = with_sessions others (with_session repl
 
 -- only the refusals of lines that no session answers
 abbrev pub refusals_only : List ℕ → Output
-refusals_only text = record { text = text; fault = nat_lt 0 (length text); names = []; lines = [] }
+refusals_only text = record { text = text; fault = nat_lt 0 (length text); sessions = [] }
 
 -- ---- all sessions
 
--- the lines of sessions with their replies, in order. The first has this place among the names
-abbrev pub all_lines : ℕ → List SessionReplies → List ParLine
-all_lines place [] = []
-all_lines place (replies ∷ others) = map (par_line place) replies.exchanges ++ all_lines (suc place) others
-
 -- sessions that replied so make this output, after the refusals of lines that no session answers, and so many stored
 -- rows were read
-pub record Says (refusals : List ℕ) (sessions : List SessionReplies) (out : Output) (count : ℕ) : Type 0 where
-  pub text : out.text ≡ refusals ++ concat (map (λ line. line.reply) out.lines)
-  pub fault : out.fault ≡ (nat_lt 0 (length refusals) || list_any (λ replies. replies.fault) sessions)
-  pub names : out.names ≡ map (λ replies. replies.name) sessions
-  pub lines : out.lines ≡ all_lines 0 sessions
-  pub reads : count ≡ raised_by (sum_by (λ replies. replies.reads) sessions) 0
+pub record Says (refusals : List ℕ) (replied : List SessionReplies) (out : Output) (count : ℕ) : Type 0 where
+  pub text : out.text ≡ refusals ++ flat_map replies_text out.sessions
+  pub fault : out.fault ≡ (nat_lt 0 (length refusals) || list_any (λ replies. replies.fault) replied)
+  pub sessions : out.sessions ≡ map talk_of replied
+  pub reads : count ≡ raised_by (sum_by (λ replies. replies.reads) replied) 0

@@ -6,6 +6,7 @@ use Rattle.ts_sessions.specs.Held.{most_queued}
 use Rattle.ts_sessions.specs.Script.{SessionScript}
 use Rattle.par_laws.specs.Parallel.{SessionReplies}
 use Rattle.par_lines.specs.Places.{line_at, IsLineWithin}
+use Rattle.par_lines.specs.Sorted.{HasNumber}
 use Rattle.par_run.specs.declared.executors.Executor.{Executor}
 use Rattle.par_run.specs.declared.workers.SessionWorker.{SessionWorker}
 use Rattle.par_run.specs.Replies.{replies_said}
@@ -28,9 +29,17 @@ module _ {A G : Type 0} where
     abbrev pub replies_of : SessionWorker A G → SessionReplies
     replies_of w = said_by w.executor
 
+  -- the number of its session
+  abbrev pub number_of : (A → ℕ) → SessionWorker A G → ℕ
+  number_of numbered w = numbered w.executor.actor
+
   -- whether there was no memory for one of its lines
   abbrev pub ran_out : SessionWorker A G → Bool
   ran_out w = w.out_of_memory
+
+  -- it has the number that its session has among those that have appeared
+  abbrev pub IsNumbered : (A → List ℕ) → (A → ℕ) → List SessionScript → SessionWorker A G → Type 0
+  IsNumbered named numbered appeared w = HasNumber appeared (worker_script named w) (number_of numbered w)
 
   -- a session is before its first line
   pub record IsReady {T J : Type 0} (actors : Actor A T J) (w : SessionWorker A G) : Type 0 where

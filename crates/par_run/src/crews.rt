@@ -1,10 +1,12 @@
 //! The workers of a run.
-ghost use Rattle.std.specs.Prelude.{◌≡◌, ◌≤◌, All, length, IfOk};
+ghost use Rattle.std.specs.Prelude.{◌≡◌, ◌≤◌, All, length, map, IfOk};
 ghost use Rattle.std.specs.Option.{option_to_list};
 ghost use Rattle.ts_io.specs.declared.limits.TheConstants.{INPUT_LIMIT};
 ghost use Rattle.par_lines.specs.Places.{scripts_of, IsWithin};
 ghost use Rattle.par_lines.specs.Sorted.{sorted_lines};
-ghost use Rattle.par_run.specs.Crews.{AreFew, AreOf, AreReady, IsCrew};
+ghost use Rattle.par_run.specs.Crews.{AreFew, AreNumbered, AreOf, AreReady, IsCrew};
+ghost use Rattle.par_run.specs.Workers.{number_of};
+ghost use Rattle.par_workers.specs.Slots.{workers_of};
 
 use crate::workers::SessionWorker;
 use par_lines::{SessionLines, into_phases, sort_lines};
@@ -42,6 +44,7 @@ where
     G: Gate,
     requires short { length input.now ≤ INPUT_LIMIT }
     ensures lines { IfOk result (AreOf A.named (sorted_lines input.now)) }
+    ensures numbered { IfOk result (AreNumbered A.named A.numbered (sorted_lines input.now).sessions) }
     ensures ready { IfOk result (AreReady A.Actor) }
     ensures few { IfOk result AreFew }
 {
@@ -85,6 +88,8 @@ where
     requires within { All (IsWithin (length input.now)) sessions.items }
     ensures crew { IfOk result (λ crew. IsCrew A.Actor
         (scripts_of input.now sessions.items) crew.items) }
+    ensures numbers { IfOk result (λ crew. map (number_of A.numbered) (workers_of crew.items)
+        ≡ map (λ session. session.number) sessions.items) }
     ensures each { IfOk result (λ crew. length crew.items ≡ length sessions.items) }
 {
     let mut crew = Vec::new(alloc);

@@ -1,5 +1,6 @@
 //! How a run ends.
-use ts_schema::{Name, Seq};
+use transcript::SessionTranscript;
+use ts_schema::Seq;
 
 /// How a run ended.
 #[derive(Clone, Copy, Debug, PartialEq, Eq)]
@@ -10,17 +11,6 @@ pub enum ParStop {
     DiskFault,
     /// Out of memory. The events that lines had made by then stay in the store.
     NoMemory,
-}
-
-/// A line that a session executed, with its reply.
-#[derive(Drop, Debug, PartialEq, Eq)]
-pub struct ParLine {
-    /// The place of its session among the names, from 0.
-    pub session: u32,
-    /// The line up to its comment, without its line end.
-    pub line: Seq<u8>,
-    /// The whole text of its reply.
-    pub reply: Seq<u8>,
 }
 
 /// What a run left.
@@ -35,10 +25,9 @@ pub struct ParEnd<B> {
     pub text: Seq<u8>,
     /// Whether a reply is a FAULT. False if memory ran out.
     pub fault: bool,
-    /// The names of the sessions, in the order of their replies in the text. Empty if memory ran out.
-    pub names: Seq<Name>,
-    /// Each line that a session answered with its reply, in the order of the text. Empty if memory ran out.
-    pub lines: Seq<ParLine>,
+    /// The sessions in the order of their replies in the text, each with its lines and their replies. Empty if
+    /// memory ran out.
+    pub sessions: Seq<SessionTranscript>,
     /// How many stored rows all answers and snapshots read. The count saturates.
     pub reads: u64,
     /// How it ended.

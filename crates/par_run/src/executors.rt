@@ -60,6 +60,7 @@ impl<'a, A: Actor, G: Gate> Executor<'a, A, G> {
             (record { name = A.named self.old.actor; lines = map (line_at input.now) lines.now })
             (B.state backend.old) (said_by A.named self.new).reads (B.state backend.new)) }
         ensures name { A.named self.new.actor ≡ A.named self.old.actor }
+        ensures number { A.numbered self.new.actor ≡ A.numbered self.old.actor }
         ensures kin { B.kin backend.new ≡ B.kin backend.old }
     {
         for line in lines {
@@ -91,6 +92,7 @@ impl<'a, A: Actor, G: Gate> Executor<'a, A, G> {
         ensures counted { (said_by A.named self.old).reads < 2 ^ 64
             → (said_by A.named self.old).reads ≤ (said_by A.named self.new).reads }
         ensures name { A.named self.new.actor ≡ A.named self.old.actor }
+        ensures number { A.numbered self.new.actor ≡ A.numbered self.old.actor }
         ensures holds { OnOk result (A.holds self.new.actor (B.state backend.new)) }
         ensures waiting { A.waiting self.new.actor ≤ A.waiting self.old.actor + length text.now }
         ensures kin { B.kin backend.new ≡ B.kin backend.old }

@@ -8,15 +8,18 @@
 //! - `workers`: a session that executes its lines of an input at a store.
 //! - `executors`: a session that executes lines in order.
 //! - `replies`: what a session replies.
+//! - `laws`: laws of the transcripts of runs.
 #![tactic(auto)]
 
 mod crews;
 mod ends;
 mod executors;
+mod laws;
 mod outputs;
 mod replies;
 mod runs;
 mod workers;
 
-pub use ends::{ParEnd, ParLine, ParStop};
+pub use ends::{ParEnd, ParStop};
+pub use laws::runs_are_sound;
 pub use runs::par;

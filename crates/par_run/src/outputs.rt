@@ -1,22 +1,20 @@
 //! What all workers have replied.
-ghost use Rattle.std.specs.Prelude.{◌≡◌, ◌+◌, ◌<◌, ◌^◌, ◌++◌, false, length, map, nat_lt, not, sum_by, OnOk, IfOk};
-ghost use Rattle.std.specs.List.{concat, list_any};
+ghost use Rattle.std.specs.Prelude.{◌≡◌, ◌++◌, false, flat_map, length, map, nat_lt, not, sum_by, OnOk, IfOk};
+ghost use Rattle.std.specs.List.{list_any};
 ghost use Rattle.ts_schema.specs.Counts.{raised_by};
 ghost use Rattle.par_workers.specs.Slots.{workers_of};
-ghost use Rattle.par_run.specs.Crews.{AreFew};
-ghost use Rattle.par_run.specs.Outputs.{output_in, refusals_only, par_line, with_session, with_sessions};
+ghost use Rattle.par_run.specs.Outputs.{output_in, refusals_only, with_session, with_sessions};
 ghost use Rattle.par_run.specs.Workers.{ran_out, replies_of};
 
 use crate::crews::{Crew, Crews};
-use crate::ends::ParLine;
 use crate::executors::Executor;
 use crate::replies::Replies;
 use crate::workers::SessionWorker;
-use par_laws::Exchange;
 use par_workers::Slot;
 use std::alloc::Global;
+use transcript::{Exchange, SessionTranscript};
 use ts_model::Backend;
-use ts_schema::{Name, NoMemory};
+use ts_schema::{NoMemory, Seq};
 use ts_sessions::Actor;
 
 /// What a run writes.
@@ -26,10 +24,8 @@ pub(crate) struct Output {
     pub text: Vec<u8>,
     /// Whether one of them is a FAULT.
     pub fault: bool,
-    /// The names of the sessions, in the order of their replies.
-    pub names: Vec<Name>,
-    /// The lines of the sessions with their replies, in the same order.
-    pub lines: Vec<ParLine>,
+    /// The sessions in the order of their replies, each with its lines and their replies.
+    pub sessions: Vec<SessionTranscript>,
 }
 
 /// The refusals of a run, and what its workers have replied in the order in which they ran, unless there
@@ -41,7 +37,6 @@ pub(crate) fn all_replies<A, B, G>(
 where
     A: Actor + Drop,
     B: Backend,
-    requires few { AreFew crews }
     ensures setup { OnOk result (list_any ran_out (workers_of crews.entry.setup.items) ≡ false) }
     ensures at_once { OnOk result (list_any ran_out (workers_of crews.entry.at_once.items) ≡ false) }
     ensures last { OnOk result (list_any ran_out (workers_of crews.entry.last.items) ≡ false) }
@@ -60,8 +55,7 @@ where
     let mut output = Output {
         fault: has_bytes(refusals.as_slice()),
         text: refusals,
-        names: Vec::new(alloc),
-        lines: Vec::new(alloc),
+        sessions: Vec::new(alloc),
     };
     append_crew(&mut output, setup)?;
     append_crew(&mut output, at_once)?;
@@ -82,12 +76,9 @@ fn append_crew<A, B, G>(output: &mut Output, crew: Crew<'_, A, B, G>) -> Result<
 where
     A: Actor + Drop,
     B: Backend,
-    requires few { length output.old.names.items + length crew.items < 2 ^ 32 }
     ensures enough { OnOk result (list_any ran_out (workers_of crew.entry.items) ≡ false) }
     ensures output { OnOk result (output_in output.new
         ≡ with_sessions (map (replies_of A.named) (workers_of crew.entry.items)) (output_in output.old)) }
-    ensures names { OnOk result
-        (length output.new.names.items ≡ length output.old.names.items + length crew.entry.items) }
 {
     for slot in crew {
         append_worker(output, slot.0)?;
@@ -100,7 +91,6 @@ where
 fn append_worker<A, G>(output: &mut Output, worker: SessionWorker<'_, A, G>) -> Result<(), NoMemory>
 where
     A: Actor + Drop,
-    requires few { length output.old.names.items < 2 ^ 32 }
     ensures enough { OnOk result (ran_out worker.entry ≡ false) }
     ensures output { OnOk result
         (output_in output.new ≡ with_session (replies_of A.named worker.entry) (output_in output.old)) }
@@ -109,35 +99,30 @@ where
         return Err(NoMemory);
     }
     let SessionWorker { executor, .. } = worker;
-    let Executor { actor, replies, .. } = executor;
-    let name = actor.name().copy()?;
+    let Executor {
+        actor,
+        alloc,
+        replies,
+        ..
+    } = executor;
+    let name = Vec::from_slice(alloc, actor.name().bytes())?;
     let Replies { exchanges, fault } = replies;
-    let place = output.names.len() as u32;
-    output.names.push(name)?;
+    append_texts(exchanges.as_slice(), &mut output.text)?;
     output.fault |= fault;
-    append_exchanges(place, exchanges, &mut output.text, &mut output.lines)
+    output.sessions.push(SessionTranscript {
+        name: Seq::of(name),
+        replies: Seq::of(exchanges),
+    })?;
+    Ok(())
 }
 
-/// Appends lines with their replies, of the session with this place among the names.
-fn append_exchanges(
-    place: u32,
-    exchanges: Vec<Exchange>,
-    text: &mut Vec<u8>,
-    lines: &mut Vec<ParLine>,
-) -> Result<(), NoMemory>
+/// Appends the texts of the replies to lines, in order.
+fn append_texts(exchanges: &[Exchange], text: &mut Vec<u8>) -> Result<(), NoMemory>
     ensures text { OnOk result (text.new.items
-        ≡ text.old.items ++ concat (map (λ exchange. exchange.reply) exchanges.items)) }
-    ensures lines { OnOk result (lines.new.items
-        ≡ lines.old.items ++ map (par_line place) exchanges.items) }
+        ≡ text.old.items ++ flat_map (λ exchange. exchange.reply) exchanges.now) }
 {
     for exchange in exchanges {
-        let Exchange { line, reply } = exchange;
-        text.extend_from_slice(reply.items())?;
-        lines.push(ParLine {
-            session: place,
-            line,
-            reply,
-        })?;
+        text.extend_from_slice(exchange.reply.items())?;
     }
     Ok(())
 }

@@ -2,8 +2,8 @@
 ghost use Rattle.std.specs.Prelude.{◌≡◌, [], false, OnOk};
 ghost use Rattle.par_run.specs.Replies.{reply_in, Keeps, KeepsEnd};
 
-use par_laws::Exchange;
 use std::alloc::Global;
+use transcript::Exchange;
 use ts_schema::{NoMemory, Seq};
 use ts_sessions::{Reply, StepEnd};
 

@@ -125,7 +125,6 @@ where
     requires alone { IsTrue B.alone }
     requires first { IsFirstPass store.opened.value store.shares store pass }
     requires shares { HaveShares store.shares crews }
-    requires few { AreFew crews }
     requires ready { AreReady A.Actor crews }
     ensures ran { result.stop ≢ ParStop.NoMemory → CrewsRan A.Actor
         (B.state store.opened.value).history crews.entry (B.state result.backend) (output_of result) result.reads }
@@ -206,16 +205,14 @@ fn end_run<B: Backend>(
             let Output {
                 text,
                 fault,
-                names,
-                lines,
+                sessions,
             } = output;
             ParEnd {
                 backend,
                 start,
                 text: Seq::of(text),
                 fault,
-                names: Seq::of(names),
-                lines: Seq::of(lines),
+                sessions: Seq::of(sessions),
                 reads,
                 stop,
             }
@@ -225,8 +222,7 @@ fn end_run<B: Backend>(
             start,
             text: Seq::new(alloc),
             fault: false,
-            names: Seq::new(alloc),
-            lines: Seq::new(alloc),
+            sessions: Seq::new(alloc),
             reads,
             stop: ParStop::NoMemory,
         },

@@ -27,7 +27,7 @@ pub(crate) struct SessionWorker<'a, A, G> {
 }
 
 impl<'a, A: Actor, G: Gate> SessionWorker<'a, A, G> {
-    ghost use Rattle.par_run.specs.Workers.{worker_script, IsReady};
+    ghost use Rattle.par_run.specs.Workers.{number_of, worker_script, IsReady};
 
     #[tactic(auto, using(crate::proofs::ReplyLaws::said_nothing))]
     /// A session before the first of its lines of an input. It allocates no memory.
@@ -40,6 +40,7 @@ impl<'a, A: Actor, G: Gate> SessionWorker<'a, A, G> {
         requires short { length input.now ≤ INPUT_LIMIT }
         requires within { IsWithin (length input.now) session }
         ensures script { worker_script A.named result ≡ script_of input.now session }
+        ensures number { number_of A.numbered result ≡ session.number }
         ensures ready { IsReady A.Actor result }
     {
         let SessionLines {

@@ -1,8 +1,9 @@
 //! Worker hooks that hold a worker before it finishes a refresh until another worker has reached some point.
 //! A worker is held for a limited time, and a hook keeps whether that was too short, as it is if workers run
 //! one at a time. It also keeps whether it was called for a finish at all, which no contract says.
+//! A further hook keeps the numbers of the sessions that replied.
 use std::hint;
-use std::sync::atomic::{AtomicBool, Ordering};
+use std::sync::atomic::{AtomicBool, AtomicU64, Ordering};
 use ts_model::Gate;
 
 // How often a held worker looks whether it may go on.
@@ -102,4 +103,33 @@ impl Gate for UntilBoth {
     }
 
     fn answered(&self, _session: u32) {}
+}
+
+/// Keeps the numbers of the sessions that replied, in order, as digits. Sessions reply one at a time.
+#[derive(Drop)]
+pub(crate) struct Answered {
+    digits: AtomicU64,
+}
+
+impl Answered {
+    pub(crate) fn new() -> Answered {
+        Answered {
+            digits: AtomicU64::new(0),
+        }
+    }
+
+    /// The numbers so far.
+    pub(crate) fn numbers(&self) -> u64 {
+        self.digits.load(Ordering::SeqCst)
+    }
+}
+
+impl Gate for Answered {
+    fn between(&self, _session: u32) {}
+
+    fn answered(&self, session: u32) {
+        let before = self.numbers().wrapping_mul(10);
+        let now = before.wrapping_add(u64::from(session));
+        self.digits.store(now, Ordering::SeqCst);
+    }
 }

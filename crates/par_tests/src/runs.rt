@@ -4,6 +4,7 @@ ghost use Rattle.std.specs.Thread.{IsSync};
 ghost use Rattle.ts_io.specs.declared.limits.TheConstants.{INPUT_LIMIT};
 ghost use Rattle.ts_model.specs.States.{stands_still};
 
+use crate::gates::Answered;
 use engine_core::MemStore;
 use par_run::{ParEnd, ParStop, par};
 use std::alloc::Global;
@@ -111,20 +112,36 @@ fn each_line_stands_with_its_reply(rt: HostRuntime) -> Result<(), Fail> {
         b"final: SELECT * FROM m\nSELECT\n a: BEGIN -- here\na: COMMIT\n",
         &NoGate,
     )?;
-    let lines: [(u32, &[u8], &[u8]); 3] = [
-        (0, b" a: BEGIN ", b"a: BEGIN\n"),
-        (0, b"a: COMMIT", b"a: COMMIT EMPTY\n"),
-        (
-            1,
-            b"final: SELECT * FROM m",
-            b"final: FAULT E06 no_relation @0\n",
-        ),
-    ];
-    assert_eq!(rt; (end.start, end.names.len(), end.lines.len()), (0, 2, 3));
-    for (line, (session, text, reply)) in end.lines.items().iter().zip(lines.iter()) {
-        assert_eq!(rt; line.session, *session);
-        assert!(rt; line.line.items() == *text);
-        assert!(rt; line.reply.items() == *reply);
+    let mut kept = Vec::new(rt.alloc());
+    for session in end.sessions.items() {
+        kept.extend_from_slice(session.name.items())?;
+        kept.push(b'\n')?;
+        for exchange in session.replies.items() {
+            kept.extend_from_slice(exchange.line.items())?;
+            kept.push(b'|')?;
+            kept.extend_from_slice(exchange.reply.items())?;
+        }
     }
+    let text: &[u8] = b"a
+ a: BEGIN |a: BEGIN
+a: COMMIT|a: COMMIT EMPTY
+final
+final: SELECT * FROM m|final: FAULT E06 no_relation @0
+";
+    assert!(rt; kept.as_slice() == text);
+    assert_eq!(rt; end.start, 0);
+    Ok(())
+}
+
+#[test]
+fn a_hook_is_told_the_number_of_its_session(rt: HostRuntime) -> Result<(), Fail> {
+    let hook = Answered::new();
+    let end = run(
+        &rt,
+        b"final: COMMIT\nb: COMMIT\nb: COMMIT\nsetup: COMMIT\n",
+        &hook,
+    )?;
+    // `setup` appeared third and runs first, `final` appeared first and runs last.
+    assert_eq!(rt; (end.stop, hook.numbers()), (ParStop::Done, 2110));
     Ok(())
 }

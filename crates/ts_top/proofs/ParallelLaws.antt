@@ -16,8 +16,7 @@ use Rattle.ts_store.specs.Stands.{Stands}
 use Rattle.par_lines.specs.Sorted.{sorted_lines}
 use Rattle.ts_top.specs.Scripts.{block_in, first_places, program_replies, program_semantics}
 use Rattle.par_run.specs.Crews.{LinesRan, LinesRanAsFar}
-use Rattle.par_run.specs.Outputs.{Output}
-use Rattle.par_transcript.specs.Made.{transcript_in}
+use Rattle.par_run.specs.Outputs.{Output, transcript_in}
 use Rattle.audit_laws.specs.Laws.{ExplainedUnlessPolicies}
 use Rattle.audit_laws.proofs.RunLaws.{runs_explained}
 use Rattle.par_run.specs.Ends.{is_disk_fault as is_disk_fault_of}

@@ -12,13 +12,12 @@ use Rattle.ts_store.specs.Stands.{Stands}
 use Rattle.script_run.specs.Runs.{ReadWhole}
 use Rattle.par_lines.specs.Sorted.{sorted_lines}
 use Rattle.par_run.specs.Crews.{LinesRan, LinesRanAsFar}
-use Rattle.par_run.specs.Outputs.{Output}
+use Rattle.par_run.specs.Outputs.{Output, transcript_in}
 use Rattle.par_run.specs.declared.ends.ParStop.{ParStop}
 use Rattle.par_run.specs.declared.ends.ParStop.TheVariants as stops
 use Rattle.transcript.specs.Ascii.{is_ascii_transcript}
 use Rattle.transcript.specs.Text.{transcript_text}
 use Rattle.transcript.specs.declared.transcripts.Transcript.{Transcript}
-use Rattle.par_transcript.specs.Made.{transcript_in}
 use Rattle.audit_laws.specs.Laws.{ExplainedUnlessPolicies}
 use Rattle.ts_top.specs.declared.parallel.Replies.{Replies}
 use Rattle.ts_top.specs.declared.parallel.Replies.TheVariants.{Plain, Json}
@@ -32,7 +31,7 @@ use Rattle.ts_top.specs.Outcomes.{Outside, Holds, IsDamaged, NotBegun, Over, Ove
 
 -- what the sessions of a run were replied, as an output
 abbrev pub output_in : RunReplies → Output
-output_in r = record { text = r.text; fault = r.fault; names = r.names; lines = r.lines }
+output_in r = record { text = r.text; fault = r.fault; sessions = r.sessions }
 
 -- this was written of the text of a transcript, which is ASCII and begins at a position of 64 bits
 pub record IsTranscribed (Wrote : List ℕ → Type 0) (t : Transcript) : Type 0 where
@@ -56,7 +55,7 @@ pub record NothingRan (told : Type 0) (left : List ℕ → Type 0) (h : History)
   pub holds : told → Holds file h
   pub images : (c : List ℕ) → left c → Stands c h
 
--- memory ran out while workers ran, or for the text to print: nothing was printed. Sessions had run until memory ran
+-- memory ran out while workers ran, or a transcript isn't ASCII: nothing was printed. Sessions had run until memory ran
 -- out, read so many stored rows, and left a state. The journal represents its history, or that and the event at which
 -- the disk failed
 pub record GaveUp (told : Type 0) (left : List ℕ → Type 0) (h : History) (input : List ℕ) (reads : ℕ)
@@ -158,7 +157,7 @@ PrintsReplies stops.DiskFault fault text status sink_failed before written =
 PrintsReplies stops.NoMemory fault text status sink_failed before written =
     (status ≡ NoMemory) × (written ≡ before)
 
--- and so with the transcript of one that began at a position and left an output. There may be no memory for it
+-- and so with the transcript of one that began at a position and left an output. One that isn't ASCII isn't printed
 abbrev pub PrintsTranscript : ParStop → Bool → Transcript → Status → Option (List ℕ) → Option (List ℕ) → Type 0
 PrintsTranscript stops.Done fault t status before written =
     ((status ≡ status_answered fault) × IsTranscribed (Appends before written) t)
@@ -188,8 +187,8 @@ abbrev pub CountedAfterPrinting : Replies → Status → ℕ → ℕ → Type 0
 CountedAfterPrinting Plain status before now = CountedAfterDisk status before now
 CountedAfterPrinting Json status before now = Counted before now (is_write_fault status)
 
--- that of the disk rises where the call tells of one, and else stays; but where memory ran out while workers ran, or
--- for the transcript, the disk may have failed before
+-- that of the disk rises where the call tells of one, and else stays; but where memory ran out while workers ran, the
+-- disk may have failed before
 abbrev pub CountedAfterWorkers : Status → ℕ → ℕ → Type 0
 CountedAfterWorkers NoMemory before now = (failed : Bool) × Counted before now failed
 CountedAfterWorkers status before now = Counted before now (is_disk_fault status)

@@ -12,11 +12,10 @@ ghost use Rattle.shared_store.specs.Wrapped.{GoesOn};
 ghost use Rattle.par_lines.specs.Sorted.{sorted_lines};
 ghost use Rattle.par_run.specs.Crews.{LinesRan, LinesRanAsFar};
 ghost use Rattle.par_run.specs.Ends.{is_disk_fault};
-ghost use Rattle.par_run.specs.Outputs.{output_of};
+ghost use Rattle.par_run.specs.Outputs.{output_of, transcript_in};
 ghost use Rattle.ts_store.specs.Images.{HasHeader, IsDurable};
 ghost use Rattle.ts_store.specs.Stands.{Stands};
 ghost use Rattle.ts_store.specs.Stores.{opening_history, history_seen};
-ghost use Rattle.par_transcript.specs.Made.{transcript_in, transcript_of};
 ghost use Rattle.transcript.specs.Ascii.{is_ascii_transcript};
 ghost use Rattle.ts_top.specs.Endings.{is_read_fault, is_write_fault};
 ghost use Rattle.ts_top.specs.Outcomes.{Holds, HeaderAfter, IfWentOn, LeftAfter};
@@ -24,18 +23,17 @@ ghost use Rattle.ts_top.specs.Parallel.{CountedAfterDisk, CountedAfterPrinting, 
 
 use crate::endings::{Ended, Status, status_answered};
 use crate::openings::open;
-use par_run::{ParEnd, ParLine, ParStop, par as run_in_parallel};
-use par_transcript::transcript_of;
+use par_run::{ParEnd, ParStop, par as run_in_parallel};
 use policy_jobs::PolicySession;
 use std::alloc::Global;
 use std::mem::forget;
 use std::sync::Wait;
 use std::thread::Threads;
-use transcript::{Transcript, is_ascii, send_transcript};
+use transcript::{SessionTranscript, Transcript, is_ascii, send_transcript};
 use ts_disk::Disk;
 use ts_io::{AllEnd, Sink, Source, WriteFault, read_all, write_whole};
 use ts_model::{Backend, Gate, Shown};
-use ts_schema::{Name, NoMemory, Seq};
+use ts_schema::Seq;
 use ts_sessions::Session;
 use ts_store::Store;
 
@@ -57,10 +55,8 @@ struct RunReplies {
     text: Seq<u8>,
     /// Whether one of them is a FAULT.
     fault: bool,
-    /// The names of the sessions.
-    names: Seq<Name>,
-    /// Their lines with the replies.
-    lines: Seq<ParLine>,
+    /// The sessions, each with its lines and their replies.
+    sessions: Seq<SessionTranscript>,
     /// How the run stopped.
     stop: ParStop,
 }
@@ -135,57 +131,47 @@ fn print_made<K: Sink>(sink: &mut K, transcript: &Transcript, refused: bool) -> 
     }
 }
 
-/// Prints the transcript of a run that was executed to its end. Returns how the call ends. If memory runs out for
-/// it, nothing is printed.
+/// Prints the transcript of a run that was executed to its end. Returns how the call ends.
 fn print_executed<K: Sink>(
-    alloc: Global,
     sink: &mut K,
     start: u64,
-    names: &[Name],
-    lines: Seq<ParLine>,
+    sessions: Seq<SessionTranscript>,
     refused: bool,
 ) -> Status
-    ensures prints { PrintsTranscript ParStop.Done refused (transcript_of start names.now lines) result
+    ensures prints { PrintsTranscript ParStop.Done refused (record { start = start; sessions = sessions }) result
         (K.written sink.old) (K.written sink.new) }
     ensures counted { Counted (K.faults sink.old) (K.faults sink.new) (is_write_fault result) }
 {
-    match transcript_of(alloc, start, names, lines) {
-        Ok(transcript) => {
-            let status = print_made(sink, &transcript, refused);
-            // The call ends after it, so its memory isn't freed.
-            forget(transcript);
-            status
-        }
-        Err(NoMemory) => Status::NoMemory,
-    }
+    let transcript = Transcript { start, sessions };
+    let status = print_made(sink, &transcript, refused);
+    // The call ends after it, so its memory isn't freed.
+    forget(transcript);
+    status
 }
 
 /// Prints the transcript of a parallel run. Returns how the call ends. If the disk failed, or memory ran out,
 /// nothing is printed.
-fn print_transcript<K: Sink>(alloc: Global, sink: &mut K, replied: RunReplies) -> Status
+fn print_transcript<K: Sink>(sink: &mut K, replied: RunReplies) -> Status
     ensures prints { PrintsTranscript replied.stop replied.fault (transcript_in replied.start (output_in replied))
         result (K.written sink.old) (K.written sink.new) }
     ensures counted { Counted (K.faults sink.old) (K.faults sink.new) (is_write_fault result) }
 {
     let RunReplies {
         start,
-        text,
         fault,
-        names,
-        lines,
+        sessions,
         stop,
+        ..
     } = replied;
-    // The transcript has each reply too.
-    drop(text);
     match stop {
-        ParStop::Done => print_executed(alloc, sink, start, names.items(), lines, fault),
+        ParStop::Done => print_executed(sink, start, sessions, fault),
         ParStop::DiskFault => Status::DiskFault,
         ParStop::NoMemory => Status::NoMemory,
     }
 }
 
 /// Prints a parallel run. Returns how the call ends.
-fn print_run<K: Sink>(alloc: Global, replies: Replies, sink: &mut K, replied: RunReplies) -> Status
+fn print_run<K: Sink>(replies: Replies, sink: &mut K, replied: RunReplies) -> Status
     ensures prints { Prints replies replied.stop replied.start (output_in replied) result
         (Rose (K.faults sink.old) (K.faults sink.new)) (K.written sink.old) (K.written sink.new) }
     ensures counted { CountedAfterPrinting replies result (K.faults sink.old) (K.faults sink.new) }
@@ -197,7 +183,7 @@ fn print_run<K: Sink>(alloc: Global, replies: Replies, sink: &mut K, replied: Ru
             forget(replied);
             status
         }
-        Replies::Json => print_transcript(alloc, sink, replied),
+        Replies::Json => print_transcript(sink, replied),
     }
 }
 
@@ -260,8 +246,7 @@ where
         start,
         text,
         fault,
-        names,
-        lines,
+        sessions,
         reads,
         stop,
     } = run_sessions(rt, alloc, store, input, gate);
@@ -269,11 +254,10 @@ where
         start,
         text,
         fault,
-        names,
-        lines,
+        sessions,
         stop,
     };
-    let status = print_run(alloc, replies, sink, replied);
+    let status = print_run(replies, sink, replied);
     Ended {
         status,
         disk: backend.close(),

@@ -8,20 +8,17 @@ use Rattle.par_lines.specs.Sorted.{setup, final}
 use Rattle.par_lines.specs.Places.{IsWithin}
 use Rattle.par_lines.proofs.Adding.{has_name}
 use Rattle.par_lines.proofs.Extents.{all_of_one}
-use Rattle.par_lines.proofs.PhaseLaws.{all_others, only_final, only_others, only_setup}
+use Rattle.par_lines.proofs.PhaseLaws.{all_others, only_final}
 use Rattle.par_lines.proofs.phases.into_phases.Goals as goal
 
 pub returns-clause-setup : goal.returns-clause-setup
-returns-clause-setup c = λ input. only_setup c.args.sessions.items input (option_to_list c.take_named-setup.result) c.take_named-setup.ensures.taken
+returns-clause-setup c = c.take_named-setup.ensures.taken
 
 pub returns-clause-last : goal.returns-clause-last
-returns-clause-last c = λ input.
-    only_final c.args.sessions.items input (option_to_list c.take_named-last.result) c.take_named-setup.new.sessions.items c.take_named-setup.ensures.others c.take_named-last.ensures.taken
+returns-clause-last c = only_final c.args.sessions.items (option_to_list c.take_named-last.result) c.take_named-setup.new.sessions.items c.take_named-setup.ensures.others c.take_named-last.ensures.taken
 
 pub returns-clause-at_once : goal.returns-clause-at_once
-returns-clause-at_once c = λ input.
-    let rest = all_others c.args.sessions.items c.take_named-setup.new.sessions.items c.take_named-last.new.sessions.items c.take_named-setup.ensures.others c.take_named-last.ensures.others in
-    only_others c.args.sessions.items input c.take_named-last.new.sessions.items rest
+returns-clause-at_once c = all_others c.args.sessions.items c.take_named-setup.new.sessions.items c.take_named-last.new.sessions.items c.take_named-setup.ensures.others c.take_named-last.ensures.others
 
 pub returns-clause-few : goal.returns-clause-few
 returns-clause-few c =

@@ -1,4 +1,4 @@
-use Rattle.std.proofs.Common.{◌≡◌, ◌+◌, false, length, map}
+use Rattle.std.proofs.Common.{◌≡◌, false, map}
 use Rattle.std.specs.List.{list_any}
 use Rattle.par_workers.specs.Slots.{workers_of}
 use Rattle.par_run.specs.Outputs.{output_in, with_sessions}
@@ -11,5 +11,4 @@ invariant-loop-slot g l = record {
   finite : (goal.iterator-loop-slot g).is_finite l.slot-iterator;
   enough : list_any ran_out (workers_of l.yielded) ≡ false;
   output : output_in l.output ≡ with_sessions (map (replies_of g.A.Actor.named) (workers_of l.yielded)) (output_in l.fn.output);
-  names : length l.output.names.items ≡ length l.fn.output.names.items + length l.yielded;
 }

@@ -1,4 +1,4 @@
-use Rattle.std.proofs.Common.{◌≡◌, ◌≢◌, ◌∙◌, ◌&&◌, not, true, false, map, ap, refl, sym, subst, true≢false}
+use Rattle.std.proofs.Common.{◌≡◌, ◌≢◌, ◌∙◌, ◌++◌, ◌&&◌, not, true, false, map, ap, refl, sym, subst, true≢false}
 use Rattle.std.specs.List.{list_any}
 use Rattle.ts_model.specs.States.{stands_still}
 use Rattle.shared_store.specs.Wrapped.{GoesOn}
@@ -10,8 +10,9 @@ use Rattle.par_run.specs.Crews.{scripts_in, CrewsRan, CrewsRanAsFar}
 use Rattle.par_run.specs.Ends.{is_disk_fault, stop_by}
 use Rattle.par_run.specs.Outputs.{output_in, output_of, refusals_only, with_sessions}
 use Rattle.par_run.specs.Workers.{ran_out, replies_of, worker_script}
-use Rattle.par_run.proofs.OutputLaws.{reads_replied, says}
+use Rattle.par_run.proofs.OutputLaws.{reads_replied, says, talk_names}
 use Rattle.par_run.proofs.RunLaws.{HasReplied, enough_is, goes_on_looked, has_replied, idle_workers, names_of_three, stop_is, unread}
+use Rattle.transcript.specs.declared.transcripts.SessionTranscript.{SessionTranscript}
 use Rattle.par_run.proofs.runs.run_crews.Goals as goal
 use Rattle.par_run.proofs.runs.run_crews.Goals.{then-enough, else-enough}
 
@@ -80,7 +81,7 @@ returns-clause-ran g c = λ other.
       after = after;
       ran = ran;
       says = told;
-      names = names_of_three actors.replies first_places (state c.args.store.opened.value).history (scripts_in actors.named crews.setup.items) (scripts_in actors.named crews.at_once.items) (scripts_in actors.named crews.last.items) (state c.snap.new.self) before between after c.end_run.result.names ran told.names;
+      names = names_of_three actors.replies first_places (state c.args.store.opened.value).history (scripts_in actors.named crews.setup.items) (scripts_in actors.named crews.at_once.items) (scripts_in actors.named crews.last.items) (state c.snap.new.self) before between after (map (λ (talk : SessionTranscript). talk.name) c.end_run.result.sessions) ran (ap (map (λ (talk : SessionTranscript). talk.name)) told.sessions ∙ talk_names (before ++ between ++ after));
     })
 
 pub returns-clause-as_far : goal.returns-clause-as_far

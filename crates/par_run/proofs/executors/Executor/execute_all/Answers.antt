@@ -13,6 +13,7 @@ loop-line-init g c =
     record {
       executed = begun_fresh actors.within actors.semantics.does (actors.semantics.opening 0) g.B.Backend.alone (actors.named actor) (g.B.Backend.state c.args.backend.now) (said_by actors.named c.args.self.now) (actors.places actor) c.requires.unanswered c.requires.fresh;
       name = refl;
+      number = refl;
       holds = c.requires.holds;
       room = idle_room (actors.waiting actor) (sum_by (λ l. l.len) c.args.lines.now) most_queued c.requires.idle c.requires.room;
       kin = refl;
@@ -40,6 +41,7 @@ loop-line-preserved g c =
           (g.B.Backend.state c.execute.new.backend) (actors.places c.execute.new.self.actor) (said_by actors.named c.execute.new.self)
           c.loop-line-test.true c.loop-line.invariant.name c.text.ensures.text c.loop-line.invariant.executed c.in_ok-execute.ensures.executed;
       name = c.execute.ensures.name ∙ c.loop-line.invariant.name;
+      number = c.execute.ensures.number ∙ c.loop-line.invariant.number;
       holds = c.in_ok-execute.ensures.holds;
       room = omega (arith, c.loop-line.invariant.room, c.execute.ensures.waiting);
       kin = c.execute.ensures.kin ∙ c.loop-line.invariant.kin;

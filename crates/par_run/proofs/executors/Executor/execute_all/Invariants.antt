@@ -12,6 +12,7 @@ invariant-loop-line g l =
       executed : SessionExecutedTo actors.within actors.semantics.does (actors.semantics.opening 0) g.B.Backend.alone (record { name = actors.named l.fn.self.actor; lines = map (line_at l.input) (take l.line-index l.lines) })
           (g.B.Backend.state l.fn.backend) (said_by actors.named l.self) (g.B.Backend.state l.backend) (actors.places l.self.actor);
       name : actors.named l.self.actor ≡ actors.named l.fn.self.actor;
+      number : actors.numbered l.self.actor ≡ actors.numbered l.fn.self.actor;
       holds : actors.holds l.self.actor (g.B.Backend.state l.backend);
       room : actors.waiting l.self.actor + sum_by (λ line. line.len) (drop l.line-index l.lines) ≤ most_queued;
       kin : g.B.Backend.kin l.backend ≡ g.B.Backend.kin l.fn.backend;

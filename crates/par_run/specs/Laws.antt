@@ -6,9 +6,8 @@ use Rattle.ts_sessions.specs.Places.{Turn}
 use Rattle.ts_sessions.specs.Procedures.{Procedure}
 use Rattle.par_lines.specs.Sorted.{sorted_lines}
 use Rattle.par_run.specs.Crews.{LinesRan}
-use Rattle.par_run.specs.Outputs.{Output}
+use Rattle.par_run.specs.Outputs.{Output, transcript_in}
 use Rattle.transcript.specs.Shape.{is_sound}
-use Rattle.par_transcript.specs.Made.{transcript_in}
 
 -- the transcript of a run of an input is sound, whatever its lines mean: each session has a separate, valid name, and
 -- only lines of that session

@@ -13,29 +13,28 @@ use Rattle.par_laws.specs.Phases.{AllExplained}
 use Rattle.par_lines.specs.Sorted.{at_once, final, only, setup, sorted_lines}
 use Rattle.transcript.specs.Shape.{are_apart, is_line_of, is_session_name, is_sound, is_sound_talk}
 use Rattle.transcript.specs.declared.transcripts.SessionTranscript.{SessionTranscript}
-use Rattle.par_transcript.specs.Laws.{RunsAreSound}
-use Rattle.par_transcript.specs.Made.{transcript_in}
-use Rattle.par_transcript.proofs.NameLaws.{apart_told, names_apart, names_of}
-use Rattle.par_transcript.proofs.ScriptLaws.{IsOwn, IsSoundScript, sound_filter, sound_input}
-use Rattle.par_transcript.proofs.TalkLaws.{exchange_in, sessions_in, talk_in}
+use Rattle.par_run.specs.Laws.{RunsAreSound}
+use Rattle.par_run.specs.Outputs.{talk_of}
+use Rattle.par_run.proofs.NameLaws.{all_appended, apart_told, names_apart, names_of}
+use Rattle.par_run.proofs.ScriptLaws.{IsOwn, IsSoundScript, sound_filter, sound_input}
 
 -- ---- one session
 
-lines_own : {P : Type 0} (name : List ℕ) (lines : List SessionLine) (turns : List (Turn P)) → AllByRecursion (IsOwn name) lines → list_all (λ e. is_line_of name e.line) (map exchange_in (exchanges_of name lines turns)) ≡ true
+lines_own : {P : Type 0} (name : List ℕ) (lines : List SessionLine) (turns : List (Turn P)) → AllByRecursion (IsOwn name) lines → list_all (λ e. is_line_of name e.line) (exchanges_of name lines turns) ≡ true
 lines_own name [] turns all = refl
 lines_own name (line ∷ lines) [] all = refl
 lines_own name (line ∷ lines) (turn ∷ turns) all = λ i. all.0.spoken i && lines_own name lines turns all.1 i
 
-talk_sound : {P : Type 0} (session : SessionScript) (replies : SessionReplies) (turns : List (Turn P)) → IsSoundScript session → AreReplies session replies turns → is_sound_talk (talk_in replies) ≡ true
+talk_sound : {P : Type 0} (session : SessionScript) (replies : SessionReplies) (turns : List (Turn P)) → IsSoundScript session → AreReplies session replies turns → is_sound_talk (talk_of replies) ≡ true
 talk_sound session replies turns sound are =
-    (λ i. is_session_name (are.name i) && list_all (λ e. is_line_of (are.name i) e.line) (map exchange_in (are.exchanges i)))
+    (λ i. is_session_name (are.name i) && list_all (λ e. is_line_of (are.name i) e.line) (are.exchanges i))
     ∙ (λ i. sound.named i && lines_own session.name session.lines turns sound.lines i)
 
 -- ---- those of a phase
 
 module _ {P : Type 0} (reply : P → List ℕ → ℕ → Procedure (Turn P)) (all : History) (stop : Option ℕ) (from to : ℕ) (p : P) where
   talks_sound : (sessions : List SessionScript) (replies : List SessionReplies) (answers : List (List (LineAnswer (Turn P)))) → AllByRecursion IsSoundScript sessions → AllExplained lines_in AreReplies reply places_after all stop from to p sessions replies answers
-      → AllByRecursion (λ r. is_sound_talk (talk_in r) ≡ true) replies
+      → AllByRecursion (λ r. is_sound_talk (talk_of r) ≡ true) replies
   talks_sound [] [] [] sound e = tt
   talks_sound [] [] (a ∷ answers) sound e = absurd e
   talks_sound [] (r ∷ replies) answers sound e = absurd e
@@ -45,17 +44,9 @@ module _ {P : Type 0} (reply : P → List ℕ → ℕ → Procedure (Turn P)) (a
 
 -- ---- all sessions
 
-both : {X : Type 0} (P : X → Type 0) (xs ys : List X) → AllByRecursion P xs → AllByRecursion P ys → AllByRecursion P (xs ++ ys)
-both P [] ys a b = b
-both P (x ∷ xs) ys a b = (a.0, both P xs ys a.1 b)
-
-all_sound : (replies : List SessionReplies) → AllByRecursion (λ r. is_sound_talk (talk_in r) ≡ true) replies → list_all is_sound_talk (map talk_in replies) ≡ true
+all_sound : (replies : List SessionReplies) → AllByRecursion (λ r. is_sound_talk (talk_of r) ≡ true) replies → list_all is_sound_talk (map talk_of replies) ≡ true
 all_sound [] all = refl
 all_sound (r ∷ replies) all = λ i. all.0 i && all_sound replies all.1 i
-
-talk_names : (replies : List SessionReplies) → map (λ t. t.name) (map talk_in replies) ≡ map (λ r. r.name) replies
-talk_names [] = refl
-talk_names (r ∷ replies) = ap (λ l. r.name ∷ l) (talk_names replies)
 
 pub runs_sound : {P : Type 0} → RunsAreSound P
 runs_sound reply p opening input new out reads start ran =
@@ -66,15 +57,14 @@ runs_sound reply p opening input new out reads start ran =
     let r = ran.ran in
     let said = ran.before ++ ran.between ++ ran.after in
     let each = sound_input input in
-    let talks : list_all is_sound_talk (map talk_in said) ≡ true =
+    let talks : list_all is_sound_talk (map talk_of said) ≡ true =
     all_sound said
-    (both (λ x. is_sound_talk (talk_in x) ≡ true) (ran.before ++ ran.between) ran.after
-    (both (λ x. is_sound_talk (talk_in x) ≡ true) ran.before ran.between
+    (all_appended (λ x. is_sound_talk (talk_of x) ≡ true) (ran.before ++ ran.between) ran.after
+    (all_appended (λ x. is_sound_talk (talk_of x) ≡ true) ran.before ran.between
     (talks_sound reply new.history (stop_of new) _ _ p first ran.before r.setup_ran.phase.answers (sound_filter _ scripts each) r.setup_ran.phase.explained)
     (talks_sound reply new.history (stop_of new) _ _ p middle ran.between r.others_ran.phase.answers (sound_filter _ scripts each) r.others_ran.phase.explained))
     (talks_sound reply new.history (stop_of new) _ _ p last ran.after r.final_ran.phase.answers (sound_filter _ scripts each) r.final_ran.phase.explained)) in
-    let names : map (λ x. x.name) said ≡ names_of first ++ names_of middle ++ names_of last =
-    sym ran.says.names ∙ ran.names ∙ map-append (λ s. s.name) (first ++ middle) last ∙ ap (λ l. l ++ names_of last) (map-append (λ s. s.name) first middle) in
-    let apart : are_apart (map (λ t. t.name) (map talk_in said)) ≡ true = ap are_apart (talk_names said ∙ names) ∙ apart_told _ (names_apart input) in
-    let sessions : (transcript_in start out).sessions ≡ map talk_in said = sessions_in start said out ran.says.names ran.says.lines in
-    ap (λ ts. list_all is_sound_talk ts && are_apart (map (λ t. t.name) ts)) sessions ∙ (λ i. talks i && apart i)
+    let names : map (λ (talk : SessionTranscript). talk.name) out.sessions ≡ names_of first ++ names_of middle ++ names_of last =
+    ran.names ∙ map-append (λ s. s.name) (first ++ middle) last ∙ ap (λ l. l ++ names_of last) (map-append (λ s. s.name) first middle) in
+    let apart = ap are_apart names ∙ apart_told _ (names_apart input) in
+    (λ i. list_all is_sound_talk (ran.says.sessions i) && apart i) ∙ ap (λ b. b && true) talks

@@ -1,5 +1,5 @@
 //! Laws of the transcripts of runs. Each is the clause of a function that does nothing.
-ghost use Rattle.par_transcript.specs.Laws.{RunsAreSound};
+ghost use Rattle.par_run.specs.Laws.{RunsAreSound};
 
 /// Each session in the transcript of a run has a separate, valid name, and only lines of that session.
 pub fn runs_are_sound<P>()

@@ -1,24 +1,14 @@
 -- No two sessions of a sorted input have one name, also where those that run first and last stand apart.
-use Rattle.std.proofs.Common.{◌≡◌, ℕ, suc, Bool, true, false, cond, not, ◌&&◌, ◌||◌, List, [], ◌∷◌, ◌++◌, length, take, get_or, filter, map, nat_lt, refl, sym, ap, ◌∙◌, subst, true≢false, arith}
-use Rattle.std.specs.List.{AllByRecursion, list_any}
+use Rattle.std.proofs.Common.{◌≡◌, ℕ, suc, ◌<◌, Bool, true, false, cond, not, ◌&&◌, ◌||◌, List, [], ◌∷◌, ◌++◌, length, get_or, filter, map, refl, sym, ap, ◌∙◌, subst, true≢false, arith}
+use Rattle.std.specs.List.{All, AllByRecursion, AllPairs}
 use Rattle.std.specs.Cmp.Lexicographic.{same_text}
 use Rattle.std.specs.Prelude.{bytes_eq}
 use Rattle.std.proofs.lemmas.Cmp.{nat_list_eq_equiv}
 use Rattle.std.proofs.lemmas.Slice.Eq.{bytes_eq-Decides}
-use Rattle.ts_schema.proofs.Cases.{all_weaker, by_test}
-use Rattle.ts_io.specs.Lines.{lines_of}
 use Rattle.ts_model.specs.Roster.{same_name}
-use Rattle.stmt_tokens.specs.declared.lines.LineKind.{LineKind}
-use Rattle.stmt_tokens.specs.declared.lines.LineKind.TheVariants.{Blank, NotAscii, NoSession, Stmt}
-use Rattle.stmt_tokens.specs.Lines.{line_kind, session_name}
-use Rattle.ts_model.specs.Numbers.{line_long, too_many_sessions}
-use Rattle.result_text.specs.declared.replies.Said.TheVariants as said
-use Rattle.result_text.specs.Replies.{line_fault_text, reply_text}
-use Rattle.ts_sessions.specs.Script.{SessionLine, SessionScript}
-use Rattle.ts_model.specs.Limits.{most_sessions}
-use Rattle.stmt_syntax.specs.Limits.{longest_line}
-use Rattle.ts_sessions.specs.Step.{bare}
-use Rattle.par_lines.specs.Sorted.{Sorted, appears_in, at_once, final, only, refuses, setup, sorted_lines, sorts, sorts_all, sorts_as, sorts_kind, with_line}
+use Rattle.ts_sessions.specs.Script.{SessionScript}
+use Rattle.par_lines.specs.Sorted.{at_once, final, only, setup, sorted_lines}
+use Rattle.par_lines.proofs.NameLaws.{named_input}
 use Rattle.transcript.specs.Shape.{are_apart, is_among}
 
 -- ---- names apart
@@ -48,7 +38,7 @@ pub apart_told : (names : List (List ℕ)) → Apart names → are_apart names �
 apart_told [] all = refl
 apart_told (name ∷ names) all = λ i. not (not_among name names all.0 i) && apart_told names all.1 i
 
-all_appended : (P : List ℕ → Type 0) (xs ys : List (List ℕ)) → AllByRecursion P xs → AllByRecursion P ys → AllByRecursion P (xs ++ ys)
+pub all_appended : {X : Type 0} (P : X → Type 0) (xs ys : List X) → AllByRecursion P xs → AllByRecursion P ys → AllByRecursion P (xs ++ ys)
 all_appended P [] ys a b = b
 all_appended P (x ∷ xs) ys a b = (a.0, all_appended P xs ys a.1 b)
 
@@ -65,52 +55,16 @@ names_of scripts = map (λ script. script.name) scripts
 different : (a b : List ℕ) → same_name a b ≡ false → IsOther a b
 different a b e same = true≢false (sym (nat_list_eq_equiv.refl b) ∙ ap (λ x. same_name x b) (sym same) ∙ e)
 
--- what holds of each name, and of the name of one line more
-all_with : (P : List ℕ → Type 0) (name : List ℕ) (line : SessionLine) (scripts : List SessionScript) → P name → AllByRecursion P (names_of scripts) → AllByRecursion P (names_of (with_line name line scripts))
-all_with P name line [] p all = (p, tt)
-all_with P name line (x ∷ scripts) p all = by (same_name x.name name) (all_with P name line scripts p all.1)
-  where
-    by : (b : Bool) → AllByRecursion P (names_of (with_line name line scripts)) → AllByRecursion P (names_of (cond b (record x { lines = x.lines ++ line ∷ [] } ∷ scripts) (x ∷ with_line name line scripts)))
-    by true rest = all
-    by false rest = (all.0, rest)
+new_of : (name : List ℕ) (names : List (List ℕ)) → All (IsOther name) names → IsNew name names
+new_of name [] all = tt
+new_of name (x ∷ names) all = (all 0 x (omega arith), new_of name names (λ k d l. all (suc k) d (omega (arith, l))))
 
-apart_with : (name : List ℕ) (line : SessionLine) (scripts : List SessionScript) → Apart (names_of scripts) → Apart (names_of (with_line name line scripts))
-apart_with name line [] all = (tt, tt)
-apart_with name line (x ∷ scripts) all = by (same_name x.name name) refl (apart_with name line scripts all.1)
-  where
-    by : (b : Bool) → same_name x.name name ≡ b → Apart (names_of (with_line name line scripts)) → Apart (names_of (cond b (record x { lines = x.lines ++ line ∷ [] } ∷ scripts) (x ∷ with_line name line scripts)))
-    by true e rest = all
-    by false e rest = (all_with (IsOther x.name) name line scripts (different x.name name e) all.0, rest)
-
-abbrev AreApart : Sorted → Type 0
-AreApart s = Apart (names_of s.sessions)
-
-apart_as : (name : List ℕ) (line : SessionLine) (s : Sorted) → AreApart s → AreApart (sorts_as name line s)
-apart_as name line s all = by (appears_in name s.sessions || nat_lt (length s.sessions) most_sessions)
-  where
-    by : (b : Bool) → AreApart (cond b (record s { sessions = with_line name line s.sessions }) (refuses (reply_text name (said.Fault (bare too_many_sessions))) s))
-    by true = apart_with name line s.sessions all
-    by false = all
-
-apart_kind : (n : ℕ) (line : List ℕ) (s : Sorted) (kind : LineKind) → AreApart s → AreApart (sorts_kind n line s kind)
-apart_kind n line s Blank all = all
-apart_kind n line s NotAscii all = all
-apart_kind n line s NoSession all = all
-apart_kind n line s (Stmt len skip end) all = apart_as (session_name line len skip) (record { text = take end line; skip = skip }) s all
-
-apart_line : (n : ℕ) (line : List ℕ) (s : Sorted) → AreApart s → AreApart (sorts n line s)
-apart_line n line s all = by (nat_lt longest_line (length line))
-  where
-    by : (b : Bool) → AreApart (cond b (refuses (line_fault_text n (bare line_long)) s) (sorts_kind n line s (line_kind line)))
-    by true = all
-    by false = apart_kind n line s (line_kind line) all
-
-apart_lines : (n : ℕ) (lines : List (List ℕ)) (s : Sorted) → AreApart s → AreApart (sorts_all n lines s)
-apart_lines n [] s all = all
-apart_lines n (line ∷ lines) s all = apart_lines (suc n) lines (sorts n line s) (apart_line n line s all)
-
-apart_input : (input : List ℕ) → AreApart (sorted_lines input)
-apart_input input = apart_lines 1 (lines_of input) (record { refusals = []; sessions = [] }) tt
+apart_of : (names : List (List ℕ)) → AllPairs IsOther names → Apart names
+apart_of [] all = tt
+apart_of (name ∷ names) all = (
+  new_of name names (λ k d l. all 0 (suc k) d (omega arith) (omega (arith, l))),
+  apart_of names (λ i j d l m. all (suc i) (suc j) d (omega (arith, l)) (omega (arith, m))),
+)
 
 -- ---- sessions that pass a test
 
@@ -185,4 +139,4 @@ module _ (scripts : List SessionScript) where
 
 -- the sessions of an input in the order in which they run
 pub names_apart : (input : List ℕ) → Apart (names_of (only setup (sorted_lines input).sessions) ++ names_of (at_once (sorted_lines input).sessions) ++ names_of (only final (sorted_lines input).sessions))
-names_apart input = apart_phases (sorted_lines input).sessions (apart_input input)
+names_apart input = apart_phases (sorted_lines input).sessions (apart_of (names_of (sorted_lines input).sessions) (named_input input).apart)

@@ -1,5 +1,0 @@
-use Rattle.par_transcript.proofs.SoundLaws.{runs_sound}
-use Rattle.par_transcript.proofs.laws.runs_are_sound.Goals as goal
-
-pub returns : goal.returns
-returns g c = runs_sound
