@@ -32,7 +32,8 @@ named_by_all (answers ∷ others) = named_by answers ++ named_by_all others
 
 -- over a whole history whose store never stopped, the lines of the session with a name get these answers, and their
 -- texts are the replies. Before its first line the session had last read at `at`, and it had these places. From there
--- on its read positions never fall, and each of its events is that of the history with its number
+-- on its read positions never fall, and each of its events is that of the history with its number. A query in a write
+-- block reads where all operations of its queue are on hypertables
 pub record IsExplained (all : History) (at : ℕ) (p : Places) (name : List ℕ) (exchanges : List Exchange)
     (answers : List Came) : Type 0 where
   pub answered : Answered reply_to places_after all None at p (lines_of exchanges) answers

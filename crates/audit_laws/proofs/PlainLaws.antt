@@ -7,7 +7,7 @@ use Rattle.stmt_tokens.specs.Streams.{stream}
 use Rattle.policy_jobs.specs.Reading.{statement as policy_statement}
 use Rattle.policy_jobs.specs.Turns.{PolicyPlaces, beside, policy_does, reads_as}
 use Rattle.ts_sessions.specs.Gives.{Gives}
-use Rattle.ts_sessions.specs.LineLaws.{ReadsWithin}
+use Rattle.ts_sessions.specs.LineLaws.{BegunBy}
 use Rattle.ts_sessions.specs.Made.{made_in}
 use Rattle.ts_sessions.specs.Places.{Places, Turn}
 use Rattle.ts_sessions.specs.Procedures.{Procedure, ending_as}
@@ -22,8 +22,7 @@ use Rattle.par_laws.specs.Named.{NamesEvents}
 use Rattle.par_laws.specs.Parallel.{exchanges_of, places_after}
 use Rattle.audit.specs.Explained.{Came, named_by, texts_of}
 use Rattle.audit.specs.Lines.{asks_policies, line_as, lines_of}
-use Rattle.par_transcript.proofs.ScriptLaws.{IsOwn}
-use Rattle.par_transcript.proofs.TalkLaws.{exchange_in}
+use Rattle.par_run.proofs.ScriptLaws.{IsOwn}
 use Rattle.audit_laws.proofs.ShiftLaws.{GivenBefore, given_before}
 
 -- what the replies to the lines of a session with policies say
@@ -52,7 +51,7 @@ pub record Plainly (all : History) (from : ℕ) (p : Places) (lines : List Sessi
   pub alike : SaidAlike xs answers
 
 module _ (all : History) where
-  pub plainly : (lines : List SessionLine) (xs : List Heard) (p : PolicyPlaces Places) (at from : ℕ) → from ≤ at → ReadsWithin p.inner.block (position all) → AllByRecursion IsPlain lines → Answered policy_replies places_after all None at p lines xs
+  pub plainly : (lines : List SessionLine) (xs : List Heard) (p : PolicyPlaces Places) (at from : ℕ) → from ≤ at → BegunBy p.inner.block all → AllByRecursion IsPlain lines → Answered policy_replies places_after all None at p lines xs
       → Plainly all from p.inner lines xs
   plainly [] [] p at from earlier within plain a = record { answers = []; answered = tt; alike = tt }
   plainly [] (x ∷ xs) p at from earlier within plain a = absurd a
@@ -65,7 +64,7 @@ module _ (all : History) where
       let g : GivenAs (beside p.policies) all at [] own x.looks x.last x.given x.end = gives_as (beside p.policies) all at [] own x.looks x.last x.given x.end said in
       let steady : Steady false all own = replies_are_steady p.inner line.text line.skip all within in
       let b : GivenBefore all from [] own x.looks x.last x.given g.end = given_before all at from earlier [] own x.looks x.last x.given g.end steady g.gives in
-      let begun : ReadsWithin g.end.places.block (position all) = given_blocks_begin all None at p.inner line.text line.skip x.looks x.last x.given g.end within g.gives in
+      let begun : BegunBy g.end.places.block all = given_blocks_begin all None at p.inner line.text line.skip x.looks x.last x.given g.end within g.gives in
       let next : PolicyPlaces Places = record { inner = g.end.places; policies = p.policies } in
       let more : Answered policy_replies places_after all None x.last next lines xs = subst (λ y. Answered policy_replies places_after all None x.last (places_after y) lines xs) g.is a.1 in
       let rest = plainly lines xs next x.last b.end b.before begun plain.1 more in
@@ -83,7 +82,7 @@ named_alike (x ∷ xs) (a ∷ answers) s n = λ i. (ap made_in (sym s.0) ∙ sym
 
 -- the texts of the replies
 pub texts_alike : (name : List ℕ) (lines : List SessionLine) (xs : List Heard) (answers : List Came) (all : History) (at : ℕ) (p : PolicyPlaces Places) → Answered policy_replies places_after all None at p lines xs → SaidAlike xs answers
-    → texts_of name answers ≡ map (λ e. e.reply) (map exchange_in (exchanges_of name lines (ends_of xs)))
+    → texts_of name answers ≡ map (λ e. e.reply) (exchanges_of name lines (ends_of xs))
 texts_alike name [] [] [] all at p h s = refl
 texts_alike name [] [] (a ∷ answers) all at p h s = absurd s
 texts_alike name [] (x ∷ xs) answers all at p h s = absurd h
@@ -96,7 +95,7 @@ line_same : (name : List ℕ) (line : SessionLine) → (own : IsOwn name line) �
 line_same name line own = ap (line_as line.text) own.kind ∙ (λ i. record { text = own.whole i; skip = line.skip })
 
 pub lines_same : (name : List ℕ) (lines : List SessionLine) (xs : List Heard) (all : History) (at : ℕ) (p : PolicyPlaces Places) → Answered policy_replies places_after all None at p lines xs → AllByRecursion (IsOwn name) lines
-    → lines_of (map exchange_in (exchanges_of name lines (ends_of xs))) ≡ lines
+    → lines_of (exchanges_of name lines (ends_of xs)) ≡ lines
 lines_same name [] [] all at p h own = refl
 lines_same name [] (x ∷ xs) all at p h own = absurd h
 lines_same name (line ∷ lines) [] all at p h own = absurd h

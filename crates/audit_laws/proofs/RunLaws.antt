@@ -24,10 +24,9 @@ use Rattle.transcript.specs.declared.transcripts.Exchange.{Exchange}
 use Rattle.transcript.specs.declared.transcripts.SessionTranscript.{SessionTranscript}
 use Rattle.transcript.specs.Laws.{AsciiReadsBack}
 use Rattle.transcript.specs.Text.{transcript_text}
-use Rattle.par_transcript.specs.Made.{transcript_in}
-use Rattle.par_transcript.proofs.ScriptLaws.{IsSoundScript, sound_filter, sound_input}
-use Rattle.par_transcript.proofs.SoundLaws.{runs_sound}
-use Rattle.par_transcript.proofs.TalkLaws.{exchange_in, sessions_in, talk_in}
+use Rattle.par_run.specs.Outputs.{talk_of, transcript_in}
+use Rattle.par_run.proofs.ScriptLaws.{IsSoundScript, sound_filter, sound_input}
+use Rattle.par_run.proofs.SoundLaws.{runs_sound}
 use Rattle.audit.specs.Laws.{ExplainedIsYes}
 use Rattle.audit.specs.Explained.{AreExplained, Came, IsExplained, named_by, named_by_all, texts_of}
 use Rattle.audit.specs.declared.lines.Place.{Place}
@@ -91,13 +90,13 @@ module _ (policies : List Policy) (all : History) (start from to : ℕ) (earlier
   abbrev OneExplained : SessionScript → SessionReplies → List Heard → Type 0
   OneExplained s r xs = IsPhaseExplained lines_in AreReplies policy_replies places_after all None from to (places_with policies) s r xs
 
-  talk_explained : (s : SessionScript) (r : SessionReplies) (xs : List Heard) → IsSoundScript s → AllByRecursion IsPlain (lines_of (talk_in r).replies) → AllByRecursion NamesEvents xs → OneExplained s r xs → TalkExplained all start (talk_in r) (numbers_of xs)
+  talk_explained : (s : SessionScript) (r : SessionReplies) (xs : List Heard) → IsSoundScript s → AllByRecursion IsPlain (lines_of (talk_of r).replies) → AllByRecursion NamesEvents xs → OneExplained s r xs → TalkExplained all start (talk_of r) (numbers_of xs)
   talk_explained s r xs sound plain named e =
       let exchanges : r.exchanges ≡ exchanges_of s.name s.lines (ends_of xs) = e.replied.exchanges in
-      let lines : lines_of (map exchange_in r.exchanges) ≡ s.lines = ap (λ es. lines_of (map exchange_in es)) exchanges ∙ lines_same s.name s.lines xs all from (places_with policies) e.answered sound.lines in
+      let lines : lines_of r.exchanges ≡ s.lines = ap lines_of exchanges ∙ lines_same s.name s.lines xs all from (places_with policies) e.answered sound.lines in
       let p : Plainly all start no_places s.lines xs = plainly all s.lines xs (places_with policies) from start earlier tt (subst (λ ls. AllByRecursion IsPlain ls) lines plain) e.answered in
-      let texts : texts_of r.name p.answers ≡ map (λ x. x.reply) (map exchange_in r.exchanges) =
-      ap (λ n. texts_of n p.answers) e.replied.name ∙ texts_alike s.name s.lines xs p.answers all from (places_with policies) e.answered p.alike ∙ sym (ap (λ es. map (λ x. x.reply) (map exchange_in es)) exchanges) in
+      let texts : texts_of r.name p.answers ≡ map (λ x. x.reply) r.exchanges =
+      ap (λ n. texts_of n p.answers) e.replied.name ∙ texts_alike s.name s.lines xs p.answers all from (places_with policies) e.answered p.alike ∙ sym (ap (map (λ (x : Exchange). x.reply)) exchanges) in
       record {
         answers = p.answers;
         explained = record { answered = subst (λ ls. Answered reply_to places_after all None start no_places ls p.answers) (sym lines) p.answered; replies = texts };
@@ -111,8 +110,8 @@ module _ (policies : List Policy) (all : History) (start from to : ℕ) (earlier
     explained : AreExplained all start talks all_answers
     named : named_by_all all_answers ≡ numbers
 
-  talks_explained : (ss : List SessionScript) (rs : List SessionReplies) (xss : List (List Heard)) → AllByRecursion IsSoundScript ss → ArePlain (map talk_in rs) → RepliesNameEvents xss
-      → AllExplained lines_in AreReplies policy_replies places_after all None from to (places_with policies) ss rs xss → TalksExplained (map talk_in rs) (all_numbers xss)
+  talks_explained : (ss : List SessionScript) (rs : List SessionReplies) (xss : List (List Heard)) → AllByRecursion IsSoundScript ss → ArePlain (map talk_of rs) → RepliesNameEvents xss
+      → AllExplained lines_in AreReplies policy_replies places_after all None from to (places_with policies) ss rs xss → TalksExplained (map talk_of rs) (all_numbers xss)
   talks_explained [] [] [] sound plain named e = record { all_answers = []; explained = tt; named = refl }
   talks_explained [] [] (xs ∷ xss) sound plain named e = absurd e
   talks_explained [] (r ∷ rs) xss sound plain named e = absurd e
@@ -140,8 +139,8 @@ named_both [] bs = refl
 named_both (x ∷ cs) bs = ap (λ l. named_by x ++ l) (named_both cs bs) ∙ sym (append_assoc (named_by x) (named_by_all cs) (named_by_all bs))
 
 -- a phase with what its sessions said
-phase_explained : (policies : List Policy) (all : History) (stop : Option ℕ) (start from to : ℕ) → stop ≡ None → (earlier : start ≤ from) → (ss : List SessionScript) (rs : List SessionReplies) → AllByRecursion IsSoundScript ss → ArePlain (map talk_in rs)
-    → (r : SessionsRan policy_replies (places_with policies) all stop from to ss rs) → TalksExplained policies all start from to earlier (map talk_in rs) (all_numbers r.phase.answers)
+phase_explained : (policies : List Policy) (all : History) (stop : Option ℕ) (start from to : ℕ) → stop ≡ None → (earlier : start ≤ from) → (ss : List SessionScript) (rs : List SessionReplies) → AllByRecursion IsSoundScript ss → ArePlain (map talk_of rs)
+    → (r : SessionsRan policy_replies (places_with policies) all stop from to ss rs) → TalksExplained policies all start from to earlier (map talk_of rs) (all_numbers r.phase.answers)
 phase_explained policies all stop start from to none_stopped earlier ss rs sound plain r =
     talks_explained policies all start from to earlier ss rs r.phase.answers sound plain r.named
     (subst (λ o. AllExplained lines_in AreReplies policy_replies places_after all o from to (places_with policies) ss rs r.phase.answers) none_stopped r.phase.explained)
@@ -155,20 +154,20 @@ runs_explained opening input policies new out reads ran still plain =
     let r = ran.ran in
     let stopped : stop_of new ≡ None = ap (λ b. cond b (Some (position all)) None) still in
     let said = ran.before ++ ran.between ++ ran.after in
-    let sessions : (transcript_in start out).sessions ≡ map talk_in said = sessions_in start said out ran.says.names ran.says.lines in
-    let apart : map talk_in said ≡ (map talk_in ran.before ++ map talk_in ran.between) ++ map talk_in ran.after =
-    map-append talk_in (ran.before ++ ran.between) ran.after ∙ ap (λ l. l ++ map talk_in ran.after) (map-append talk_in ran.before ran.between) in
-    let lines : ArePlain ((map talk_in ran.before ++ map talk_in ran.between) ++ map talk_in ran.after) = plain_talks _ (ap first_policy (sym (sessions ∙ apart)) ∙ plain) in
+    let sessions : out.sessions ≡ map talk_of said = ran.says.sessions in
+    let apart : map talk_of said ≡ (map talk_of ran.before ++ map talk_of ran.between) ++ map talk_of ran.after =
+    map-append talk_of (ran.before ++ ran.between) ran.after ∙ ap (λ l. l ++ map talk_of ran.after) (map-append talk_of ran.before ran.between) in
+    let lines : ArePlain ((map talk_of ran.before ++ map talk_of ran.between) ++ map talk_of ran.after) = plain_talks _ (ap first_policy (sym (sessions ∙ apart)) ∙ plain) in
     let P : SessionTranscript → Type 0 = λ t. AllByRecursion IsPlain (lines_of t.replies) in
-    let first_two = all_first P (map talk_in ran.before ++ map talk_in ran.between) (map talk_in ran.after) lines in
+    let first_two = all_first P (map talk_of ran.before ++ map talk_of ran.between) (map talk_of ran.after) lines in
     let f = r.setup_ran.phase in
     let o = r.others_ran.phase in
     let l = r.final_ran.phase in
-    let one = phase_explained policies all (stop_of new) start start r.first stopped (omega arith) (only setup scripts) ran.before (sound_filter _ scripts sound) (all_first P (map talk_in ran.before) (map talk_in ran.between) first_two) r.setup_ran in
-    let two = phase_explained policies all (stop_of new) start r.first r.second stopped f.order (at_once scripts) ran.between (sound_filter _ scripts sound) (all_second P (map talk_in ran.before) (map talk_in ran.between) first_two) r.others_ran in
+    let one = phase_explained policies all (stop_of new) start start r.first stopped (omega arith) (only setup scripts) ran.before (sound_filter _ scripts sound) (all_first P (map talk_of ran.before) (map talk_of ran.between) first_two) r.setup_ran in
+    let two = phase_explained policies all (stop_of new) start r.first r.second stopped f.order (at_once scripts) ran.between (sound_filter _ scripts sound) (all_second P (map talk_of ran.before) (map talk_of ran.between) first_two) r.others_ran in
     let three =
     phase_explained policies all (stop_of new) start r.second (position all) stopped (omega (arith, f.order, o.order)) (only final scripts) ran.after (sound_filter _ scripts sound)
-    (all_second P (map talk_in ran.before ++ map talk_in ran.between) (map talk_in ran.after) lines) r.final_ran in
+    (all_second P (map talk_of ran.before ++ map talk_of ran.between) (map talk_of ran.after) lines) r.final_ran in
     let answers = (one.all_answers ++ two.all_answers) ++ three.all_answers in
     let named : named_by_all answers ≡ (all_numbers f.answers ++ all_numbers o.answers) ++ all_numbers l.answers =
     named_both (one.all_answers ++ two.all_answers) three.all_answers ∙ (λ i. (named_both one.all_answers two.all_answers ∙ (λ j. one.named j ++ two.named j)) i ++ three.named i) in
@@ -179,8 +178,8 @@ runs_explained opening input policies new out reads ran still plain =
     record {
       within = (omega (arith, base, base_below opening), position_begins r.begins);
       answers = answers;
-      explained = subst (λ ts. AreExplained all start ts answers) (sym (sessions ∙ apart)) (explained_both all start (map talk_in ran.before ++ map talk_in ran.between) (map talk_in ran.after) (one.all_answers ++ two.all_answers) three.all_answers
-          (explained_both all start (map talk_in ran.before) (map talk_in ran.between) one.all_answers two.all_answers one.explained two.explained) three.explained);
+      explained = subst (λ ts. AreExplained all start ts answers) (sym (sessions ∙ apart)) (explained_both all start (map talk_of ran.before ++ map talk_of ran.between) (map talk_of ran.after) (one.all_answers ++ two.all_answers) three.all_answers
+          (explained_both all start (map talk_of ran.before) (map talk_of ran.between) one.all_answers two.all_answers one.explained two.explained) three.explained);
       numbers = subst (λ ps. IsPermutation (named_by_all answers) ps) (sym positions) (subst (λ ns. IsPermutation ns ((positions_between start r.first ++ positions_between r.first r.second) ++ positions_between r.second (position all))) (sym named) numbers);
     }
 

@@ -9,11 +9,10 @@ use Rattle.policy_jobs.specs.Turns.{policy_does}
 use Rattle.policy_jobs.specs.declared.policies.Policy.{Policy}
 use Rattle.par_lines.specs.Sorted.{sorted_lines}
 use Rattle.par_run.specs.Crews.{LinesRan}
-use Rattle.par_run.specs.Outputs.{Output}
+use Rattle.par_run.specs.Outputs.{Output, transcript_in}
 use Rattle.transcript.specs.Ascii.{is_ascii_transcript}
 use Rattle.transcript.specs.Text.{transcript_text}
 use Rattle.transcript.specs.declared.transcripts.Transcript.{Transcript}
-use Rattle.par_transcript.specs.Made.{transcript_in}
 use Rattle.audit.specs.Answers.{Answers, reply_count}
 use Rattle.audit.specs.Explained.{Explained}
 use Rattle.audit.specs.Lines.{first_policy}

@@ -4,6 +4,6 @@ pub mod TellWalks
 pub mod TellDeeds
 pub mod TellViews
 pub mod TellStatements
-pub mod StandingLaws
+pub mod FittingLaws
 pub mod TellQueues
 pub mod TellLines

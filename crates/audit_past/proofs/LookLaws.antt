@@ -24,7 +24,7 @@ use Rattle.ts_model.specs.declared.views.ViewDef.{ViewDef}
 use Rattle.ts_model.specs.Timely.{has_room}
 use Rattle.ts_model.specs.Calls.{Act, commit_result as calls_committed, act_of_event, refuses as is_refused, returns, makes, act_of_commit, cut_of_view, cut_over, act_of_cut, finish_of, act_of_finish, making_hyper, making_table, making_view, new_relation, act_with_number, refusal, setting_mode}
 use Rattle.ts_model.specs.Numbers.{name_taken, no_bucket, no_refresh, no_snapshot, too_many, history_full}
-use Rattle.ts_model.specs.History.{History, base_position, position, prefix}
+use Rattle.ts_model.specs.History.{History, Begins, base_position, position, prefix, same}
 use Rattle.ts_model.proofs.HistoryLaws.{begins_prefix, position_begins}
 use Rattle.ts_model.specs.Limits.{most_relations}
 use Rattle.ts_model.specs.Pending.{pending}
@@ -49,10 +49,11 @@ use Rattle.ts_sessions.specs.Looks.{before, looks_told, refusal_told, shows_posi
 use Rattle.ts_sessions.specs.Places.{Block, none, writing, reading, Places, Turn, cuts, enters, held_for, refuses, turns}
 use Rattle.ts_sessions.specs.Procedures.{Procedure, sees, adds, ends, ending_as, followed_by, looks, tries_at}
 use Rattle.ts_sessions.specs.Replies.{reply_to, replies}
-use Rattle.ts_sessions.specs.Step.{Taken, acts, after_cut, after_line, after_snapshot, after_view, answers, begins, block_refusal, calendar_plan, commits, turn_of_commit, cut_refused, cut_turn, finish_turn, finishes, finishes_held, kind_of, least_start, makes_event, misread, turn_of_names, named_here, plan_of, prints, prints_writing, refresh_meant, turn_of_refresh, refreshes, refusal_outside, turn_of_line, snap_turn, snaps, snapshot_taken, taken_of, unfinished_refusal, unit_of, unless, view_made}
+use Rattle.ts_sessions.specs.Step.{Taken, acts, after_cut, after_line, after_snapshot, after_view, answers, begins, block_refusal, calendar_plan, commits, turn_of_commit, cut_refused, cut_turn, finish_turn, finishes, finishes_held, kind_of, least_start, makes_event, misread, turn_of_names, named_here, on_hypertables, plan_of, prints, prints_writing, refresh_meant, turn_of_refresh, refreshes, refusal_outside, turn_of_line, snap_turn, snaps, snapshot_taken, taken_of, unfinished_refusal, unit_of, unless, view_made}
 use Rattle.audit_past.specs.Replay.{Told, Tells}
 use Rattle.audit_past.specs.ReplayLaws.{RepliesTellTheirLooks}
 use Rattle.ts_sessions.proofs.BlockWalks.{block_is}
+use Rattle.ts_sessions.proofs.HypertableLaws.{on_hypertables_stay}
 use Rattle.ts_sessions.proofs.NamedLaws.{event_named, named_holds, read_holds, unless_holds}
 use Rattle.ts_sessions.proofs.RefusalCodes.{IsLooked, Looked, checks_looked, looked}
 use Rattle.ts_sessions.proofs.SteadyLaws.{none_there, only_begins, refused_here}
@@ -174,13 +175,13 @@ ended_tells P all at so_far (ends a) [] last given y t g = record {
 }
 ended_tells P all at so_far (ends a) (p ∷ ps) last given y t g = absurd g
 
--- a read that isn't printed ends its statement: the reply prints none, or no such read is ever printed
+-- a read that isn't printed ends its statement: the reply prints none, or no read was printed until then
 abbrev Hidden : (History → Bool) → History → Procedure (Turn Places) → Type 0
-Hidden shown h procedure = EndsSo (λ y. looks_told y.said ≡ []) procedure ⊎ (((g : History) → shown g ≡ false) × EndsSo (λ y. Within h (looks_told y.said)) procedure)
+Hidden shown h procedure = EndsSo (λ y. looks_told y.said ≡ []) procedure ⊎ (((g : History) → Begins g h → shown g ≡ false) × EndsSo (λ y. Within h (looks_told y.said)) procedure)
 
-unseen : (all : History) (at : ℕ) (so_far : List (ℕ × Event)) (shown : History → Bool) (f : History → Procedure (Turn Places)) (rest : List ℕ) (r : Option (Told (Turn Places))) → ((g : History) → shown g ≡ false) → Tells all at so_far (f all) rest r → Tells all at so_far (sees shown f) rest r
-unseen all at so_far shown f [] r hides t = inl (hides all, t)
-unseen all at so_far shown f (p ∷ ps) r hides t = inr (inl (and_right _ (shown (prefix all p)) (hides (prefix all p)), hides all, t))
+unseen : (all : History) (at : ℕ) (so_far : List (ℕ × Event)) (shown : History → Bool) (f : History → Procedure (Turn Places)) (rest : List ℕ) (r : Option (Told (Turn Places))) → ((g : History) → Begins g all → shown g ≡ false) → Tells all at so_far (f all) rest r → Tells all at so_far (sees shown f) rest r
+unseen all at so_far shown f [] r hides t = inl (hides all same, t)
+unseen all at so_far shown f (p ∷ ps) r hides t = inr (inl (and_right _ (shown (prefix all p)) (hides (prefix all p) (begins_prefix all p)), hides all same, t))
 
 hidden_comes : (shown : History → Bool) (f : History → Procedure (Turn Places)) (all : History) (at : ℕ) (so_far : List (ℕ × Event)) (ps : List (Option ℕ)) (last : ℕ) (given : List (ℕ × Event)) (y : Turn Places) → shown all ≡ false → Hidden shown all (f all) → Gives all None at so_far (f all) ps last given y → Comes all at so_far [] (sees shown f) last given y
 hidden_comes shown f all at so_far ps last given y unseen_now (inl t) g =
@@ -516,7 +517,7 @@ tells_action h p bytes actions.Rollback l = absurd l
 tells_action h p bytes (actions.Calendar table number unit at fold) l = tells_query (enters none p) bytes h (actions.Calendar table number unit at fold) tt
 tells_action h p bytes (actions.Ask q) l = tells_query (enters none p) bytes h (actions.Ask q) tt
 
-looks_outside : (r : Roster) (stmt : Stmt) → refusal_outside (kind_of stmt) ≡ None → prints none (kind_of stmt) None ≡ true → Looks (action_of r stmt)
+looks_outside : (r : Roster) (stmt : Stmt) → refusal_outside (kind_of stmt) ≡ None → prints none (kind_of stmt) r None ≡ true → Looks (action_of r stmt)
 looks_outside r (stmts.Table name cols) pass look = tt
 looks_outside r (stmts.Hyper table col interval) pass look = tt
 looks_outside r (stmts.View name only filled fold) pass look = tt
@@ -539,7 +540,7 @@ looks_outside r (stmts.Rows table tests) pass look = tt
 tells_outside : (p : Places) (bytes : ℕ) (stmt : Stmt) → refusal_outside (kind_of stmt) ≡ None → TellsLooks [] (named_here (enters none p) bytes stmt)
 tells_outside p bytes stmt pass =
     let q = enters none p in
-    tells_first (λ h. prints none (kind_of stmt) (refusal_of (position h) (roster h) stmt)) (λ h. turn_of_names q bytes stmt h)
+    tells_first (λ h. prints none (kind_of stmt) (roster h) (refusal_of (position h) (roster h) stmt)) (λ h. turn_of_names q bytes stmt h)
     (λ h look. tells_named h q bytes stmt (λ e. tells_action h p bytes (action_of (roster h) stmt) (looks_outside (roster h) stmt pass look)))
     (λ h hidden. inl (subst (λ s. EndsSo (λ y. looks_told y.said ≡ []) (turn_of_names q bytes s h)) (sym (only_begins stmt (not-false (begins (kind_of stmt)) hidden))) refl))
 
@@ -550,8 +551,8 @@ tells_queue : (p : Places) (bytes : ℕ) (stmt : Stmt) (ops : List Op) (n : ℕ)
 tells_queue p bytes stmt ops n op kind is =
     let q = enters (writing ops n) p in
     let refused : History → Option Refusal = λ h. refusal_of (position h) (roster h) stmt in
-    let shown_is : (h : History) → prints_writing ops (kind_of stmt) (refused h) ≡ is_some (refused h) = λ h. ap (λ k. prints_writing ops k (refused h)) kind in
-    tells_first (λ h. prints_writing ops (kind_of stmt) (refused h)) (λ h. turn_of_names q bytes stmt h)
+    let shown_is : (h : History) → prints_writing ops (kind_of stmt) (roster h) (refused h) ≡ is_some (refused h) = λ h. ap (λ k. prints_writing ops k (roster h) (refused h)) kind in
+    tells_first (λ h. prints_writing ops (kind_of stmt) (roster h) (refused h)) (λ h. turn_of_names q bytes stmt h)
     (λ h look. tells_named h q bytes stmt (λ e. absurd (true≢false (sym look ∙ shown_is h ∙ ap is_some e))))
     (λ h hidden.
     let passes = none_there (refused h) (sym (shown_is h) ∙ hidden) in
@@ -559,15 +560,43 @@ tells_queue p bytes stmt ops n op kind is =
     let here : turn_of_names q bytes stmt h ≡ ends y = event_named q bytes h stmt (ap makes_event kind) ∙ ap (λ o. unless q o (acts q bytes h (action_of (roster h) stmt))) passes ∙ ap (acts q bytes h) (is (roster h)) in
     inl (subst (EndsSo (λ x. looks_told x.said ≡ [])) (sym here) refl))
 
+-- what isn't on hypertables yet wasn't on hypertables before
+missing_before : (g h : History) (ops : List Op) → Begins g h → on_hypertables (roster h) ops ≡ false → on_hypertables (roster g) ops ≡ false
+missing_before g h ops on missing =
+    elim (on_hypertables (roster g) ops) as (λ b. on_hypertables (roster g) ops ≡ b → b ≡ false) [
+      | true ↦ λ e. absurd (true≢false (sym (on_hypertables_stay g h ops on e) ∙ missing))
+      | false ↦ λ e. refl
+    ] refl
+
+-- the reply prints positions of a history only
+abbrev TellsWithin : History → Turn Places → Type 0
+TellsWithin all y = Within all (looks_told y.said)
+
+-- a statement that ends where its names are resolved, at a position of a history
+ended_within : (all h : History) (q : Places) (bytes : ℕ) (stmt : Stmt) → position h ≤ position all → (refusal_of (position h) (roster h) stmt ≡ None → EndsSo (TellsWithin all) (acts q bytes h (action_of (roster h) stmt))) → EndsSo (TellsWithin all) (turn_of_names q bytes stmt h)
+ended_within all h q bytes stmt low acted =
+    let fault : (r : Refusal) → IsLooked (position h) r → Within all (refusal_told r []) = λ r l. subst (Within all) (sym (fault_told (position h) r l)) (low, (low, tt)) in
+    named_holds (EndsSo (TellsWithin all)) q bytes h stmt (λ r e. fault r (rolled_looked (position h) (roster h) stmt r e)) (λ plan. (low, tt))
+    (λ r e. fault r (subst (Looked (position h)) e (checks_looked (position h) (roster h) stmt))) acted
+
+ended_query : (all : History) (p : Places) (bytes : ℕ) (h : History) (a : Action) → position h ≤ position all → Asks a → EndsSo (TellsWithin all) (acts p bytes h a)
+ended_query all p bytes h (actions.Calendar table number unit at fold) low asks = (low, tt)
+ended_query all p bytes h (actions.Ask q) low asks = (low, tt)
+ended_query all p bytes h other low asks = absurd asks
+
 -- a query
 tells_asked : (p : Places) (bytes : ℕ) (stmt : Stmt) (ops : List Op) (n : ℕ) → kind_of stmt ≡ kinds.Asks → ((r : Roster) → Asks (action_of r stmt)) → TellsLooks [] (named_here (enters (writing ops n) p) bytes stmt)
 tells_asked p bytes stmt ops n kind asks =
     let q = enters (writing ops n) p in
     let refused : History → Option Refusal = λ h. refusal_of (position h) (roster h) stmt in
-    let shown_is : (h : History) → prints_writing ops (kind_of stmt) (refused h) ≡ true = λ h. ap (λ k. prints_writing ops k (refused h)) kind in
-    tells_first (λ h. prints_writing ops (kind_of stmt) (refused h)) (λ h. turn_of_names q bytes stmt h)
+    let shown : History → Bool = λ h. prints_writing ops (kind_of stmt) (roster h) (refused h) in
+    let shown_is : (h : History) → shown h ≡ on_hypertables (roster h) ops = λ h. ap (λ k. prints_writing ops k (roster h) (refused h)) kind in
+    tells_first shown (λ h. turn_of_names q bytes stmt h)
     (λ h look. tells_named h q bytes stmt (λ e. tells_query q bytes h (action_of (roster h) stmt) (asks (roster h))))
-    (λ h hidden. absurd (true≢false (sym (shown_is h) ∙ hidden)))
+    (λ h hidden. inr (
+      λ g on. shown_is g ∙ missing_before g h ops on (sym (shown_is h) ∙ hidden),
+      ended_within h h q bytes stmt (omega arith) (λ e. ended_query h q bytes h (action_of (roster h) stmt) (omega arith) (asks (roster h))),
+    ))
 
 -- the end of the block
 tells_commit : (p : Places) (bytes : ℕ) (ops : List Op) (n : ℕ) → TellsLooks [] (named_here (enters (writing ops n) p) bytes stmts.Commit)
@@ -595,11 +624,11 @@ tells_writing p bytes stmts.BeginRead ops n e = refused_here _ e
 tells_writing p bytes stmts.Commit ops n e = tells_commit p bytes ops n
 tells_writing p bytes stmts.Rollback ops n e =
     let q = enters (writing ops n) p in
-    tells_first (λ h. prints_writing ops kinds.RollsBack None) (λ h. turn_of_names q bytes stmts.Rollback h) (λ h look. absurd (true≢false (sym look ∙ no_rollback ops))) (λ h hidden. inl refl)
+    tells_first (λ h. prints_writing ops kinds.RollsBack (roster h) None) (λ h. turn_of_names q bytes stmts.Rollback h) (λ h look. absurd (true≢false (sym look ∙ no_rollback ops (roster h)))) (λ h hidden. inl refl)
   where
-    no_rollback : (ops : List Op) → prints_writing ops kinds.RollsBack None ≡ false
-    no_rollback [] = refl
-    no_rollback (op ∷ ops) = refl
+    no_rollback : (ops : List Op) (r : Roster) → prints_writing ops kinds.RollsBack r None ≡ false
+    no_rollback [] r = refl
+    no_rollback (op ∷ ops) r = refl
 tells_writing p bytes (stmts.Buckets fold) ops n e = tells_asked p bytes (stmts.Buckets fold) ops n refl (λ r. tt)
 tells_writing p bytes (stmts.Calendar number unit fold) ops n e = tells_asked p bytes (stmts.Calendar number unit fold) ops n refl (λ r. tt)
 tells_writing p bytes (stmts.Rows table tests) ops n e = tells_asked p bytes (stmts.Rows table tests) ops n refl (λ r. tt)
@@ -607,22 +636,13 @@ tells_writing p bytes (stmts.Rows table tests) ops n e = tells_asked p bytes (st
 -- ---- in a read block
 
 -- the reply prints the position of the block only, and no read is printed
-abbrev TellsWithin : History → Turn Places → Type 0
-TellsWithin all y = Within all (looks_told y.said)
-
 tells_read : (p : Places) (bytes : ℕ) (stmt : Stmt) (at : ℕ) → let q = enters (reading at) p in ((all h : History) → position h ≤ position all → EndsSo (TellsWithin all) (acts q bytes h (action_of (roster h) stmt))) → TellsLooks [] (named_here q bytes stmt)
 tells_read p bytes stmt at acted =
     let q = enters (reading at) p in
     tells_first (λ h. false) (λ h. turn_of_names q bytes stmt (prefix h at)) (λ h look. absurd (true≢false (sym look))) (λ all hidden.
     let h = prefix all at in
     let low : position h ≤ position all = position_begins (begins_prefix all at) in
-    let fault : (r : Refusal) → IsLooked (position h) r → Within all (refusal_told r []) = λ r l. subst (Within all) (sym (fault_told (position h) r l)) (low, (low, tt)) in
-    inr (
-      λ g. refl,
-      named_holds (EndsSo (TellsWithin all)) q bytes h stmt (λ r e. fault r (rolled_looked (position h) (roster h) stmt r e)) (λ plan. (low, tt))
-          (λ r e. fault r (subst (Looked (position h)) e (checks_looked (position h) (roster h) stmt)))
-          (λ e. acted all h low),
-    ))
+    inr (λ g on. refl, ended_within all h q bytes stmt low (λ e. acted all h low)))
 
 tells_reading : (p : Places) (bytes : ℕ) (stmt : Stmt) (at : ℕ) → block_refusal (reading at) (kind_of stmt) ≡ None → TellsLooks [] (named_here (enters (reading at) p) bytes stmt)
 tells_reading p bytes (stmts.Table name cols) at e = refused_here _ e

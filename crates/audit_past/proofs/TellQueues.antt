@@ -2,6 +2,7 @@
 use Rattle.std.proofs.Common.{◌≡◌, ℕ, ◌≤◌, Bool, true, false, List, [], ◌∷◌, Option, Some, None, sym, refl, ap, ◌∙◌, subst, arith}
 use Rattle.std.specs.Prelude.{Result, Ok, Err, IfOk, is_some}
 use Rattle.std.proofs.lemmas.Bool.{true≢false}
+use Rattle.std.proofs.lemmas.Option.{same_Some}
 use Rattle.ts_schema.specs.declared.memory.NoMemory.{NoMemory}
 use Rattle.ts_model.specs.declared.events.Op.{Op}
 use Rattle.ts_model.specs.declared.outcomes.Refusal.{Refusal}
@@ -34,7 +35,7 @@ use Rattle.ts_sessions.specs.Places.{Block, Places, Turn, enters, refuses, turns
 use Rattle.ts_sessions.specs.Procedures.{Procedure, sees, ends}
 use Rattle.ts_sessions.specs.Sessions.{queued_on}
 use Rattle.ts_sessions.specs.Sound.{AsksSoundly, kind_of_action}
-use Rattle.ts_sessions.specs.Step.{acts, block_refusal, changes as changes_of, kind_of, makes_event, turn_of_names, named_here, prints, read_at, shown_in, unless}
+use Rattle.ts_sessions.specs.Step.{acts, block_refusal, changes as changes_of, kind_of, makes_event, turn_of_names, named_here, on_hypertables, prints, read_at, shown_in, unless}
 use Rattle.audit_past.specs.ReplaySteps.{ReachesTo, shown_as, TellsNothing, ended_of, later_looks, next_look, refused_at, refused_to, unless_refused, queued_operation, waits_at}
 use Rattle.ts_sessions.proofs.NamedLaws.{event_named}
 use Rattle.ts_sessions.proofs.SoundLaws.{kinds_agree}
@@ -49,8 +50,8 @@ change_in p bytes stmt = sees (λ h. is_some (refusal_of (position h) (roster h)
 module _ (p : Places) (bytes : ℕ) (stmt : Stmt) (ops : List Op) (n : ℕ) (in_block : p.block ≡ writing ops n) (kind : kind_of stmt ≡ kinds.Changes) where
   change_is : named_here p bytes stmt ≡ change_in p bytes stmt
   change_is =
-      ap (λ b. sees (λ h. prints b (kind_of stmt) (refusal_of (position h) (roster h) stmt)) (λ h. turn_of_names p bytes stmt (read_at b h))) in_block
-      ∙ ap (λ k. sees (λ h. prints (writing ops n) k (refusal_of (position h) (roster h) stmt)) (turn_of_names p bytes stmt)) kind
+      ap (λ b. sees (λ h. prints b (kind_of stmt) (roster h) (refusal_of (position h) (roster h) stmt)) (λ h. turn_of_names p bytes stmt (read_at b h))) in_block
+      ∙ ap (λ k. sees (λ h. prints (writing ops n) k (roster h) (refusal_of (position h) (roster h) stmt)) (turn_of_names p bytes stmt)) kind
 
   named_is : (h : History) → turn_of_names p bytes stmt h ≡ unless p (refusal_of (position h) (roster h) stmt) (acts p bytes h (action_of (roster h) stmt))
   named_is h = event_named p bytes h stmt (ap makes_event kind)
@@ -168,20 +169,31 @@ pub shown_shows : {T J : Type 0} (b : Block) (h : History) (pos : ℕ) (r : Rost
 shown_shows b h pos r stmt m plan result e f i is k = said_as result (said_once (answered_line b h plan) changes.Nothing) _ k (shown_is b h pos r stmt m (meant.Shows plan) e f i is)
 
 module _ (p : Places) (bytes : ℕ) (stmt : Stmt) (ops : List Op) (n : ℕ) (in_block : p.block ≡ writing ops n) (kind : kind_of stmt ≡ kinds.Asks) where
-  query_is : named_here p bytes stmt ≡ sees (λ h. true) (turn_of_names p bytes stmt)
+  -- a query in a write block
+  abbrev query_in : Procedure (Turn Places)
+  query_in = sees (λ h. on_hypertables (roster h) ops) (turn_of_names p bytes stmt)
+
+  query_is : named_here p bytes stmt ≡ query_in
   query_is =
-      ap (λ b. sees (λ h. prints b (kind_of stmt) (refusal_of (position h) (roster h) stmt)) (λ h. turn_of_names p bytes stmt (read_at b h))) in_block
-      ∙ ap (λ k. sees (λ h. prints (writing ops n) k (refusal_of (position h) (roster h) stmt)) (turn_of_names p bytes stmt)) kind
+      ap (λ b. sees (λ h. prints b (kind_of stmt) (roster h) (refusal_of (position h) (roster h) stmt)) (λ h. turn_of_names p bytes stmt (read_at b h))) in_block
+      ∙ ap (λ k. sees (λ h. prints (writing ops n) k (roster h) (refusal_of (position h) (roster h) stmt)) (turn_of_names p bytes stmt)) kind
 
-  pub query_nowhere : (all : History) (at : ℕ) (ps : List ℕ) → next_look all at ps ≡ None → TellsNothing all at (named_here p bytes stmt) ps
-  query_nowhere all at ps e = subst (λ d. TellsNothing all at d ps) (sym query_is) (look_nothing all at (λ h. true) (turn_of_names p bytes stmt) ps e refl)
+  pub query_nowhere : (all : History) (at : ℕ) (ps : List ℕ) → next_look all at ps ≡ None → on_hypertables (roster all) ops ≡ true → TellsNothing all at (named_here p bytes stmt) ps
+  query_nowhere all at ps e there = subst (λ d. TellsNothing all at d ps) (sym query_is) (look_nothing all at (λ h. on_hypertables (roster h) ops) (turn_of_names p bytes stmt) ps e there)
 
-  pub query_told : {T J : Type 0} (shown : Shown T J) (all : History) (at look : ℕ) (ps : List ℕ) (next : Next T J) → next_look all at ps ≡ Some look → next ≡ shown_as (writing ops n) (prefix all look) (meant_by (position (prefix all look)) (roster (prefix all look)) stmt) → ReachesTo shown bytes all at (named_here p bytes stmt) ps p (Ok (ended_of next look))
-  query_told {T} {J} shown all at look ps next told e =
+  -- it isn't explained at a position at which an operation isn't on a hypertable
+  pub query_missed : (all : History) (at look : ℕ) (ps : List ℕ) → next_look all at ps ≡ Some look → on_hypertables (roster (prefix all look)) ops ≡ false → on_hypertables (roster all) ops ≡ true → TellsNothing all at (named_here p bytes stmt) ps
+  query_missed all at look ps told missing there =
+      subst (λ d. TellsNothing all at d ps) (sym query_is)
+      (look_refused all at (λ h. on_hypertables (roster h) ops) (turn_of_names p bytes stmt) ps
+      (λ other also. subst (λ (q : ℕ). on_hypertables (roster (prefix all q)) ops ≡ false) (same_Some look other (sym told ∙ also)) missing) there)
+
+  pub query_told : {T J : Type 0} (shown : Shown T J) (all : History) (at look : ℕ) (ps : List ℕ) (next : Next T J) → next_look all at ps ≡ Some look → on_hypertables (roster (prefix all look)) ops ≡ true → next ≡ shown_as (writing ops n) (prefix all look) (meant_by (position (prefix all look)) (roster (prefix all look)) stmt) → ReachesTo shown bytes all at (named_here p bytes stmt) ps p (Ok (ended_of next look))
+  query_told {T} {J} shown all at look ps next told there e =
       let h = prefix all look in
       let lies = look_lies all at look ps told in
-      reaches_as shown bytes all at (named_here p bytes stmt) (sees (λ h. true) (turn_of_names p bytes stmt)) ps p (Ok (ended_of next look)) query_is
-      (reaches_then shown bytes all at look (sees (λ h. true) (turn_of_names p bytes stmt)) (turn_of_names p bytes stmt h) ps (later_looks ps) p (Ok (ended_of next look)) (look_tells all at look (λ h. true) (turn_of_names p bytes stmt) ps told refl) lies.low
+      reaches_as shown bytes all at (named_here p bytes stmt) query_in ps p (Ok (ended_of next look)) query_is
+      (reaches_then shown bytes all at look query_in (turn_of_names p bytes stmt h) ps (later_looks ps) p (Ok (ended_of next look)) (look_tells all at look (λ h. on_hypertables (roster h) ops) (turn_of_names p bytes stmt) ps told there) lies.low
       (reaches_as shown bytes all look (turn_of_names p bytes stmt h) (meant_left {T = T} {J = J} p bytes (writing ops n) h (meant_by (position h) (roster h) stmt)) (later_looks ps) p (Ok (ended_of next look))
       (named_left shown p bytes (writing ops n) h stmt (ap looks_at_names kind) (ap (block_refusal (writing ops n)) kind) (λ i. absurd cc))
       (subst (λ (x : Next T J). ReachesTo shown bytes all look (meant_left {T = T} {J = J} p bytes (writing ops n) h (meant_by (position h) (roster h) stmt)) (later_looks ps) p (Ok (ended_of x look))) (sym e)
@@ -198,5 +210,5 @@ module _ (p : Places) (bytes : ℕ) (stmt : Stmt) (ops : List Op) (n : ℕ) (in_
       by_meant high (meant.Changes op) k = absurd k
       by_meant high (meant.Does deed) k = absurd k
 
-  pub query_told_as : {T J : Type 0} (shown : Shown T J) (all : History) (at look : ℕ) (ps : List ℕ) (next : Next T J) (o : Option (StatementOutcome T J)) → next_look all at ps ≡ Some look → next ≡ shown_as (writing ops n) (prefix all look) (meant_by (position (prefix all look)) (roster (prefix all look)) stmt) → o ≡ ended_of next look → ReachesTo shown bytes all at (named_here p bytes stmt) ps p (Ok o)
-  query_told_as {T} {J} shown all at look ps next o told e w = subst (λ (x : Option (StatementOutcome T J)). ReachesTo shown bytes all at (named_here p bytes stmt) ps p (Ok x)) (sym w) (query_told shown all at look ps next told e)
+  pub query_told_as : {T J : Type 0} (shown : Shown T J) (all : History) (at look : ℕ) (ps : List ℕ) (next : Next T J) (o : Option (StatementOutcome T J)) → next_look all at ps ≡ Some look → on_hypertables (roster (prefix all look)) ops ≡ true → next ≡ shown_as (writing ops n) (prefix all look) (meant_by (position (prefix all look)) (roster (prefix all look)) stmt) → o ≡ ended_of next look → ReachesTo shown bytes all at (named_here p bytes stmt) ps p (Ok o)
+  query_told_as {T} {J} shown all at look ps next o told there e w = subst (λ (x : Option (StatementOutcome T J)). ReachesTo shown bytes all at (named_here p bytes stmt) ps p (Ok x)) (sym w) (query_told shown all at look ps next told there e)

@@ -6,6 +6,7 @@ use Rattle.std.proofs.lemmas.Bool.Decides.{nat_tests}
 use Rattle.ts_schema.specs.declared.memory.NoMemory.{NoMemory}
 use Rattle.ts_model.specs.declared.events.Op.{Op}
 use Rattle.ts_model.specs.declared.outcomes.Refusal.{Refusal}
+use Rattle.ts_model.specs.declared.rosters.Roster.{Roster}
 use Rattle.ts_model.specs.declared.snapshots.Shown.{Ghosts as Shown}
 use Rattle.ts_model.specs.Calls.{act_of_finish}
 use Rattle.ts_model.specs.History.{History, position, prefix}
@@ -57,7 +58,7 @@ use Rattle.audit_past.proofs.TellWalks.{asks_there, end_reached, look_again, loo
 
 -- a statement, in this block
 abbrev here_in : Places → ℕ → Stmt → Block → Procedure (Turn Places)
-here_in p bytes stmt b = sees (λ h. prints b (kind_of stmt) (refusal_of (position h) (roster h) stmt)) (λ h. turn_of_names p bytes stmt (read_at b h))
+here_in p bytes stmt b = sees (λ h. prints b (kind_of stmt) (roster h) (refusal_of (position h) (roster h) stmt)) (λ h. turn_of_names p bytes stmt (read_at b h))
 
 here_is : (p : Places) (bytes : ℕ) (stmt : Stmt) (b : Block) → p.block ≡ b → named_here p bytes stmt ≡ here_in p bytes stmt b
 here_is p bytes stmt b e = ap (here_in p bytes stmt) e
@@ -159,16 +160,16 @@ module _ {T J : Type 0} (shown : Shown T J) (bytes : ℕ) (all : History) (look 
       let m = meant_by {T = T} {J = J} (position (prefix all look)) (roster (prefix all look)) stmt in
       subst (λ b. TellsBy all look (turn_of_names p bytes stmt (prefix all look)) (later_looks ps) look (meant_left p bytes b (prefix all look) m) ps) (sym outside) (read_again (upper_read (position (prefix all look)) (roster (prefix all look)) stmt))
 
-  names_printed : (k : StatementKind) → looks_at_names k ≡ true → (q : Option Refusal) → prints none k q ≡ true
-  names_printed kinds.Defines e q = refl
-  names_printed kinds.Changes e q = refl
-  names_printed kinds.Asks e q = refl
-  names_printed other e q = absurd (true≢false (sym e))
+  names_printed : (k : StatementKind) → looks_at_names k ≡ true → (r : Roster) (q : Option Refusal) → prints none k r q ≡ true
+  names_printed kinds.Defines e r q = refl
+  names_printed kinds.Changes e r q = refl
+  names_printed kinds.Asks e r q = refl
+  names_printed other e r q = absurd (true≢false (sym e))
 
   pub names_told : (next : Next T J) (result : Result (Option (StatementOutcome T J)) NoMemory) → IsLeftOf shown p bytes stmt (prefix all look) next → ((read : ℕ) → ReachesTo shown bytes all look (rest_next p read (prefix all look) next) ps p result) → ReachesTo shown bytes all at (named_here p bytes stmt) ps p result
   names_told next result l k =
       let f : History → Procedure (Turn Places) = λ h. turn_of_names p bytes stmt (read_at none h) in
-      let first = look_tells all at look (λ h. prints none (kind_of stmt) (refusal_of (position h) (roster h) stmt)) f ps told (names_printed (kind_of stmt) names (refusal_of (position (prefix all look)) (roster (prefix all look)) stmt)) in
+      let first = look_tells all at look (λ h. prints none (kind_of stmt) (roster h) (refusal_of (position h) (roster h) stmt)) f ps told (names_printed (kind_of stmt) names (roster (prefix all look)) (refusal_of (position (prefix all look)) (roster (prefix all look)) stmt)) in
       let second = tells_then all at look look (here_in p bytes stmt none) (turn_of_names p bytes stmt (prefix all look)) (left_of shown p bytes stmt (prefix all look)) ps (later_looks ps) ps first left_again in
       reaches_as shown bytes all at (named_here p bytes stmt) (here_in p bytes stmt none) ps p result (here_is p bytes stmt none outside)
       (reaches_then shown bytes all at look (here_in p bytes stmt none) (left_of shown p bytes stmt (prefix all look)) ps ps p result second (look_lies all at look ps told).low
@@ -178,13 +179,13 @@ module _ {T J : Type 0} (shown : Shown T J) (bytes : ℕ) (all : History) (look 
 pub names_nowhere : (all : History) (at : ℕ) (ps : List ℕ) (p : Places) (bytes : ℕ) (stmt : Stmt) → next_look all at ps ≡ None → p.block ≡ none → looks_at_names (kind_of stmt) ≡ true → TellsNothing all at (named_here p bytes stmt) ps
 names_nowhere all at ps p bytes stmt e outside names =
     subst (λ d. TellsNothing all at d ps) (sym (here_is p bytes stmt none outside))
-    (look_nothing all at (λ h. prints none (kind_of stmt) (refusal_of (position h) (roster h) stmt)) (λ h. turn_of_names p bytes stmt (read_at none h)) ps e (printed (kind_of stmt) names (refusal_of (position all) (roster all) stmt)))
+    (look_nothing all at (λ h. prints none (kind_of stmt) (roster h) (refusal_of (position h) (roster h) stmt)) (λ h. turn_of_names p bytes stmt (read_at none h)) ps e (printed (kind_of stmt) names (roster all) (refusal_of (position all) (roster all) stmt)))
   where
-    printed : (k : StatementKind) → looks_at_names k ≡ true → (q : Option Refusal) → prints none k q ≡ true
-    printed kinds.Defines e q = refl
-    printed kinds.Changes e q = refl
-    printed kinds.Asks e q = refl
-    printed other e q = absurd (true≢false (sym e))
+    printed : (k : StatementKind) → looks_at_names k ≡ true → (r : Roster) (q : Option Refusal) → prints none k r q ≡ true
+    printed kinds.Defines e r q = refl
+    printed kinds.Changes e r q = refl
+    printed kinds.Asks e r q = refl
+    printed other e r q = absurd (true≢false (sym e))
 
 -- the next step fits the history
 pub names_stand : {T J : Type 0} (shown : Shown T J) (bytes : ℕ) (all : History) (look : ℕ) (b : Block) (next : Next T J) → b ≡ none → LeftIn b next → NextFits shown bytes next (state_of (prefix all look)) → NextStands shown bytes all look next
@@ -235,7 +236,7 @@ given_up_stands {T} {J} shown bytes all at line next e = subst (λ (n : Next T J
 
 -- COMMIT, in this block
 abbrev close_in : Places → Block → Procedure (Turn Places)
-close_in p b = sees (λ h. prints b kinds.Commits (refusal_of (position h) (roster h) stmts.Commit)) (λ h. closes p (read_at b h) b)
+close_in p b = sees (λ h. prints b kinds.Commits (roster h) (refusal_of (position h) (roster h) stmts.Commit)) (λ h. closes p (read_at b h) b)
 
 module _ {T J : Type 0} (shown : Shown T J) (bytes : ℕ) (all : History) (at : ℕ) (ps : List ℕ) (p : Places) (stmt : Stmt) (result : Result (Option (StatementOutcome T J)) NoMemory) where
   close_as : (b : Block) → p.block ≡ b → stmt ≡ stmts.Commit → ReachesTo shown bytes all at (close_in p b) ps p result → ReachesTo shown bytes all at (named_here p bytes stmt) ps p result
@@ -254,10 +255,10 @@ module _ {T J : Type 0} (shown : Shown T J) (bytes : ℕ) (all : History) (at : 
       close_as (reading begun) e i (unprinted_reaches shown bytes all at (λ h. false) (λ h. ends (turns (enters none p) said.End)) ps p result (λ h. refl) (subst (λ (m : Next T J). ReachesTo shown bytes all at (rest_next p 0 (prefix all at) m) ps p result) is k))
 
   -- a block is given up
-  pub given_up_told : (b : Block) (next : Next T J) → p.block ≡ b → ((h : History) → prints b kinds.RollsBack (refusal_of (position h) (roster h) stmts.Rollback) ≡ false) → stmt ≡ stmts.Rollback → next ≡ said_once (given_up p.block) (changes.Enters opens.Nothing) → ReachesTo shown bytes all at (rest_next p 0 (prefix all at) next) ps p result → ReachesTo shown bytes all at (named_here p bytes stmt) ps p result
+  pub given_up_told : (b : Block) (next : Next T J) → p.block ≡ b → ((h : History) → prints b kinds.RollsBack (roster h) (refusal_of (position h) (roster h) stmts.Rollback) ≡ false) → stmt ≡ stmts.Rollback → next ≡ said_once (given_up p.block) (changes.Enters opens.Nothing) → ReachesTo shown bytes all at (rest_next p 0 (prefix all at) next) ps p result → ReachesTo shown bytes all at (named_here p bytes stmt) ps p result
   given_up_told b next e never i is k =
-      reaches_as shown bytes all at (named_here p bytes stmt) (sees (λ h. prints b kinds.RollsBack (refusal_of (position h) (roster h) stmts.Rollback)) (λ h. ends (turns (enters none p) (given_up p.block)))) ps p result (ap (named_here p bytes) i ∙ ap (λ x. sees (λ h. prints x kinds.RollsBack (refusal_of (position h) (roster h) stmts.Rollback)) (λ h. ends (turns (enters none p) (given_up p.block)))) e)
-      (unprinted_reaches shown bytes all at (λ h. prints b kinds.RollsBack (refusal_of (position h) (roster h) stmts.Rollback)) (λ h. ends (turns (enters none p) (given_up p.block))) ps p result never (subst (λ (m : Next T J). ReachesTo shown bytes all at (rest_next p 0 (prefix all at) m) ps p result) is k))
+      reaches_as shown bytes all at (named_here p bytes stmt) (sees (λ h. prints b kinds.RollsBack (roster h) (refusal_of (position h) (roster h) stmts.Rollback)) (λ h. ends (turns (enters none p) (given_up p.block)))) ps p result (ap (named_here p bytes) i ∙ ap (λ x. sees (λ h. prints x kinds.RollsBack (roster h) (refusal_of (position h) (roster h) stmts.Rollback)) (λ h. ends (turns (enters none p) (given_up p.block)))) e)
+      (unprinted_reaches shown bytes all at (λ h. prints b kinds.RollsBack (roster h) (refusal_of (position h) (roster h) stmts.Rollback)) (λ h. ends (turns (enters none p) (given_up p.block))) ps p result never (subst (λ (m : Next T J). ReachesTo shown bytes all at (rest_next p 0 (prefix all at) m) ps p result) is k))
 
   -- a query in a read block
   pub query_read : (begun : ℕ) (next : Next T J) → p.block ≡ reading begun → looks_at_names (kind_of stmt) ≡ true → block_refusal p.block (kind_of stmt) ≡ None → IsLeftOf shown p bytes stmt (prefix all begun) next → ((read : ℕ) → ReachesTo shown bytes all at (rest_next p read (prefix all at) next) ps p result) → ReachesTo shown bytes all at (named_here p bytes stmt) ps p result

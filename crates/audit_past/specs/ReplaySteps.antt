@@ -1,10 +1,10 @@
 -- The parts of the replay of a statement over a whole history.
-use Rattle.std.specs.Prelude.{◌≡◌, ℕ, suc, ◌≤◌, ◌<◌, Bool, true, false, ◌&&◌, nat_le, cond, List, [], ◌∷◌, ◌++◌, IsTrue, Option, Some, None, Result, Ok, Err, ⊤}
+use Rattle.std.specs.Prelude.{◌≡◌, ℕ, suc, ◌≤◌, ◌<◌, Bool, true, false, ◌&&◌, nat_le, cond, List, [], ◌∷◌, Option, Some, None, Result, Ok, Err, ⊤}
 use Rattle.ts_schema.specs.declared.memory.NoMemory.{NoMemory}
 use Rattle.ts_model.specs.declared.events.Event.{Event}
 use Rattle.ts_model.specs.declared.outcomes.Refusal.{Refusal}
 use Rattle.ts_model.specs.declared.snapshots.Shown.{Ghosts as Shown}
-use Rattle.ts_model.specs.History.{History, Begins, position, prefix}
+use Rattle.ts_model.specs.History.{History, position, prefix}
 use Rattle.ts_model.specs.States.{State}
 use Rattle.ts_model.specs.Calls.{Act}
 use Rattle.result_text.specs.declared.replies.Said.{Said}
@@ -27,13 +27,6 @@ use Rattle.ts_sessions.specs.Sound.{IsThere}
 use Rattle.audit_past.specs.Replay.{Told, Tells}
 use Rattle.stmt_syntax.specs.declared.statements.Stmt.{Stmt}
 use Rattle.audit_past.specs.declared.lines.ReplayedLine.{ReplayedLine}
-use Rattle.ts_model.specs.Allowed.{all_allowed}
-use Rattle.ts_model.specs.Sound.{op_fits}
-use Rattle.ts_model.specs.declared.events.Op.{Op}
-use Rattle.ts_model.specs.declared.rosters.Roster.{Roster}
-use Rattle.stmt_check.specs.Sound.{IsQueue}
-use Rattle.ts_sessions.specs.declared.blocks.Queue.{Queue}
-use Rattle.ts_sessions.specs.Held.{most_queued}
 use Rattle.ts_model.specs.Roster.{roster}
 use Rattle.stmt_check.specs.declared.actions.Action.{Action}
 use Rattle.stmt_check.specs.declared.actions.Action.TheVariants as actions
@@ -240,25 +233,6 @@ abbrev pub shown_as : {T J : Type 0} → Block → History → Resolved T J → 
 shown_as b h (meant.Refused q) = said_once (said.Fault q) changes.Nothing
 shown_as b h (meant.Shows plan) = said_once (answered_line b h plan) changes.Nothing
 shown_as b h other = said_once said.Queued changes.Nothing
-
--- an operation that fits the tables of a roster, or none
-abbrev pub if_fits : Roster → Op → List Op
-if_fits r op = cond (op_fits r op) (op ∷ []) []
-
--- the operations that fit the tables of a roster
-abbrev pub ops_that_fit : Roster → List Op → List Op
-ops_that_fit r [] = []
-ops_that_fit r (op ∷ ops) = if_fits r op ++ ops_that_fit r ops
-
--- a snapshot shows an allowed history, and a queue fits a longer one
-pub record IsSeenUnder {T : Type 0} (stands : T → History → Type 0) (shot : T) (queue : Queue) : Type 0 where
-  pub history : History
-  pub holds : stands shot history
-  pub allowed : IsTrue (all_allowed history)
-  pub later : History
-  pub begins : Begins history later
-  pub waits : IsQueue later queue.bytes queue.ops
-  pub room : queue.bytes ≤ most_queued
 
 -- a line of the session with a name has this reply, and leaves these places
 pub record IsToldLine (all : History) (at : ℕ) (procedure : Procedure (Turn Places)) (ps : List ℕ) (name : List ℕ)

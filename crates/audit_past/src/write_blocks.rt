@@ -1,21 +1,23 @@
 //! Replays statements of a write block over a history: changes that are queued, and queries that see the queue.
-ghost use Rattle.std.specs.Prelude.{◌≡◌, ◌++◌, ℕ, ◌<◌, ◌≤◌, List, IsTrue, IfOk};
+ghost use Rattle.std.specs.Prelude.{◌≡◌, ℕ, ◌<◌, ◌≤◌, List, IsTrue, IfOk};
+ghost use Rattle.std.specs.List.{list_all};
 ghost use Rattle.std.specs.Thread.{IsSync};
 ghost use Rattle.ts_model.specs.Allowed.{all_allowed};
 ghost use Rattle.ts_model.specs.Answers.{can_ask};
 ghost use Rattle.ts_model.specs.declared.events.Op.{Op as OpMade};
-ghost use Rattle.ts_model.specs.History.{Begins, History, position as position_of};
+ghost use Rattle.ts_model.specs.History.{History, position as position_of};
 ghost use Rattle.ts_model.specs.Roster.{roster as roster_of};
+ghost use Rattle.ts_model.specs.Sound.{op_fits};
 ghost use Rattle.ts_sessions.specs.declared.changes.Change.TheVariants as changes;
 ghost use Rattle.ts_sessions.specs.Deeds.{IsFormed, said_once};
 ghost use Rattle.ts_sessions.specs.ResolvedNames.{answered_line, meant_by as meant_by_names};
 ghost use Rattle.ts_sessions.specs.declared.kinds.StatementKind.TheVariants as kinds;
 ghost use Rattle.ts_sessions.specs.Places.{Places, writing};
-ghost use Rattle.ts_sessions.specs.Sound.{AsksSoundly, kind_of_action};
+ghost use Rattle.ts_sessions.specs.Sound.{AsksSoundly, StandsForAllowed, kind_of_action};
 ghost use Rattle.ts_sessions.specs.Held.{most_queued};
 ghost use Rattle.stmt_check.specs.Sound.{IsQueue};
 ghost use Rattle.ts_sessions.specs.Step.{kind_of as kind_of_stmt, named_here};
-ghost use Rattle.audit_past.specs.ReplaySteps.{IsSeenUnder, ReachesTo, if_fits, next_look as look_told, refused_at, shown_as, ops_that_fit as standing_in, queued_operation, waits_at};
+ghost use Rattle.audit_past.specs.ReplaySteps.{ReachesTo, next_look as look_told, refused_at, shown_as, queued_operation, waits_at};
 
 use crate::deed_replays::{StatementOutcome, next_look};
 use crate::history_view::Past;
@@ -27,7 +29,7 @@ use std::thread::Threads;
 use stmt_check::{Action, Checked, check};
 use stmt_syntax::Stmt;
 use ts_model::{Op, Roster, Shown};
-use ts_schema::{NoMemory, Seq, Steps};
+use ts_schema::{NoMemory, Steps};
 use ts_sessions::Queue;
 use ts_sessions::changes::Change;
 use ts_sessions::deeds::Next;
@@ -145,7 +147,8 @@ where
     }
 }
 
-/// Replays a query in a write block. `bytes` is the length of its text.
+/// Replays a query in a write block. `bytes` is the length of its text. The history doesn't explain a query at a
+/// position at which an operation of the queue doesn't fit the tables: its session hadn't queued it yet.
 pub(crate) fn replay_query<R: Threads + Sync, P: Past, L>(
     rt: &R,
     alloc: Global,
@@ -173,6 +176,9 @@ where
         None => Ok(None),
         Some(look) => {
             let shot = past.at(look)?;
+            if !all_fit(shot.roster(), queue.ops.items()) {
+                return Ok(None);
+            }
             let next = show(rt, alloc, &shot, queue, stmt, bytes, steps)?;
             Ok(end_of_statement(next, look))
         }
@@ -194,9 +200,8 @@ where
     requires sync { IsSync R.row }
     requires sound { AsksSoundly bytes stmt.now }
     requires asks { kind_of_stmt stmt.now ≡ kinds.Asks }
-    requires seen { IsSeenUnder T.stands shot.now queue.now }
-    ensures { (h later : History) → T.stands shot.now h → IsTrue (all_allowed h) → Begins h later
-        → IsQueue later queue.now.bytes queue.now.ops → IfOk result (λ n. n ≡ shown_as
+    requires stands { StandsForAllowed T.stands shot.now queue.now.ops }
+    ensures { (h : History) → T.stands shot.now h → IfOk result (λ n. n ≡ shown_as
         (writing queue.now.ops queue.now.bytes) h (meant_by_names (position_of h) (roster_of h) stmt.now)) }
 {
     let meant: Resolved<T> = resolve(alloc, stmt, shot.roster(), shot.position())?;
@@ -207,7 +212,7 @@ where
     }
 }
 
-/// Answers by a plan from a snapshot with a queue on top of it. An operation whose table is missing has no effect.
+/// Answers by a plan from a snapshot with a queue on top of it.
 fn answer_queued<R: Threads + Sync, T: Shown + Drop, L>(
     rt: &R,
     alloc: Global,
@@ -219,41 +224,24 @@ fn answer_queued<R: Threads + Sync, T: Shown + Drop, L>(
 where
     T::Job: Drop,
     requires sync { IsSync R.row }
-    requires seen { IsSeenUnder T.stands shot.now queue.now }
+    requires stands { StandsForAllowed T.stands shot.now queue.now.ops }
     requires formed { (h : History) → T.stands shot.now h → IsTrue (all_allowed h)
         → IsFormed (roster_of h) plan plan.form }
     requires asks { (h : History) → T.stands shot.now h → IsTrue (can_ask (roster_of h) plan.query) }
-    ensures { (h later : History) → T.stands shot.now h → IsTrue (all_allowed h) → Begins h later
-        → IsQueue later queue.now.bytes queue.now.ops → IfOk result (λ n. n ≡ said_once (answered_line
+    ensures { (h : History) → T.stands shot.now h → IfOk result (λ n. n ≡ said_once (answered_line
         (writing queue.now.ops queue.now.bytes) h plan) changes.Nothing) }
 {
     let roster = shot.roster();
-    let there = keep_fitting_ops(alloc, roster, &queue.ops)?;
-    let answer = shot.answer_with(rt, &there, &plan.query, steps)?;
+    let answer = shot.answer_with(rt, &queue.ops, &plan.query, steps)?;
     let shown = in_form(alloc, roster, &plan.form, answer)?;
     let count = queue.ops.len() as u64;
     let said = answer_line(&plan, shown, shot.position(), Some(count));
     say(alloc, said, Change::Nothing)
 }
 
-/// The operations that fit the tables of a roster.
-fn keep_fitting_ops(alloc: Global, roster: &Roster, ops: &Seq<Op>) -> Result<Seq<Op>, NoMemory>
-    ensures { IfOk result (λ there. there ≡ standing_in roster.now ops.now) }
+/// Whether all operations fit the tables of a roster.
+fn all_fit(roster: &Roster, ops: &[Op]) -> bool
+    ensures { result ≡ list_all (op_fits roster.now) ops.now }
 {
-    let mut there = Seq::new(alloc);
-    let all = ops.items();
-    for op in all {
-        keep(roster, op, &mut there)?;
-    }
-    Ok(there)
-}
-
-/// Appends an operation if it fits.
-fn keep(roster: &Roster, op: &Op, there: &mut Seq<Op>) -> Result<(), NoMemory>
-    ensures { IfOk result (λ _. there.new ≡ there.old ++ if_fits roster.now op.now) }
-{
-    match op_is_fit(roster, op) {
-        true => there.push(op.copy()?),
-        false => Ok(()),
-    }
+    ops.iter().all(|op| op_is_fit(roster, op))
 }

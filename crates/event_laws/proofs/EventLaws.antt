@@ -10,7 +10,7 @@ use Rattle.ts_model.specs.Limits.{most_sessions}
 use Rattle.ts_model.specs.Numbers.{line_long, no_session, not_ascii, too_many_sessions}
 use Rattle.ts_model.specs.Roster.{same_name}
 use Rattle.ts_model.specs.States.{State, stop_of}
-use Rattle.ts_model.proofs.HistoryLaws.{base_begins, base_below, begins_trans, position_begins}
+use Rattle.ts_model.proofs.HistoryLaws.{base_begins, base_below, begins_trans}
 use Rattle.stmt_syntax.specs.Limits.{longest_line}
 use Rattle.stmt_tokens.specs.Lines.{line_kind, session_name}
 use Rattle.stmt_tokens.specs.declared.lines.LineKind.{LineKind}
@@ -26,7 +26,7 @@ use Rattle.ts_sessions.specs.Procedures.{Procedure, sees, adds, ends}
 use Rattle.ts_sessions.specs.Script.{LineResult, ScriptState, Semantics, executes, executes_as, executes_kind, final_script_state, line_of_refusal, opening_script_state, places_of, refused_line, takes_turn, text_of, with_places}
 use Rattle.ts_sessions.specs.Step.{bare}
 use Rattle.ts_sessions.specs.Walks.{Walks, end_of_walk, history_after}
-use Rattle.ts_sessions.proofs.BegunLaws.{reads_later}
+use Rattle.ts_sessions.proofs.BegunLaws.{begun_later}
 use Rattle.event_laws.specs.Events.{RepliesAreWritten, ScriptsTellTheirEvents, TellsEvents, named_in, numbers_above, said_as, said_kind, said_to}
 use Rattle.policy_jobs.proofs.AloneLaws.{store_of}
 
@@ -103,7 +103,7 @@ module _ {P : Type 0} (within : P → Block) where
 
   all_later : (g h : History) (sessions : List (List ℕ × P)) → Begins g h → AllBegun g sessions → AllBegun h sessions
   all_later g h [] b a = tt
-  all_later g h (entry ∷ sessions) b a = (reads_later (within entry.1) (position g) (position h) (position_begins b) a.0, all_later g h sessions b a.1)
+  all_later g h (entry ∷ sessions) b a = (begun_later (within entry.1) g h b a.0, all_later g h sessions b a.1)
 
   found_begun : (h : History) (name : List ℕ) (sessions : List (List ℕ × P)) → AllBegun h sessions → IfSome (places_of name sessions) (λ p. HadBegun within p h)
   found_begun h name [] a = tt

@@ -14,7 +14,6 @@ use Rattle.ts_model.specs.Numbers.{bad_time, stopped, bad_policy, too_many_polic
 use Rattle.ts_model.specs.History.{History, position, prefix, Begins, base_position}
 use Rattle.ts_model.specs.Roster.{roster}
 use Rattle.ts_model.specs.States.{State, stop_of}
-use Rattle.ts_model.proofs.HistoryLaws.{position_begins}
 use Rattle.ts_catalog.specs.declared.relations.Found.{Found}
 use Rattle.ts_catalog.specs.declared.relations.Found.TheVariants as found
 use Rattle.ts_catalog.specs.Relations.{found_in}
@@ -34,7 +33,7 @@ use Rattle.ts_sessions.specs.Steady.{Steady}
 use Rattle.ts_sessions.specs.Step.{block_refusal, misread}
 use Rattle.ts_sessions.specs.Stopped.{StopsAt}
 use Rattle.ts_sessions.specs.Walks.{Walks}
-use Rattle.ts_sessions.proofs.BegunLaws.{reads_later}
+use Rattle.ts_sessions.proofs.BegunLaws.{begun_later}
 use Rattle.ts_sessions.proofs.GivenWalks.{given_over}
 use Rattle.ts_sessions.proofs.GivesLaws.{gives_on}
 use Rattle.ts_sessions.proofs.TogetherLaws.{answered_then, given_ended, given_then, gives_parted, walks_parted}
@@ -225,7 +224,7 @@ module _ {P : Type 0} (within : P → Block) (does reply : P → List ℕ → �
   inner_look i f same begun failed new y w =
       let goes = goes_walks alone failed old (looks (λ h. ends (f h))) new y w in
       let is : y.places.inner ≡ i = ap (λ z. z.places.inner) w.rest.2 ∙ same w.mid.history in
-      subst (λ x. HadBegun within x new.history) (sym is) (reads_later (within i) (position old.history) (position new.history) (position_begins goes.begins) begun)
+      subst (λ x. HadBegun within x new.history) (sym is) (begun_later (within i) old.history new.history goes.begins begun)
 
   inner_beside : (policies : List Policy) (d : Procedure (Turn P)) → Begun d → InnerBegun (ending_as (beside policies) d)
   inner_beside policies d begun failed new y w =

@@ -73,14 +73,14 @@ here_in p bytes stmt e = ap (λ t. cond t (named_first p bytes stmt) (named_here
 pub performs_looks : (alone : Bool) (s : State) (p : Places) (bytes : ℕ) (stmt : Stmt) (g : History → Procedure (Turn Places)) → makes_event (kind_of stmt) ≡ false → ((h : History) → Begins s.history h → turn_of_names p bytes stmt (read_at p.block h) ≡ g h) → Leads alone false s (performs p bytes stmt) s (looks g)
 performs_looks alone s p bytes stmt g e same =
     subst (λ d. Leads alone false s d s (looks g)) (sym (here_in p bytes stmt e))
-    (looks_leads alone s (λ h. prints p.block (kind_of stmt) (refusal_of (position h) (roster h) stmt)) (λ h. turn_of_names p bytes stmt (read_at p.block h)) g same)
+    (looks_leads alone s (λ h. prints p.block (kind_of stmt) (roster h) (refusal_of (position h) (roster h) stmt)) (λ h. turn_of_names p bytes stmt (read_at p.block h)) g same)
 
 -- a statement that only ends
 pub performs_ends : (alone : Bool) (s : State) (p : Places) (bytes : ℕ) (stmt : Stmt) (y : Turn Places) → makes_event (kind_of stmt) ≡ false → turn_of_names p bytes stmt (read_at p.block s.history) ≡ ends y → Leads alone false s (performs p bytes stmt) s (ends y)
 performs_ends alone s p bytes stmt y e i =
     subst (λ d. Leads alone false s d s (ends y)) (sym (here_in p bytes stmt e))
     (subst (λ d. Leads alone false s (named_here p bytes stmt) s d) i
-    (saw_leads alone s s (λ h. prints p.block (kind_of stmt) (refusal_of (position h) (roster h) stmt)) (λ h. turn_of_names p bytes stmt (read_at p.block h)) (inl refl)))
+    (saw_leads alone s s (λ h. prints p.block (kind_of stmt) (roster h) (refusal_of (position h) (roster h) stmt)) (λ h. turn_of_names p bytes stmt (read_at p.block h)) (inl refl)))
 
 -- ---- what comes first
 

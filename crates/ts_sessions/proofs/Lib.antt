@@ -34,6 +34,7 @@ pub mod UpperCodes
 pub mod StopLaws
 pub mod GivenNames
 pub mod TogetherLaws
+pub mod HypertableLaws
 mod TurnBlocks
 pub mod BegunLaws
 mod OutsideLaws

@@ -182,7 +182,7 @@ here_leads : {T J : Type 0} (shown : Shown T J) (alone : Bool) (old mid : State)
 here_leads {T} {J} shown alone old mid p bytes stmt look pass k s =
     let h = read_at p.block mid.history in
     subst (λ d. Leads alone false old (named_here p bytes stmt) mid d) (named_left shown p bytes p.block h stmt look pass k)
-    (saw_leads alone old mid (λ g. prints p.block (kind_of stmt) (refusal_of (position g) (roster g) stmt)) (λ g. turn_of_names p bytes stmt (read_at p.block g)) s)
+    (saw_leads alone old mid (λ g. prints p.block (kind_of stmt) (roster g) (refusal_of (position g) (roster g) stmt)) (λ g. turn_of_names p bytes stmt (read_at p.block g)) s)
 
 first_leads : {T J : Type 0} (shown : Shown T J) (alone : Bool) (old mid : State) (p : Places) (bytes : ℕ) (stmt : Stmt) → makes_event (kind_of stmt) ≡ true → AsksSoundly bytes stmt → IsTrue (all_allowed mid.history) → Sees alone old mid → Leads alone false old (named_first p bytes stmt) mid (meant_left {T = T} {J = J} p bytes none mid.history (meant_by (position mid.history) (roster mid.history) stmt))
 first_leads {T} {J} shown alone old mid p bytes stmt e sound ok s =

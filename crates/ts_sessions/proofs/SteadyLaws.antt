@@ -24,12 +24,13 @@ use Rattle.stmt_check.proofs.LaterLaws.{Stays, delete_later, drop_later, insert_
 use Rattle.result_text.specs.declared.replies.Said.TheVariants as said
 use Rattle.ts_sessions.specs.declared.kinds.StatementKind.TheVariants as kinds
 use Rattle.ts_sessions.specs.Procedures.{Procedure, sees, adds, ends, followed_by, ending_as, tries, tries_at}
-use Rattle.ts_sessions.specs.LineLaws.{ReadsWithin, RepliesAreSteady}
+use Rattle.ts_sessions.specs.LineLaws.{BegunBy, RepliesAreSteady}
 use Rattle.ts_sessions.specs.Places.{Block, none, writing, reading, Places, Turn, cuts, enters, held_for, turns}
 use Rattle.ts_sessions.specs.Replies.{replies}
 use Rattle.ts_sessions.specs.Steady.{IsEnded, SameLater, Steady}
-use Rattle.ts_sessions.specs.Step.{Taken, acts, begins, turn_of_commit, cut_turn, finish_turn, turn_of_refresh, turn_of_line, after_cut, after_line, after_snapshot, after_view, block_refusal, changes, closes, commits, finishes, finishes_held, kind_of, least_start, makes_event, turn_of_names, named_here, prints, prints_writing, read_at, refresh_meant, refreshes, snapshot_taken, view_made, unless}
+use Rattle.ts_sessions.specs.Step.{Taken, acts, begins, turn_of_commit, cut_turn, finish_turn, turn_of_refresh, turn_of_line, after_cut, after_line, after_snapshot, after_view, block_refusal, changes, closes, commits, finishes, finishes_held, kind_of, least_start, makes_event, turn_of_names, named_here, on_hypertables, prints, prints_writing, read_at, refresh_meant, refreshes, snapshot_taken, view_made, unless}
 use Rattle.ts_sessions.proofs.BlockWalks.{block_is}
+use Rattle.ts_sessions.proofs.HypertableLaws.{on_hypertables_stay}
 use Rattle.ts_sessions.proofs.NamedLaws.{event_named, named_holds, read_holds, unless_holds}
 use Rattle.ts_sessions.proofs.ReplyLaws.{stays_named}
 
@@ -131,18 +132,18 @@ steady_named h l p bytes stmt = named_holds (λ d. Steady true h d) p bytes l st
 -- ---- looks
 
 -- a statement that looks once is steady where a look that isn't printed stays and ends it
-hidden : (base : History) (p : Places) (bytes : ℕ) (stmt : Stmt) → ((h : History) → Begins base h → prints p.block (kind_of stmt) (refusal_of (position h) (roster h) stmt) ≡ false → SameLater (λ l. prints p.block (kind_of stmt) (refusal_of (position l) (roster l) stmt)) (λ l. turn_of_names p bytes stmt (read_at p.block l)) h × IsEnded (turn_of_names p bytes stmt (read_at p.block h))) → Steady false base (named_here p bytes stmt)
+hidden : (base : History) (p : Places) (bytes : ℕ) (stmt : Stmt) → ((h : History) → Begins base h → prints p.block (kind_of stmt) (roster h) (refusal_of (position h) (roster h) stmt) ≡ false → SameLater (λ l. prints p.block (kind_of stmt) (roster l) (refusal_of (position l) (roster l) stmt)) (λ l. turn_of_names p bytes stmt (read_at p.block l)) h × IsEnded (turn_of_names p bytes stmt (read_at p.block h))) → Steady false base (named_here p bytes stmt)
 hidden base p bytes stmt stays = λ h on. (λ _. steady_named h (read_at p.block h) p bytes stmt, stays h on)
 
 -- or where each look is printed
-shown : (base : History) (p : Places) (bytes : ℕ) (stmt : Stmt) → ((r : Option Refusal) → prints p.block (kind_of stmt) r ≡ true) → Steady false base (named_here p bytes stmt)
-shown base p bytes stmt all = hidden base p bytes stmt (λ h on e. absurd (true≢false (sym (all (refusal_of (position h) (roster h) stmt)) ∙ e)))
+shown : (base : History) (p : Places) (bytes : ℕ) (stmt : Stmt) → ((h : History) → Begins base h → prints p.block (kind_of stmt) (roster h) (refusal_of (position h) (roster h) stmt) ≡ true) → Steady false base (named_here p bytes stmt)
+shown base p bytes stmt all = hidden base p bytes stmt (λ h on e. absurd (true≢false (sym (all h on) ∙ e)))
 
 -- or where none is, and it says the same wherever it looks
-unshown : (base : History) (p : Places) (bytes : ℕ) (stmt : Stmt) (y : Turn Places) → ((r : Option Refusal) → prints p.block (kind_of stmt) r ≡ false) → ((h : History) → turn_of_names p bytes stmt h ≡ ends y) → Steady false base (named_here p bytes stmt)
+unshown : (base : History) (p : Places) (bytes : ℕ) (stmt : Stmt) (y : Turn Places) → ((r : Roster) (refused : Option Refusal) → prints p.block (kind_of stmt) r refused ≡ false) → ((h : History) → turn_of_names p bytes stmt h ≡ ends y) → Steady false base (named_here p bytes stmt)
 unshown base p bytes stmt y no_look is =
     hidden base p bytes stmt
-    (λ h on e. (λ l c. (no_look (refusal_of (position l) (roster l) stmt), is (read_at p.block l) ∙ sym (is (read_at p.block h))), subst IsEnded (sym (is (read_at p.block h))) tt))
+    (λ h on e. (λ l c. (no_look (roster l) (refusal_of (position l) (roster l) stmt), is (read_at p.block l) ∙ sym (is (read_at p.block h))), subst IsEnded (sym (is (read_at p.block h))) tt))
 
 -- ---- outside a block
 
@@ -170,8 +171,8 @@ steady_outside : (base : History) (p : Places) (bytes : ℕ) (stmt : Stmt) → S
 steady_outside base p bytes stmt =
     let q = enters none p in
     elim (begins (kind_of stmt)) as (λ b. begins (kind_of stmt) ≡ b → Steady false base (named_here q bytes stmt)) [
-      | true ↦ λ e. subst (λ s. Steady false base (named_here q bytes s)) (sym (only_begins stmt e)) (unshown base q bytes stmts.Begin (turns (enters (writing [] 0) q) said.Begin) (λ r. refl) (λ h. refl))
-      | false ↦ λ e. shown base q bytes stmt (λ r. ap not e)
+      | true ↦ λ e. subst (λ s. Steady false base (named_here q bytes s)) (sym (only_begins stmt e)) (unshown base q bytes stmts.Begin (turns (enters (writing [] 0) q) said.Begin) (λ r refused. refl) (λ h. refl))
+      | false ↦ λ e. shown base q bytes stmt (λ h on. ap not e)
     ] refl
 
 -- ---- in a write block
@@ -187,42 +188,42 @@ steady_queue base p bytes stmt ops n op kind is later =
     let y : Roster → Turn Places = λ r. turns (enters (writing (ops ++ op r ∷ []) (n + bytes)) q) said.Queued in
     let waits : (l : History) (r : Roster) → acts q bytes l (action_of r stmt) ≡ ends (y r) = λ l r. ap (acts q bytes l) (is r) in
     hidden base q bytes stmt (λ h on e.
-    let none_now : refusal_of (position h) (roster h) stmt ≡ None = none_there _ (ap (λ k. prints_writing ops k (refusal_of (position h) (roster h) stmt)) (sym kind) ∙ e) in
+    let none_now : refusal_of (position h) (roster h) stmt ≡ None = none_there _ (ap (λ k. prints_writing ops k (roster h) (refusal_of (position h) (roster h) stmt)) (sym kind) ∙ e) in
     let makes : makes_event (kind_of stmt) ≡ true = ap makes_event kind in
     let here : turn_of_names q bytes stmt h ≡ ends (y (roster h)) = event_named q bytes h stmt makes ∙ ap (λ o. unless q o (acts q bytes h (action_of (roster h) stmt))) none_now ∙ waits h (roster h) in (
       λ l c.
           let s = later h l c none_now in
-          (ap (λ k. prints_writing ops k (refusal_of (position l) (roster l) stmt)) kind ∙ ap is_some (s.passes (position l)), sym (stays_named q bytes stmt h l makes s) ∙ waits l (roster h) ∙ sym here),
+          (ap (λ k. prints_writing ops k (roster l) (refusal_of (position l) (roster l) stmt)) kind ∙ ap is_some (s.passes (position l)), sym (stays_named q bytes stmt h l makes s) ∙ waits l (roster h) ∙ sym here),
       subst IsEnded (sym here) tt,
     ))
 
 -- the end of the block
 steady_commit : (base : History) (p : Places) (bytes : ℕ) (ops : List Op) (n : ℕ) → Steady false base (named_here (enters (writing ops n) p) bytes stmts.Commit)
-steady_commit base p bytes [] n = let q = enters (writing [] n) p in unshown base q bytes stmts.Commit (turns (enters none q) said.CommitEmpty) (λ r. refl) (λ h. refl)
-steady_commit base p bytes (op ∷ ops) n = shown base (enters (writing (op ∷ ops) n) p) bytes stmts.Commit (λ r. refl)
+steady_commit base p bytes [] n = let q = enters (writing [] n) p in unshown base q bytes stmts.Commit (turns (enters none q) said.CommitEmpty) (λ r refused. refl) (λ h. refl)
+steady_commit base p bytes (op ∷ ops) n = shown base (enters (writing (op ∷ ops) n) p) bytes stmts.Commit (λ h on. refl)
 
 pub refused_here : {X : Type 0} (r : Refusal) → Some r ≡ None → X
 refused_here r e = absurd cc
 
-steady_writing : (base : History) (p : Places) (bytes : ℕ) (stmt : Stmt) (ops : List Op) (n : ℕ) → block_refusal (writing ops n) (kind_of stmt) ≡ None → Steady false base (named_here (enters (writing ops n) p) bytes stmt)
-steady_writing base p bytes (stmts.Table name cols) ops n e = refused_here _ e
-steady_writing base p bytes (stmts.Hyper table col interval) ops n e = refused_here _ e
-steady_writing base p bytes (stmts.View name only filled fold) ops n e = refused_here _ e
-steady_writing base p bytes (stmts.Mode view only) ops n e = refused_here _ e
-steady_writing base p bytes (stmts.Insert table cols rows) ops n e = steady_queue base p bytes (stmts.Insert table cols rows) ops n _ refl (λ r. refl) (λ h l b i. insert_later h l (position h) table cols rows b i)
-steady_writing base p bytes (stmts.Delete table tests) ops n e = steady_queue base p bytes (stmts.Delete table tests) ops n _ refl (λ r. refl) (λ h l b i. delete_later h l (position h) table tests b i)
-steady_writing base p bytes (stmts.Drop table below) ops n e = steady_queue base p bytes (stmts.Drop table below) ops n _ refl (λ r. refl) (λ h l b i. drop_later h l (position h) table below b i)
-steady_writing base p bytes (stmts.Refresh view lo hi) ops n e = refused_here _ e
-steady_writing base p bytes (stmts.Cut view lo hi) ops n e = refused_here _ e
-steady_writing base p bytes (stmts.Snap number) ops n e = refused_here _ e
-steady_writing base p bytes (stmts.Finish number) ops n e = refused_here _ e
-steady_writing base p bytes stmts.Begin ops n e = refused_here _ e
-steady_writing base p bytes stmts.BeginRead ops n e = refused_here _ e
-steady_writing base p bytes stmts.Commit ops n e = steady_commit base p bytes ops n
-steady_writing base p bytes stmts.Rollback ops n e = let q = enters (writing ops n) p in unshown base q bytes stmts.Rollback (turns (enters none q) said.Rollback) (λ r. refl) (λ h. refl)
-steady_writing base p bytes (stmts.Buckets fold) ops n e = shown base (enters (writing ops n) p) bytes (stmts.Buckets fold) (λ r. refl)
-steady_writing base p bytes (stmts.Calendar number unit fold) ops n e = shown base (enters (writing ops n) p) bytes (stmts.Calendar number unit fold) (λ r. refl)
-steady_writing base p bytes (stmts.Rows table tests) ops n e = shown base (enters (writing ops n) p) bytes (stmts.Rows table tests) (λ r. refl)
+steady_writing : (base : History) (p : Places) (bytes : ℕ) (stmt : Stmt) (ops : List Op) (n : ℕ) → on_hypertables (roster base) ops ≡ true → block_refusal (writing ops n) (kind_of stmt) ≡ None → Steady false base (named_here (enters (writing ops n) p) bytes stmt)
+steady_writing base p bytes (stmts.Table name cols) ops n begun e = refused_here _ e
+steady_writing base p bytes (stmts.Hyper table col interval) ops n begun e = refused_here _ e
+steady_writing base p bytes (stmts.View name only filled fold) ops n begun e = refused_here _ e
+steady_writing base p bytes (stmts.Mode view only) ops n begun e = refused_here _ e
+steady_writing base p bytes (stmts.Insert table cols rows) ops n begun e = steady_queue base p bytes (stmts.Insert table cols rows) ops n _ refl (λ r. refl) (λ h l b i. insert_later h l (position h) table cols rows b i)
+steady_writing base p bytes (stmts.Delete table tests) ops n begun e = steady_queue base p bytes (stmts.Delete table tests) ops n _ refl (λ r. refl) (λ h l b i. delete_later h l (position h) table tests b i)
+steady_writing base p bytes (stmts.Drop table below) ops n begun e = steady_queue base p bytes (stmts.Drop table below) ops n _ refl (λ r. refl) (λ h l b i. drop_later h l (position h) table below b i)
+steady_writing base p bytes (stmts.Refresh view lo hi) ops n begun e = refused_here _ e
+steady_writing base p bytes (stmts.Cut view lo hi) ops n begun e = refused_here _ e
+steady_writing base p bytes (stmts.Snap number) ops n begun e = refused_here _ e
+steady_writing base p bytes (stmts.Finish number) ops n begun e = refused_here _ e
+steady_writing base p bytes stmts.Begin ops n begun e = refused_here _ e
+steady_writing base p bytes stmts.BeginRead ops n begun e = refused_here _ e
+steady_writing base p bytes stmts.Commit ops n begun e = steady_commit base p bytes ops n
+steady_writing base p bytes stmts.Rollback ops n begun e = let q = enters (writing ops n) p in unshown base q bytes stmts.Rollback (turns (enters none q) said.Rollback) (λ r refused. refl) (λ h. refl)
+steady_writing base p bytes (stmts.Buckets fold) ops n begun e = shown base (enters (writing ops n) p) bytes (stmts.Buckets fold) (λ h on. on_hypertables_stay base h ops on begun)
+steady_writing base p bytes (stmts.Calendar number unit fold) ops n begun e = shown base (enters (writing ops n) p) bytes (stmts.Calendar number unit fold) (λ h on. on_hypertables_stay base h ops on begun)
+steady_writing base p bytes (stmts.Rows table tests) ops n begun e = shown base (enters (writing ops n) p) bytes (stmts.Rows table tests) (λ h on. on_hypertables_stay base h ops on begun)
 
 -- ---- in a read block
 
@@ -257,15 +258,15 @@ steady_reading base p bytes (stmts.Rows table tests) at le e = steady_read base 
 
 -- ---- lines
 
-in_block : (base : History) (p : Places) (bytes : ℕ) (stmt : Stmt) (b : Block) → ReadsWithin b (position base) → block_refusal b (kind_of stmt) ≡ None → Steady false base (named_here (enters b p) bytes stmt)
-in_block base p bytes stmt none within e = steady_outside base p bytes stmt
-in_block base p bytes stmt (writing ops n) within e = steady_writing base p bytes stmt ops n e
-in_block base p bytes stmt (reading at) within e = steady_reading base p bytes stmt at within e
+in_block : (base : History) (p : Places) (bytes : ℕ) (stmt : Stmt) (b : Block) → BegunBy b base → block_refusal b (kind_of stmt) ≡ None → Steady false base (named_here (enters b p) bytes stmt)
+in_block base p bytes stmt none begun e = steady_outside base p bytes stmt
+in_block base p bytes stmt (writing ops n) begun e = steady_writing base p bytes stmt ops n begun e
+in_block base p bytes stmt (reading at) begun e = steady_reading base p bytes stmt at begun e
 
-reply_in : (base : History) (p : Places) (bytes : ℕ) (stmt : Stmt) → ReadsWithin p.block (position base) → Steady false base (replies p bytes stmt)
-reply_in base p bytes stmt within =
+reply_in : (base : History) (p : Places) (bytes : ℕ) (stmt : Stmt) → BegunBy p.block base → Steady false base (replies p bytes stmt)
+reply_in base p bytes stmt begun =
     unless_holds (Steady false base) p (block_refusal p.block (kind_of stmt)) (named_here p bytes stmt) (λ r e. tt)
-    (λ e. subst (λ q. Steady false base (named_here q bytes stmt)) (sym (block_is p p.block refl)) (in_block base p bytes stmt p.block within e))
+    (λ e. subst (λ q. Steady false base (named_here q bytes stmt)) (sym (block_is p p.block refl)) (in_block base p bytes stmt p.block begun e))
 
 pub replies_are_steady : RepliesAreSteady
-replies_are_steady p text skip base within = read_holds (Steady false base) p (replies p (length text)) (statement (stream text skip)) (λ f. tt) (λ stmt. reply_in base p (length text) stmt within)
+replies_are_steady p text skip base begun = read_holds (Steady false base) p (replies p (length text)) (statement (stream text skip)) (λ f. tt) (λ stmt. reply_in base p (length text) stmt begun)

@@ -290,7 +290,7 @@ meets_named h p bytes stmt =
 -- ---- looks
 
 -- a statement that looks once, where a look that isn't printed ends it without E24
-meets_here : (last : Option ℕ) (p : Places) (bytes : ℕ) (stmt : Stmt) → ((h : History) → prints p.block (kind_of stmt) (refusal_of (position h) (roster h) stmt) ≡ true → read_at p.block h ≡ h) → ((h : History) → prints p.block (kind_of stmt) (refusal_of (position h) (roster h) stmt) ≡ false → EndsSo (λ y. (stop : Option ℕ) → ReplyStopsAt stop y) (turn_of_names p bytes stmt (read_at p.block h))) → Meets ReplyStopsAt last (named_here p bytes stmt)
+meets_here : (last : Option ℕ) (p : Places) (bytes : ℕ) (stmt : Stmt) → ((h : History) → prints p.block (kind_of stmt) (roster h) (refusal_of (position h) (roster h) stmt) ≡ true → read_at p.block h ≡ h) → ((h : History) → prints p.block (kind_of stmt) (roster h) (refusal_of (position h) (roster h) stmt) ≡ false → EndsSo (λ y. (stop : Option ℕ) → ReplyStopsAt stop y) (turn_of_names p bytes stmt (read_at p.block h))) → Meets ReplyStopsAt last (named_here p bytes stmt)
 meets_here last p bytes stmt same hidden = λ h. (λ look. subst (λ g. Meets ReplyStopsAt (Some (position h)) (turn_of_names p bytes stmt g)) (sym (same h look)) (meets_named h p bytes stmt), hidden h)
 
 -- a procedure that ends at once where it looked last meets this wherever it looked

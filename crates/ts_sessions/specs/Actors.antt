@@ -9,7 +9,7 @@ use Rattle.stmt_syntax.specs.declared.statements.Stmt.{Stmt}
 use Rattle.stmt_reader.specs.Reading.{statement}
 use Rattle.stmt_tokens.specs.Streams.{Stream, stream}
 use Rattle.ts_sessions.specs.Gives.{Gives, StopsLater, numbers}
-use Rattle.ts_sessions.specs.LineLaws.{ReadsWithin}
+use Rattle.ts_sessions.specs.LineLaws.{BegunBy}
 use Rattle.ts_sessions.specs.Named.{RepliesNameTheirEvents}
 use Rattle.ts_sessions.specs.Places.{Block, none, Turn}
 use Rattle.ts_sessions.specs.Procedures.{Procedure}
@@ -37,7 +37,7 @@ ReadsEvent (Err fault) = ⊥
 module _ {P : Type 0} (within : P → Block) where
   -- the block had begun by then
   abbrev pub HadBegun : P → History → Type 0
-  HadBegun p h = ReadsWithin (within p) (position h)
+  HadBegun p h = BegunBy (within p) h
 
   -- what lines do
   module _ (does : P → List ℕ → ℕ → Procedure (Turn P)) where

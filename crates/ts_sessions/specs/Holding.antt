@@ -1,15 +1,24 @@
 -- What a session holds fits the state of its store.
-use Rattle.std.proofs.Common.{◌≡◌, ℕ, ◌≤◌, ◌==◌, Bool, true, false, cond, nat_le, List, [], ◌∷◌, Option, Some, None, sym, refl, ap, ◌∙◌, subst, arith}
-use Rattle.std.specs.Prelude.{IsTrue, ◌||◌, not, suc}
-use Rattle.std.proofs.lemmas.Bool.{true≢false, leb-true, le-ltb, ltb-false, not-true}
+use Rattle.std.proofs.Common.{◌≡◌, ℕ, ◌≤◌, ◌==◌, Bool, true, false, cond, nat_le, length, List, [], ◌∷◌, Option, Some, None, sym, refl, ap, ◌∙◌, subst, arith}
+use Rattle.std.specs.Prelude.{IsTrue, ◌||◌, is_some, not, option_and_then, suc}
+use Rattle.std.specs.List.{list_all}
+use Rattle.std.proofs.lemmas.Bool.{true≢false, and_from, and_parts, leb-true, le-ltb, ltb-false, not-true}
 use Rattle.ts_model.specs.Timely.{has_room}
 use Rattle.ts_model.specs.Limits.{last_position}
 use Rattle.std.proofs.lemmas.Bool.Decides.{nat_tests}
 use Rattle.ts_model.specs.declared.events.Event.{Event}
 use Rattle.ts_model.specs.declared.events.Event.TheVariants.{Table, Hyper, View, Mode, Commit, Cut, Built}
+use Rattle.ts_model.specs.declared.events.Op.{Op}
+use Rattle.ts_model.specs.declared.events.Op.TheVariants.{Insert, Delete}
 use Rattle.ts_model.specs.declared.refreshes.Pending.{Pending}
 use Rattle.ts_model.specs.declared.refreshes.Pending.TheVariants.{Waiting, Finished, Unknown}
+use Rattle.ts_model.specs.declared.rosters.Roster.{Roster}
+use Rattle.ts_model.specs.declared.tables.Hyper.{Hyper as HyperInfo}
+use Rattle.ts_model.specs.declared.tables.TableDef.{TableDef}
+use Rattle.ts_model.specs.declared.tables.TableInfo.{TableInfo}
 use Rattle.ts_model.specs.Allowed.{all_allowed}
+use Rattle.ts_model.specs.Roster.{of_hyper, of_table, roster, table_of}
+use Rattle.ts_model.specs.Sound.{op_fits, rows_fit, test_fits}
 use Rattle.ts_model.specs.Pending.{finished_by, is_known, pending}
 use Rattle.ts_model.specs.History.{History, start, resumed, ◌▸◌, position, prefix, Begins, same, further}
 use Rattle.ts_model.specs.Saved.{pending_among}
@@ -20,8 +29,9 @@ use Rattle.ts_sessions.specs.declared.blocks.Open.TheVariants.{Nothing, Write, R
 use Rattle.ts_sessions.specs.declared.sessions.Session.{Session}
 use Rattle.ts_sessions.specs.declared.sessions.Snapshot.{Snapshot}
 use Rattle.ts_sessions.specs.Held.{GoesOn, HoldsBlock, block_of, HoldsJob, HoldsSnapshots, HoldsOf, WaitsInside, is_finished, is_lost, bytes_queued}
-use Rattle.ts_sessions.specs.LineLaws.{ReadsWithin}
+use Rattle.ts_sessions.specs.LineLaws.{BegunBy}
 use Rattle.ts_sessions.specs.Places.{Block, none, writing, reading, block_kind}
+use Rattle.ts_sessions.specs.Step.{is_on_hypertable, on_hypertables}
 use Rattle.stmt_check.proofs.QueueLaws.{queues_are_sound}
 use Rattle.ts_model.specs.declared.snapshots.Shown.{Ghosts as Shown}
 
@@ -155,10 +165,32 @@ waits_inside (reading at) = refl
 
 -- ---- when blocks began
 
+-- an operation that fits a table is on a hypertable
+fits_table :
+    (test : TableDef → HyperInfo → Bool) (o : Option TableInfo) → of_table test o ≡ true
+    → is_some (option_and_then (λ (info : TableInfo). info.hyper) o) ≡ true
+fits_table test None e = absurd (true≢false (sym e))
+fits_table test (Some info) e = fits_hyper info.hyper e
+  where
+    fits_hyper : (o : Option HyperInfo) → of_hyper test info.def o ≡ true → is_some o ≡ true
+    fits_hyper None e = absurd (true≢false (sym e))
+    fits_hyper (Some hyper) e = refl
+
+fits_on_hypertable : (r : Roster) (op : Op) → op_fits r op ≡ true → is_on_hypertable r op ≡ true
+fits_on_hypertable r (Insert t new) e = fits_table (λ def hyper. rows_fit def hyper new) (table_of r t) e
+fits_on_hypertable r (Delete t tests) e =
+    fits_table (λ def hyper. list_all (test_fits (length def.cols)) tests) (table_of r t) e
+
+pub fits_on_hypertables : (r : Roster) (ops : List Op) → list_all (op_fits r) ops ≡ true → on_hypertables r ops ≡ true
+fits_on_hypertables r [] e = refl
+fits_on_hypertables r (op ∷ ops) e =
+    let parts = and_parts (op_fits r op) (list_all (op_fits r) ops) e in
+    and_from _ _ (fits_on_hypertable r op parts.0) (fits_on_hypertables r ops parts.1)
+
 -- the block of a session that goes with what its store has seen began by then
-pub reads_within :
+pub had_begun :
     {T : Type 0} (stands : T → History → Type 0) (block : Open T) (h : History) → HoldsBlock stands block h
-    → ReadsWithin (block_of block) (position h)
-reads_within stands Nothing h holds = tt
-reads_within stands (Write queue) h holds = tt
-reads_within stands (Read at shot) h holds = holds.1
+    → BegunBy (block_of block) h
+had_begun stands Nothing h holds = tt
+had_begun stands (Write queue) h holds = fits_on_hypertables (roster h) queue.ops holds.0.fits
+had_begun stands (Read at shot) h holds = holds.1

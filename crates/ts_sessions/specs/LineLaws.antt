@@ -1,5 +1,5 @@
 -- Laws of lines, each in one sentence.
-use Rattle.std.specs.Prelude.{◌≡◌, ℕ, zero, suc, ◌≤◌, Bool, true, false, List, [], ◌∷◌, length, None}
+use Rattle.std.specs.Prelude.{◌≡◌, ℕ, zero, suc, ◌≤◌, Bool, true, false, List, [], ◌∷◌, length, None, IsTrue}
 use Rattle.ts_model.specs.declared.events.Op.{Op}
 use Rattle.ts_model.specs.declared.queries.Answer.{Answer}
 use Rattle.ts_model.specs.Allowed.{all_allowed}
@@ -19,7 +19,7 @@ use Rattle.ts_sessions.specs.Procedures.{Procedure, sees, adds, ends}
 use Rattle.ts_sessions.specs.Replies.{reply_to}
 use Rattle.ts_sessions.specs.Script.{LineResult, ScriptState, executes_as, places_of, session_semantics, with_places}
 use Rattle.ts_sessions.specs.Steady.{Steady}
-use Rattle.ts_sessions.specs.Step.{acts, answers, kind_of, makes_event, turn_of_names, passes_block, step}
+use Rattle.ts_sessions.specs.Step.{acts, answers, kind_of, makes_event, on_hypertables, turn_of_names, passes_block, step}
 use Rattle.ts_sessions.specs.Walks.{Walks, history_after, end_of_walk}
 
 -- where the names of a statement that makes an event passed, it does later what it does with its names looked at then
@@ -42,16 +42,17 @@ pub record StepsAreReplies : Type 0 where
       (p : Places) (text : List ℕ) (skip : ℕ) (h : History)
       → end_of_walk (reply_to p text skip) h ≡ end_of_walk (step p text skip) h
 
--- a read block began at or before a position
-abbrev pub ReadsWithin : Block → ℕ → Type 0
-ReadsWithin none at = Unit {0}
-ReadsWithin (writing ops bytes) at = Unit {0}
-ReadsWithin (reading began) at = began ≤ at
+-- a block of a session had begun by the end of a history: all operations of a write block are on hypertables there, and
+-- a read block began at its position or before
+abbrev pub BegunBy : Block → History → Type 0
+BegunBy none h = Unit {0}
+BegunBy (writing ops bytes) h = IsTrue (on_hypertables (roster h) ops)
+BegunBy (reading began) h = began ≤ position h
 
 -- what the reply to a line says is steady from each history on at which the block of its session had begun
 abbrev pub RepliesAreSteady : Type 0
 RepliesAreSteady =
-    (p : Places) (text : List ℕ) (skip : ℕ) (base : History) → ReadsWithin p.block (position base)
+    (p : Places) (text : List ℕ) (skip : ℕ) (base : History) → BegunBy p.block base
     → Steady false base (reply_to p text skip)
 
 -- a procedure makes so many events at most

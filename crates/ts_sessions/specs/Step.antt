@@ -1,8 +1,10 @@
 -- The step of a session: what a line does, by the session state.
 use Rattle.std.specs.Prelude.{ℕ, ◌+◌, ℤ, pos as nonneg, negsuc, codes, if◌then◌else◌, Bool, true, false, not, cond, is_some, List, [], ◌∷◌, ◌++◌, length, Option, Some, None, Result, Ok, Err}
+use Rattle.std.specs.List.{list_all}
 use Rattle.ts_bucket.specs.Bucket.{first_of}
 use Rattle.ts_bucket.specs.declared.spans.Span.{Span}
 use Rattle.ts_model.specs.declared.events.Op.{Op}
+use Rattle.ts_model.specs.declared.events.Op.TheVariants.{Insert, Delete}
 use Rattle.ts_model.specs.declared.outcomes.CutDone.{CutDone}
 use Rattle.ts_model.specs.declared.outcomes.CutDone.TheVariants.{Cut as CutMade, Nothing as NothingDone}
 use Rattle.ts_model.specs.declared.outcomes.Committed.{Committed}
@@ -15,7 +17,7 @@ use Rattle.ts_model.specs.declared.refreshes.Pending.TheVariants.{Waiting, Finis
 use Rattle.ts_model.specs.declared.rosters.Roster.{Roster}
 use Rattle.ts_model.specs.declared.views.ViewDef.{ViewDef}
 use Rattle.ts_model.specs.History.{History, position, prefix}
-use Rattle.ts_model.specs.Roster.{roster, same_name, view_of}
+use Rattle.ts_model.specs.Roster.{hyper_of, roster, same_name, view_of}
 use Rattle.ts_model.specs.Answers.{answer, with_queue}
 use Rattle.ts_model.specs.Pending.{pending}
 use Rattle.ts_model.specs.Reads.{reads as reads_of, job_reads}
@@ -401,24 +403,33 @@ abbrev pub begins : StatementKind → Bool
 begins kinds.Begins = true
 begins other = false
 
--- in a write block with these operations it prints where names are refused, or a query is answered, or the operations
--- take effect
-abbrev pub prints_writing : List Op → StatementKind → Option Refusal → Bool
-prints_writing ops kinds.Changes r = is_some r
-prints_writing ops kinds.Asks r = true
-prints_writing (op ∷ ops) kinds.Commits r = true
-prints_writing ops other r = false
+-- an operation is on a hypertable of a roster
+abbrev pub is_on_hypertable : Roster → Op → Bool
+is_on_hypertable r (Insert t new) = is_some (hyper_of r t)
+is_on_hypertable r (Delete t tests) = is_some (hyper_of r t)
+
+-- so is each of these
+abbrev pub on_hypertables : Roster → List Op → Bool
+on_hypertables r ops = list_all (is_on_hypertable r) ops
+
+-- in a write block with these operations it prints where names are refused, or the operations take effect, or a query
+-- reads. A query reads only where all operations are on hypertables
+abbrev pub prints_writing : List Op → StatementKind → Roster → Option Refusal → Bool
+prints_writing ops kinds.Changes r refused = is_some refused
+prints_writing ops kinds.Asks r refused = on_hypertables r ops
+prints_writing (op ∷ ops) kinds.Commits r refused = true
+prints_writing ops other r refused = false
 
 -- in a read block it prints the position of the block, whatever the look was
-abbrev pub prints : Block → StatementKind → Option Refusal → Bool
-prints none kind r = not (begins kind)
-prints (writing ops n) kind r = prints_writing ops kind r
-prints (reading at) kind r = false
+abbrev pub prints : Block → StatementKind → Roster → Option Refusal → Bool
+prints none kind r refused = not (begins kind)
+prints (writing ops n) kind r refused = prints_writing ops kind r refused
+prints (reading at) kind r refused = false
 
 -- any other statement: its one look, and what it does there
 abbrev pub named_here : Places → ℕ → Stmt → Procedure (Turn Places)
 named_here p bytes stmt =
-    sees (λ h. prints p.block (kind_of stmt) (refusal_of (position h) (roster h) stmt))
+    sees (λ h. prints p.block (kind_of stmt) (roster h) (refusal_of (position h) (roster h) stmt))
     (λ h. turn_of_names p bytes stmt (read_at p.block h))
 
 -- ---- lines: what is read of a line may pass its session's block or not, and then its names are looked at, and it acts

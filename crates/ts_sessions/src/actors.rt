@@ -134,7 +134,7 @@ where
     ghost use Rattle.ts_sessions.specs.Places.{Places};
     ghost use Rattle.ts_sessions.specs.Replies.{reply_to};
     ghost use Rattle.ts_sessions.specs.Script.{session_semantics};
-    ghost use Rattle.ts_sessions.specs.Holding.{holds_on as goes_on, reads_within, waits_inside};
+    ghost use Rattle.ts_sessions.specs.Holding.{had_begun, holds_on as goes_on, waits_inside};
 
     type Shot = T;
 
@@ -162,7 +162,7 @@ where
 
     ghost alike = { λ m n. refl };
 
-    ghost begun = { λ s h k. reads_within T.Shown.stands s.block h.history k.block };
+    ghost begun = { λ s h k. had_begun T.Shown.stands s.block h.history k.block };
 
     fn begin(alloc: Global, name: Name, number: u32) -> Session<T> {
         Session::new(alloc, name, number)
