@@ -17,6 +17,9 @@ ln -s "$prefix/bin/tsctl" called
 env -i ./called --in first check
 env -i PATH=/usr/bin:/bin "$prefix/bin/tsq" --in "$PWD/first" log | head -n 1
 env -i "$prefix/bin/tsctl" --in first why >/dev/null; echo "status $?"
+echo "# and where the PATH has nothing else"
+env -i PATH="$prefix/bin" tsctl --in first check
+env -i PATH="$prefix/bin" tsctl --in first why | tail -n 1
 
 echo "# its pages"
 env -i "$prefix/bin/tsctl" --help | sed -n '/^Pages/,$p' | awk 'NR > 1 { print $1 }' | while read -r page; do

@@ -101,7 +101,7 @@ printf '#!/bin/sh\nkill -ILL $$\n' >copy/crates/tsctl/out/unproved
 copy/bin/tsctl --unproved run 2>&1 || echo "status $?"
 
 echo "# another user, who may only read and run"
-shared="$(mktemp -d)"
+shared="$(TMPDIR=/tmp mktemp -d)"
 trap 'chmod -R u+w "$shared"; rm -rf "$shared"' EXIT
 cp -r copy "$shared/clone"
 chmod -R a+rX,a-w "$shared"
@@ -120,3 +120,4 @@ chmod u+w "$shared/clone/crates/low/src"
 touch "$shared/clone/crates/low/src/lib.rt"
 other --unproved demo 7
 other --proved demo 7 || true
+other --new "$shared/clone/first" run || true

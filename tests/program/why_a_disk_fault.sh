@@ -2,7 +2,7 @@
 set -uo pipefail
 # What it says, without what differs from one machine to the next.
 why() {
-  tsctl "$@" why | sed "s|$PWD|HERE|g; s|^rights: [^ ]* |rights: USER |; s|; [0-9]* KiB are free||; s| (process [0-9]*)||; s|process [0-9]* writes|process N writes|"
+  tsctl "$@" why | sed "s|$PWD|HERE|g; s|^permissions: [^ ]* |permissions: USER |; s|; [0-9]* KiB are free||; s| (process [0-9]*)||; s|process [0-9]* writes|process N writes|"
   echo "status ${PIPESTATUS[0]}"
 }
 

@@ -14,11 +14,11 @@ from typing import Iterator, NamedTuple
 
 END_BLOCK, ENTER_BLOCK, DEFINE_ABBREVIATION, PLAIN_RECORD = range(4)
 FIXED, VARIABLE, ARRAY, CHAR6, BLOB = range(1, 6)
-MODULE, FUNCTION_BODY = 8, 12
+MODULE, FUNCTION_BODY, NAMES = 8, 12, 23
 VERSION, GLOBAL_VARIABLE, FUNCTION, OFFSET_OF_NAMES = 1, 7, 8, 13
 EXTERNAL, HIDDEN = 0, 1
 # Where numbers are in the record of a function, and of a global variable.
-IS_DECLARATION, FUNCTION_LINKAGE, FUNCTION_VISIBILITY = 4, 5, 9
+NAME_BEGIN, NAME_SIZE, IS_DECLARATION, FUNCTION_LINKAGE, FUNCTION_VISIBILITY = 0, 1, 4, 5, 9
 IS_CONSTANT, INITIAL, VARIABLE_LINKAGE, VARIABLE_VISIBILITY = 3, 4, 5, 8
 
 
@@ -47,9 +47,10 @@ class Block(NamedTuple):
 
 
 class Record(NamedTuple):
-    """A record of the module itself. An abbreviated one has no operands here."""
+    """A record of the module itself. An abbreviated one has no operands here, but the bytes of its blob."""
     code: int
     operands: list[Place]
+    blob: bytes = b""
 
 
 @dataclass
@@ -145,7 +146,7 @@ class Reader:
         return operands
 
     def abbreviated(self, operands: list[Operand]) -> Record:
-        values = []
+        values, blob = [], b""
         left = iter(operands)
         for operand in left:
             if operand.encoding == ARRAY:
@@ -154,11 +155,13 @@ class Reader:
             elif operand.encoding == BLOB:
                 size = self.bits.variable(6)
                 self.bits.align()
+                begin = self.bits.at // 8
+                blob = self.bits.data[begin:begin + size]
                 self.bits.at += 8 * size
                 self.bits.align()
             else:
                 values.append(self.value(operand))
-        return Record(values[0], [])
+        return Record(values[0], [], blob)
 
     def value(self, operand: Operand) -> int:
         if operand.encoding == FIXED:
@@ -215,6 +218,24 @@ def read(data: bytes) -> Module:
     return module
 
 
+def names(data: bytes) -> bytes:
+    """The names of all that a file defines or declares, in one text."""
+    at = 32
+    while at < 8 * len(data):
+        block, width = whole_block(data, at)
+        if block.kind == NAMES:
+            items = Reader(Bits(data, block.inside), width).items()
+            return b"".join(item.blob for item in items if isinstance(item, Record))
+        at = block.end
+    raise NotAsExpected("it has no names")
+
+
+def has_name(function: Record, texts: bytes, end: bytes) -> bool:
+    """Whether the name of a function, which is in the text of all names, has this end."""
+    begin, size = function.operands[NAME_BEGIN].value, function.operands[NAME_SIZE].value
+    return texts[begin:begin + size].endswith(end)
+
+
 def is_defined(function: Record) -> bool:
     return function.operands[IS_DECLARATION].value == 0
 
@@ -256,13 +277,19 @@ def shares(sizes: list[int], parts: int, small: int) -> list[int | None]:
     return [(2 * end - size) * parts // (2 * total) if size else None for size, end in zip(large, ends)]
 
 
-def cut(module: Module, parts: int, small: int) -> Iterator[bytes]:
-    """The parts. Functions whose bodies have at most so many bytes are in each."""
+def cut(module: Module, parts: int, small: int, alone: str = "") -> Iterator[bytes]:
+    """The parts. Functions whose bodies have at most so many bytes are in each. The functions whose names end with the
+    text `alone`, if there is one, have one more part of their own, so that no other part knows what they do."""
     owners = shares([(body.end - body.begin) // 8 for body in module.bodies], parts, small)
     defined = [function for function in module.functions if is_defined(function)]
     # A small one that other files may call, such as main, is defined once, too.
     owners = [0 if owner is None and function.operands[FUNCTION_LINKAGE].value == EXTERNAL else owner
               for function, owner in zip(defined, owners)]
+    if alone:
+        texts = names(module.data)
+        owners = [parts if has_name(function, texts, alone.encode()) else owner
+                  for function, owner in zip(defined, owners)]
+        parts += 1
     for part in range(parts):
         yield one_part(module, owners, part)
 

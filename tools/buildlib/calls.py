@@ -3,10 +3,42 @@ import json
 import subprocess
 import sys
 import time
+from contextlib import contextmanager
 from pathlib import Path
-from typing import Any, Callable, Mapping, Sequence
+from types import FrameType
+from typing import Any, Callable, Iterator, Mapping, Sequence
 
 Words = Sequence[str | Path]
+
+
+class Ending:
+    """Ends the build by a signal, so that its folder is removed. One that comes while a call begins, or is ended, waits
+    until that is done, so that no call is left."""
+
+    def __init__(self) -> None:
+        self.number, self.is_held = 0, False
+
+    def handle(self, number: int, _frame: FrameType | None) -> None:
+        self.number = number
+        if not self.is_held:
+            self.exit()
+
+    def exit(self) -> None:
+        if self.number:
+            number, self.number = self.number, 0
+            sys.exit(128 + number)
+
+    @contextmanager
+    def held(self) -> Iterator[None]:
+        self.is_held = True
+        try:
+            yield
+        finally:
+            self.is_held = False
+        self.exit()
+
+
+ENDING = Ending()
 
 
 class Progress:
@@ -67,17 +99,20 @@ def never(_child: "subprocess.Popen[bytes]") -> bool:
     return False
 
 
-def begin(words: Words, how: Mapping[str, Any]) -> "subprocess.Popen[bytes]":
+def begin(running: list["subprocess.Popen[bytes]"], words: Words, how: Mapping[str, Any]) -> None:
+    """Begins a call, which is then one of those that run."""
     whole: dict[str, Any] = {"stdin": subprocess.DEVNULL, "stdout": sys.stdout, "stderr": sys.stdout, **how}
-    child: "subprocess.Popen[bytes]" = subprocess.Popen([str(word) for word in words], **whole)
-    return child
+    with ENDING.held():
+        running.append(subprocess.Popen([str(word) for word in words], **whole))
 
 
 def call(words: Words, progress: Progress, is_enough: Callable[["subprocess.Popen[bytes]"], bool] = never,
          **how: Any) -> int | None:
     """The status of a call, or None if it was ended since what it did was enough. It ends with this one."""
-    child = begin(words, how)
+    running: list["subprocess.Popen[bytes]"] = []
     try:
+        begin(running, words, how)
+        child, = running
         while child.poll() is None:
             progress.tick()
             if is_enough(child):
@@ -85,7 +120,7 @@ def call(words: Words, progress: Progress, is_enough: Callable[["subprocess.Pope
             time.sleep(0.02)
         return child.returncode
     finally:
-        end([child])
+        end(running)
 
 
 def call_all(calls: Sequence[Words], at_once: int, progress: Progress, **how: Any) -> bool:
@@ -95,7 +130,7 @@ def call_all(calls: Sequence[Words], at_once: int, progress: Progress, **how: An
     try:
         while waiting or running:
             while waiting and len(running) < at_once:
-                running.append(begin(waiting.pop(0), how))
+                begin(running, waiting.pop(0), how)
             progress.tick()
             time.sleep(0.02)
             if any(child.poll() for child in running):
@@ -107,7 +142,8 @@ def call_all(calls: Sequence[Words], at_once: int, progress: Progress, **how: An
 
 
 def end(children: Sequence["subprocess.Popen[bytes]"]) -> None:
-    for child in children:
-        child.terminate()
-    for child in children:
-        child.wait()
+    with ENDING.held():
+        for child in children:
+            child.terminate()
+        for child in children:
+            child.wait()

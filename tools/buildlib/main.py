@@ -5,10 +5,9 @@ import signal
 import sys
 import tempfile
 from pathlib import Path
-from types import FrameType
 
 from . import checked, optimized
-from .calls import Progress
+from .calls import ENDING, Progress
 from .kit import NotAsNeeded
 
 TOP = Path(__file__).resolve().parents[2]
@@ -21,11 +20,6 @@ def say(what: str, progress: Progress) -> None:
     progress.clear()
     for stream in (sys.stderr, sys.stdout):
         print(f"build: {what}", file=stream, flush=True)
-
-
-def stop(number: int, _frame: FrameType | None) -> None:
-    """Ends the build by a signal, so that its folder is removed."""
-    sys.exit(128 + number)
 
 
 def build(file: Path, is_checked: bool, folder: Path, progress: Progress) -> bool:
@@ -48,7 +42,7 @@ def main() -> int:
     if not shutil.which("rt"):
         sys.exit("build: the command rt isn't there: README.md names the toolchain")
     for number in SIGNALS:
-        signal.signal(number, stop)
+        signal.signal(number, ENDING.handle)
     file = options.file.resolve()
     progress = Progress(file.parent / "build.times")
     with tempfile.TemporaryDirectory(prefix="tsctl-build-") as named:

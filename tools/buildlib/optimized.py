@@ -16,7 +16,7 @@ SMALL = 800
 
 
 def build(file: Path, crate: Path, folder: Path, progress: Progress) -> bool:
-    """Builds the program, and says whether the sources let it. What the toolchain says of them goes to standard output."""
+    """Builds the program, and says whether the sources let it. What the toolchain says of them is printed."""
     toolchain = kit.installed()
     own = kit.make(toolchain, folder)
     progress.step("read", "1 of 3, reading the sources")
@@ -44,7 +44,12 @@ def runs(kept: Path, link: Words, progress: Progress) -> bool:
 def lower(own: kit.Kit, crate: Path, folder: Path, progress: Progress) -> bool:
     """Has `rt try` make the module, and says whether the sources let it."""
     with open(folder / "said", "w+", errors="replace") as said:
-        how: dict[str, Any] = {"cwd": crate, "env": {**os.environ, "TMPDIR": str(folder)}, "stdout": said, "stderr": said}
+        how: dict[str, Any] = {
+            "cwd": crate,
+            "env": {**os.environ, "TMPDIR": str(folder)},
+            "stdout": said,
+            "stderr": said,
+        }
         status = call([own.rt, "try", "--steps", "1", "--", "check"], progress, **how)
         if (own.kept / "module.bc").is_file():
             return True

@@ -61,6 +61,18 @@ class Cut(unittest.TestCase):
         part, = self.cut([LARGE, SMALL], 1)
         self.assertEqual([declared for declared, _, _ in functions(part)], [1, 0, 0])
 
+    def test_a_function_in_a_part_of_its_own(self) -> None:
+        module = bitcode.read(bitstreams.module([LARGE, SMALL, LARGE]))
+        first, second, last = bitcode.cut(module, 2, LIMIT, "b")
+        declared = [[declared for declared, _, _ in functions(part)] for part in (first, second, last)]
+        self.assertEqual(declared, [[1, 0, 1, 1], [1, 1, 1, 0], [1, 1, 0, 1]])
+        self.assertEqual(functions(last)[2], (0, 0, 1))
+
+    def test_names(self) -> None:
+        self.assertEqual(bitcode.names(bitstreams.module([LARGE])), b"abcdefgh")
+        with self.assertRaises(bitcode.NotAsExpected):
+            bitcode.names(bitstreams.module([LARGE])[:4])
+
     def test_shares(self) -> None:
         cases: list[tuple[list[int], int, list[int | None]]] = [
             ([], 4, []),

@@ -1,14 +1,18 @@
 """What tools/build takes from the toolchain, what it keeps for the next build, and what a terminal shows."""
 import os
 import pty
-import sys
+import signal
+import subprocess
 import tempfile
 import unittest
+from collections.abc import Callable
+from contextlib import suppress
 from pathlib import Path
 from typing import Any
+from unittest import mock
 
 from buildlib import kit, optimized
-from buildlib.calls import Progress, call, call_all, read_times
+from buildlib.calls import ENDING, Progress, call, call_all, read_times
 
 WORDS = ["--target=here", "-c", "module.bc", "-o", "module.o", "-O0", "-fsanitize=address"]
 
@@ -50,11 +54,12 @@ class Times(Folder):
         self.assertEqual(read_times(self.folder / "none"), {})
 
     def test_are_kept_by_step(self) -> None:
-        progress = Progress(self.folder / "times")
-        progress.step("read", "1 of 2, reading")
-        progress.step("link", "2 of 2, linking")
-        progress.keep()
-        self.assertEqual(read_times(self.folder / "times"), {"read": 0, "link": 0, "all": 0})
+        with mock.patch("time.monotonic", side_effect=range(10, 100, 10)):
+            progress = Progress(self.folder / "times")
+            progress.step("read", "1 of 2, reading")
+            progress.step("link", "2 of 2, linking")
+            progress.keep()
+        self.assertEqual(read_times(self.folder / "times"), {"read": 10, "link": 10, "all": 50})
         Progress(self.folder / "none" / "times").keep()
 
 
@@ -71,13 +76,41 @@ class Calls(Folder):
             with self.subTest(calls):
                 self.assertEqual(call_all(calls, 2, progress, **how), wanted)
 
+    def test_a_signal_while_a_call_begins_ends_it_too(self) -> None:
+        begun: list["subprocess.Popen[bytes]"] = []
+        begin = subprocess.Popen
+
+        def interrupted(*words: Any, **how: Any) -> "subprocess.Popen[bytes]":
+            begun.append(begin(*words, **how))
+            ENDING.handle(signal.SIGTERM, None)
+            return begun[-1]
+
+        progress = Progress(self.folder / "times")
+        sleeps = ["sleep", "60"]
+        tried: list[Callable[[], object]] = [
+            lambda: call(sleeps, progress), lambda: call_all([sleeps, sleeps], 2, progress)]
+        for do in tried:
+            with mock.patch("subprocess.Popen", interrupted), self.assertRaises(SystemExit) as raised:
+                do()
+            self.assertEqual((raised.exception.code, begun.pop().returncode, begun), (143, -signal.SIGTERM, []))
+
+
+def all_shown(terminal: int) -> str:
+    """All that a terminal shows, once nothing writes there any longer; it may come in pieces."""
+    shown = b""
+    with suppress(OSError):
+        while part := os.read(terminal, 4096):
+            shown += part
+    os.close(terminal)
+    return shown.decode()
+
 
 class Terminal(Folder):
     def test_one_line_with_the_last_time(self) -> None:
         (self.folder / "times").write_text('{"read": 62}')
         other, own = pty.openpty()
-        before, sys.stderr = sys.stderr, os.fdopen(own, "w")
-        try:
+        still = mock.patch("time.monotonic", return_value=7)
+        with os.fdopen(own, "w") as terminal, mock.patch("sys.stderr", terminal), still:
             progress = Progress(self.folder / "times")
             progress.step("read", "1 of 3, reading the sources")
             progress.tick()
@@ -85,10 +118,5 @@ class Terminal(Folder):
             progress.step("compile", "2 of 3, compiling")
             progress.tick()
             progress.clear()
-        finally:
-            sys.stderr.close()
-            sys.stderr = before
-        shown = os.read(other, 4096).decode()
-        os.close(other)
-        self.assertEqual(shown.replace("\x1b[K", "|"), "\r  1 of 3, reading the sources (last time 62 s): 0 s|"
-                                                      "\r  2 of 3, compiling: 0 s|\r|")
+        shown = "\r  1 of 3, reading the sources (last time 62 s): 0 s|\r  2 of 3, compiling: 0 s|\r|"
+        self.assertEqual(all_shown(other).replace("\x1b[K", "|"), shown)
