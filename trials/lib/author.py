@@ -24,8 +24,8 @@ FAULTS: list[tuple[str, list[tuple[str, int]], float]] = [
     ("read", [("error", IO_ERROR), ("error", INTERRUPTED), ("short", 0), ("torn", IO_ERROR), ("kill", 0)], 0.05),
     (
         "write",
-        [("error", CLOSED_PIPE), ("error", NO_ROOM), ("error", INTERRUPTED), ("short", 0), ("torn", IO_ERROR), ("kill", 0),
-         ("half", 0), ("done", 0)],
+        [("error", CLOSED_PIPE), ("error", NO_ROOM), ("error", INTERRUPTED), ("short", 0), ("torn", IO_ERROR),
+         ("kill", 0), ("half", 0), ("done", 0)],
         1,
     ),
     ("memory", [("error", NO_MEMORY)], 15),
@@ -38,7 +38,7 @@ WEIGHTS = {
     "run": [1, 1, 1, 2, 6, 5, 2, 4, 6, 1, 2, 2], "par": [1, 1, 1, 1, 4, 4, 3, 4, 5, 2, 1, 2],
     "json": [1, 1, 1, 1, 4, 4, 3, 4, 5, 2, 1, 2],
     "checkpoint": [1, 1, 1, 2, 4, 4, 0, 2, 3, 0, 1, 1], "log": [2, 0, 2, 4, 0, 0, 0, 4, 4, 0, 0, 1],
-    "check": [2, 0, 2, 4, 0, 0, 0, 4, 4, 0, 0, 1],
+    "check": [2, 0, 2, 4, 0, 0, 0, 4, 4, 0, 0, 1], "audit": [1, 0, 1, 3, 0, 0, 3, 3, 5, 0, 0, 2],
 }
 # From which KiB of memory to which: a little more than the program and the C library take.
 LIMITS = (4_600, 5_300)
@@ -57,8 +57,18 @@ def fault(rng: random.Random, word: str, lines: int) -> str:
         # There all is written at the end.
         most = 1
     first = int(math.exp(rng.random() * math.log(most + 1))) if rng.random() < 0.5 else rng.randrange(1, int(most) + 2)
+    if call == "read" and word == "audit":
+        # Its first read only waits for a transcript, and passes over an error.
+        first = max(first, 2)
     last = rng.choice([first, 10**9]) if action == "error" and number != INTERRUPTED else first
     return f"fault {call} {first} {last} {action} {number}"
+
+
+def header_fault(rng: random.Random) -> str:
+    """A plan of a fault at the write of a new journal's header, or at its sync."""
+    call, actions, _ = rng.choice([it for it in FAULTS if it[0] in ("pwrite", "sync")])
+    action, number = rng.choice(actions)
+    return f"fault {call} 1 1 {action} {number}"
 
 
 class Author:
@@ -77,6 +87,13 @@ class Author:
         if kind < 4:
             return fault(self.rng, "run", lines)
         return f"crash {self.rng.randrange(10**6)}" if kind < 7 else ""
+
+    def first_how(self, lines: int) -> str:
+        """What happens to the first run: a power cut or a fault, often one at the header. It is made up for later."""
+        kind = self.rng.randrange(10)
+        if kind < 5:
+            return f"crash {self.rng.randrange(10**6)}"
+        return fault(self.rng, "run", lines) if kind < 7 else header_fault(self.rng)
 
     def run(self) -> Step:
         sessions = self.rng.sample(SESSIONS, self.rng.randrange(1, 4))
@@ -144,21 +161,44 @@ class Author:
         }
         return Step("run", "", tuple(text.encode() for text in texts[kind]))
 
+    def taken_over(self) -> list[Step]:
+        """A refresh that is cut in one call, and finished by its number in another, which may have one of its own. How
+        many events there are isn't known for sure, so some numbers are tried."""
+        numbers = [self.writer.events + more for more in range(4)]
+        self.writer.events += 4
+        cut = Step("run", "", (f"a: REFRESH CUT 'c', {self.writer.window()}".encode(),))
+        changes = [self.rng.choice([self.writer.insert, self.writer.delete])() for _ in range(self.rng.randrange(4))]
+        statements = [f"REFRESH SNAP {number}" for number in numbers]
+        if self.rng.random() < 0.5:
+            statements += [f"REFRESH CUT 'c', {self.writer.window()}", "REFRESH SNAP"]
+        statements += [*changes, *(f"REFRESH FINISH {number}" for number in numbers), "SELECT * FROM c"]
+        finish = Step("run", "", tuple(f"b: {statement}".encode("latin-1") for statement in statements))
+        return [cut, *[Step("checkpoint")] * (self.rng.random() < 0.6), finish]
+
     def near_the_end(self) -> list[Step]:
         """The last events of a history. A refresh in one statement may find room for its cut only."""
         position = 2**62 - self.rng.choice([0, 1, 1, 1, 2, 3])
-        statements = ["CALL refresh_continuous_aggregate('c', NULL, NULL)", "REFRESH FINISH", "REFRESH SNAP", "REFRESH FINISH"]
+        phases = ["REFRESH FINISH", "REFRESH SNAP", "REFRESH FINISH"]
+        statements = ["CALL refresh_continuous_aggregate('c', NULL, NULL)", *phases]
         call = Step("run", "", tuple(f"a: {statement}".encode() for statement in statements))
         others = [self.rng.choice([self.run, self.par, self.short])() for _ in range(2)]
         return [Step("jump", str(position)), *([call] if self.rng.random() < 0.7 else []), *others]
 
     def life(self) -> Life:
-        steps = [Step("run", "", tuple(self.writer.setup("a")))]
+        setup = tuple(self.writer.setup("a"))
+        steps = [Step("run", "", setup)]
+        if self.rng.random() < 0.25:
+            steps.insert(0, Step("run", self.first_how(len(setup)), setup))
         kinds = [
-            (self.run, 8), (self.par, 5), (self.short, 5), (self.beside, 1), (self.damage, 1), (self.look, 1), (self.follow, 2),
+            (self.run, 8), (self.par, 5), (self.short, 5), (self.beside, 1), (self.damage, 1), (self.look, 1),
+            (self.follow, 2),
         ]
+        if self.rng.random() < 0.15:
+            steps += self.taken_over()
         for _ in range(self.rng.randrange(2, 9)):
             steps.append(self.rng.choices([kind for kind, _ in kinds], [weight for _, weight in kinds])[0]())
+            if steps[-1].word == "json" and self.rng.random() < 0.5:
+                steps.append(Step("audit", fault(self.rng, "audit", len(steps[-1].lines))))
         if self.rng.random() < 0.05:
             steps.append(self.limits())
         if self.rng.random() < 0.06:

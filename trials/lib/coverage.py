@@ -3,7 +3,8 @@ from collections import Counter
 from collections.abc import Iterator
 from errno import errorcode
 
-from author import FAULTS
+from author import FAULTS, WEIGHTS
+from runner import CALLS_OF_STATEMENTS
 
 REPLIES = (
     "TABLE", "HYPERTABLE", "VIEW", "MODE", "COMMIT", "COMMIT EMPTY", "QUEUED", "ANSWER", "ANSWER queue", "REFRESH",
@@ -15,11 +16,15 @@ TOO_LONG_FOR_A_LIFE = 25
 ENDINGS = {
     "run": (0, 1, 3, 4, 5, 7, -9), "par": (0, 1, 3, 4, 5, 7, -9), "par json": (0, 1, 3, 4, 5, 7, -9),
     "checkpoint": (0, 4, 5, 7, -9), "log": (0, 4, 5, 7, -9), "check": (0, 4, 5, 7, -9),
+    "audit": (0, 1, 3, 4, 5, 7, -9),
 }
+# Where a call of the disk stops a run: at the header of the journal, or at the statement with such a reply.
+MOMENTS = ("the header", "TABLE", "HYPERTABLE", "VIEW", "MODE", "COMMIT", "REFRESH", "CUT", "FINISH", "TICK")
 AUDITS = (
     "as it was: AUDIT YES", "as it was: AUDIT POLICY", "in another order: AUDIT YES", "with a digit changed: AUDIT NO",
-    "without an event: AUDIT LOST", "without an event: AUDIT NO", "with a session twice: AUDIT LOST",
-    "that begins later: AUDIT EARLY", "cut off: AUDIT BAD", "with a name twice: AUDIT BAD",
+    "with another row: AUDIT NO", "with two answers turned around: AUDIT NO", "without an event: AUDIT LOST",
+    "without an event: AUDIT NO", "with a session twice: AUDIT LOST", "that begins later: AUDIT EARLY",
+    "cut off: AUDIT BAD", "with a name twice: AUDIT BAD",
 )
 # How each is shown, and how it is counted.
 OTHERS = {
@@ -41,11 +46,18 @@ def wanted() -> Iterator[tuple[str, str, str]]:
     codes = [code for code in range(1, 31) if code != TOO_LONG_FOR_A_LIFE]
     yield from (("Refusals", f"E{code:02}", f"refusal E{code:02}") for code in codes)
     for word, statuses in ENDINGS.items():
-        yield from ((f"Statuses of `{word}`", shown_status(status), f"status {status} of {word}") for status in statuses)
+        for status in statuses:
+            yield f"Statuses of `{word}`", shown_status(status), f"status {status} of {word}"
     for call, actions, _ in FAULTS:
         for action, number in actions:
             tail = f" {number}" if action == "error" else ""
             yield f"Faults: {call}", errorcode[number] if tail else action, f"fault {call} {action}{tail}"
+    for word, weights in WEIGHTS.items():
+        shown = "par json" if word == "json" else word
+        calls = (call for (call, _, _), weight in zip(FAULTS, weights) if weight)
+        yield from ((f"Faults of `{shown}`", call, f"fault {call} of {shown}") for call in calls)
+    for call in CALLS_OF_STATEMENTS:
+        yield from ((f"Where {call} stops a run", moment, f"fault {call} at {moment}") for moment in MOMENTS)
     yield from (("Audits of transcripts", audit, f"audit {audit}") for audit in AUDITS)
     yield from (("Others", shown, name) for shown, name in OTHERS.items())
 

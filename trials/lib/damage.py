@@ -15,20 +15,23 @@ from tsqlib.journal import Damaged  # noqa: E402
 CHANGES = 4
 
 
-def to_its_end(file: bytes) -> bytes:
-    """A journal up to the closed gate that ends it."""
-    gate = 8
-    while len(file) > gate and file[gate] == 1:
-        gate += 5 + int.from_bytes(file[gate + 1 : gate + 5], "little")
-    return file[: gate + 1]
+def commit_bytes(file: bytes) -> list[int]:
+    """Where the commit bytes of a journal are, up to the closed one that ends it."""
+    places = [8]
+    while len(file) > places[-1] and file[places[-1]] == 1:
+        places.append(places[-1] + 5 + int.from_bytes(file[places[-1] + 1 : places[-1] + 5], "little"))
+    return places
 
 
-def changed(rng: random.Random, file: bytes) -> bytes:
-    """A file with some bytes changed, or cut off."""
+def changed(rng: random.Random, file: bytes, places: list[int]) -> bytes:
+    """A file with some bytes changed, or cut off: anywhere, or near the end of a frame."""
     new = bytearray(file)
     for _ in range(rng.choice([0, 1, 1, 2, 3])):
         new[rng.randrange(len(new))] = rng.choice([0, 1, 2, 8, 0x32, 255, rng.randrange(256)])
-    return bytes(new[: rng.randrange(len(new) + 1)] if rng.random() < 0.3 else new)
+    if rng.random() < 0.3:
+        end = rng.choice([rng.randrange(len(new) + 1), rng.choice(places) + rng.choice([0, 0, 1, 5, 6])])
+        del new[end:]
+    return bytes(new)
 
 
 def read(file: bytes) -> tuple[int, str, str]:
@@ -43,9 +46,10 @@ def check_damage(
     command: Path, seed: int, journal: bytes, same: Callable[[str, object, object], None], seen: Counter[str]
 ) -> None:
     """Some changes of a journal. Damage is named by its place and stays as it is; what isn't damaged has its log."""
-    rng, whole = random.Random(seed), to_its_end(journal)
+    rng, places = random.Random(seed), commit_bytes(journal)
+    whole = journal[: places[-1] + 1]
     for _ in range(CHANGES if whole else 0):
-        file = changed(rng, whole)
+        file = changed(rng, whole, places)
         status, log, said = read(file)
         with folder() as path:
             (Path(path) / "tsctl.journal").write_bytes(file)

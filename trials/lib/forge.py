@@ -8,6 +8,8 @@ from typing import Any, NamedTuple
 
 ROW = re.compile(r"(?:-?[0-9]+|null)(?:\|(?:-?[0-9]+(?:/[0-9]+)?|null))*")
 EVENT = re.compile(r"(?:TABLE|HYPERTABLE|VIEW|MODE|COMMIT|FINISH [0-9]+|REFRESH [0-9]+) @[0-9]+|CUT [0-9]+ ")
+ANSWERED = re.compile(r"[a-z][a-z0-9_]*: (?:ANSWER|FAULT E[0-9]+ [a-z_]+) @([0-9]+)(?: rows|\n)")
+TAGGED_ROW = re.compile(r"(?<=, 1, )[0-9]{7}\)$")
 POLICY = re.compile(r"[^:]*:[ \t]*(?:tick\b|select[ \t]+add_(?:continuous_aggregate|retention)_policy\b)", re.I | re.A)
 Transcript = dict[str, Any]
 
@@ -70,6 +72,8 @@ def forgeries(rng: random.Random, transcript: Any, end: int) -> Iterator[Forged]
     found = digits(transcript)
     for i, j, at in rng.sample(found, min(2, len(found))):
         yield with_digit(rng, transcript, i, j, at)
+    yield from with_another_row(rng, transcript)
+    yield from turned_around(rng, transcript)
     yield from without_events(rng, transcript)
     yield from misshapen(rng, transcript, end)
 
@@ -80,6 +84,35 @@ def with_digit(rng: random.Random, transcript: Transcript, i: int, j: int, at: i
     digit = rng.choice([it for it in "0123456789" if it != text[at]])
     other["sessions"][i]["replies"][j]["reply"] = text[:at] + digit + text[at + 1 :]
     return Forged("with a digit changed", text_of(other), f"AUDIT NO session {i} reply {j}\n")
+
+
+def with_another_row(rng: random.Random, transcript: Transcript) -> Iterator[Forged]:
+    """With another number in a row whose statement has the same reply."""
+    found = [(i, j, number) for i, j, it in exchanges(transcript) if (number := TAGGED_ROW.search(it["line"]))
+             and "COMMIT @" in it["reply"]]
+    if not found:
+        return
+    i, j, number = rng.choice(found)
+    other = copy.deepcopy(transcript)
+    line = other["sessions"][i]["replies"][j]["line"]
+    other["sessions"][i]["replies"][j]["line"] = line[: number.start()] + "7" + line[number.start() :]
+    yield Forged("with another row", text_of(other), f"AUDIT NO session {i} reply {j}\n")
+
+
+def turned_around(rng: random.Random, transcript: Transcript) -> Iterator[Forged]:
+    """With two answers, one behind the other, of which the second one has a later position, turned around."""
+    found: list[tuple[int, int]] = []
+    for i, talk in enumerate(transcript["sessions"]):
+        places = [ANSWERED.match(it["reply"]) for it in talk["replies"]]
+        pairs = enumerate(zip(places, places[1:]))
+        found += [(i, j) for j, (one, next_one) in pairs if one and next_one and int(one[1]) < int(next_one[1])]
+    if not found:
+        return
+    i, j = rng.choice(found)
+    other = copy.deepcopy(transcript)
+    replies = other["sessions"][i]["replies"]
+    replies[j], replies[j + 1] = replies[j + 1], replies[j]
+    yield Forged("with two answers turned around", text_of(other), f"AUDIT NO session {i} reply {j + 1}\n")
 
 
 def without_events(rng: random.Random, transcript: Transcript) -> Iterator[Forged]:

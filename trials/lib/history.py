@@ -446,7 +446,8 @@ class Moment:
 
     def effect(self, table: Table) -> Effect:
         """What the queue does to a table."""
-        return effect(rows_at(table, self.position), [it for it in self.queue if self.history.tables[it.table] is table])
+        waiting = [it for it in self.queue if self.history.tables[it.table] is table]
+        return effect(rows_at(table, self.position), waiting)
 
     def rows(self, table: Table) -> tuple[Row, ...]:
         return self.effect(table).rows

@@ -5,6 +5,7 @@
     $ run crash 17                      power cuts, at moments and with images of the journal that 17 chooses
     $ beside                            a run, in the middle of which `log`, `check` and another run are tried
     $ par, $ json                       `par` and `par json`, with the audit of the transcript
+    $ audit fault read 2 2 error 5      the last transcript is audited again
     $ checkpoint, $ log, $ check        calls without input, which may have faults, and a checkpoint power cuts
     $ follow                            a copy that follows the journal answers the lines
     $ damage 5                          changed journals, chosen by 5, are read by log, check and run

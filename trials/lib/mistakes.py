@@ -2,6 +2,7 @@
 
 The program and the second implementation are only compared, so a mistake in the one is found as one in the other is.
 """
+from pathlib import Path
 from typing import NamedTuple
 
 
@@ -12,6 +13,13 @@ class Mistake(NamedTuple):
     file: str
     old: str
     new: str
+
+    def plant(self, folder: Path) -> None:
+        """Writes it into a copy of trials/lib."""
+        text = (folder / self.file).read_text()
+        if text.count(self.old) != 1:
+            raise ValueError(f"{self.name}: its old text stands {text.count(self.old)} times in {self.file}")
+        (folder / self.file).write_text(text.replace(self.old, self.new))
 
 
 def mistakes(file: str, *changes: tuple[str, str, str]) -> list[Mistake]:
@@ -73,7 +81,11 @@ MISTAKES = [
     ),
     *mistakes(
         "faults.c",
-        ("sync_is_forgotten", "    note('s', 0, NULL, 0);", "    if (counts[SYNC] % 5)\n        note('s', 0, NULL, 0);"),
+        (
+            "sync_is_forgotten",
+            "    note('s', 0, NULL, 0);",
+            "    if (counts[SYNC] % 5)\n        note('s', 0, NULL, 0);",
+        ),
         (
             "kill_takes_the_journal_along",
             "if (what == HALF || what == DONE)\n        die();",
@@ -84,8 +96,8 @@ MISTAKES = [
         "forge.py",
         (
             "forged_digit_is_explained",
-            'f"AUDIT NO session {i} reply {j}\\n")\n\n\ndef without',
-            'f"AUDIT YES replies {i} @{j}\\n")\n\n\ndef without',
+            'text_of(other), f"AUDIT NO session {i} reply {j}\\n")\n\n\ndef with_another_row',
+            'text_of(other), f"AUDIT YES replies {i} @{j}\\n")\n\n\ndef with_another_row',
         ),
     ),
 ]

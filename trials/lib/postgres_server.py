@@ -9,6 +9,12 @@ import glob
 import os
 import shutil
 import subprocess
+from typing import IO
+
+
+def program_of(name: str) -> str | None:
+    """A program of PostgreSQL, which needn't be on the PATH; nothing if it isn't here."""
+    return shutil.which(name) or next(iter(sorted(glob.glob(f"/usr/lib/postgresql/*/bin/{name}"), reverse=True)), None)
 
 
 class Server:
@@ -29,9 +35,22 @@ class Server:
         return subprocess.run(front, stdout=subprocess.PIPE, check=True, cwd=self.folder).stdout
 
     def call(self, program: str, *words: str) -> None:
-        """Calls a program of PostgreSQL, which needn't be on the PATH."""
-        found = shutil.which(program) or sorted(glob.glob(f"/usr/lib/postgresql/*/bin/{program}"))[-1]
+        """Calls a program of PostgreSQL."""
+        found = program_of(program) or program
         subprocess.run([*self.user, found, *words], check=True, stdout=subprocess.DEVNULL, cwd=self.folder)
+
+    def words_of(self, program: str, *words: str) -> list[str]:
+        """How a client of the server is called."""
+        return [*self.user, program, "-h", self.folder, *words]
+
+    def load(self, database: str, script: IO[bytes] | None) -> None:
+        """Runs a script that comes bit by bit."""
+        words = self.words_of("psql", "-d", database, "-qX", "-v", "ON_ERROR_STOP=1")
+        subprocess.run(words, stdin=script, stdout=subprocess.DEVNULL, check=True, cwd=self.folder)
+
+    def write_dump(self, database: str, file: IO[bytes]) -> None:
+        """Writes what pg_dump prints of a database into a file."""
+        subprocess.run(self.words_of("pg_dump", database), stdout=file, check=True, cwd=self.folder)
 
     def psql(self, database: str, *words: str, script: bytes = b"") -> list[str]:
         """What psql prints, without names and with `null` for NULL."""

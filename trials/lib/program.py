@@ -54,6 +54,11 @@ def folder() -> tempfile.TemporaryDirectory[str]:
     return tempfile.TemporaryDirectory(dir=MEMORY if os.access(MEMORY, os.W_OK) else None, prefix="tsctl-")
 
 
+def cpu_time() -> float:
+    """The seconds of CPU time that this process has taken, and the ended ones that it has called."""
+    return sum(os.times()[:4])
+
+
 def call(
     command: Path, words: Sequence[str], where: Path | str, given: bytes = b"", seconds: float = 120,
     more: dict[str, str] | None = None,

@@ -6,15 +6,17 @@ import subprocess
 import sys
 from collections import Counter
 from collections.abc import Callable, Iterable, Iterator, Sequence
+from contextlib import contextmanager
 from dataclasses import dataclass, field
 from itertools import accumulate
 from pathlib import Path
+from threading import Timer
 
 from crash import Image, crash, read_trace
 from damage import check_damage, read
 from follow import Following
 from forge import forgeries
-from history import Event, History
+from history import LAST_POSITION, Event, History
 from journal_bytes import (
     MAGIC, VERSION_WITH_BASE, Contents, Damaged, event_bytes, image_bytes, read_event, read_file, u32,
 )
@@ -31,7 +33,9 @@ from model import Run  # noqa: E402
 SAID = {
     3: b"tsctl: read fault\n", 4: b"tsctl: write fault\n", 5: b"tsctl: disk fault\n", 7: b"tsctl: no memory\n",
 }
-KILLED = -9
+# A kill, and a stack that can't grow below a limit for the whole process, which no program can answer.
+KILLED, STACK_REFUSED = -9, -11
+ENDED = (KILLED, STACK_REFUSED)
 # The statuses that a fault may lead to. An interrupted call, and one that did a part, is made again.
 STATUSES = {
     "open": 5, "lock": 5, "length": 5, "pread": 5, "pwrite": 5, "sync": 5, "room": 5, "read": 3, "write": 4,
@@ -42,6 +46,10 @@ LEAST_JOURNAL = 10
 # How many power cuts are tried of one run.
 CRASHES = 20
 HAPPENED_AT = 12
+# For how many seconds a call may go on.
+LONGEST = 120
+# The calls of a disk that statements make.
+CALLS_OF_STATEMENTS = ("pwrite", "sync", "room")
 
 
 @dataclass
@@ -68,11 +76,29 @@ def statuses_of(fault: str) -> set[int]:
         return {KILLED}
     if action == "short" or name == "thread" or (action == "error" and number == INTERRUPTED):
         return {0}
-    return {STATUSES[name], 0} if name in ("memory", "limit") else {STATUSES[name]}
+    if name == "limit":
+        return {STATUSES[name], 0, STACK_REFUSED}
+    return {STATUSES[name], 0} if name == "memory" else {STATUSES[name]}
 
 
 def text_of(reply: Sequence[str]) -> bytes:
     return "".join(line + "\n" for line in reply).encode()
+
+
+def words_of(text: str) -> list[str]:
+    """The words of a line of a reply, without the name of the session in front."""
+    return re.sub(r"^[a-z0-9_ ]*: ", "", text).split()
+
+
+@contextmanager
+def killed_later(run: subprocess.Popen[bytes]) -> Iterator[None]:
+    """Kills a run that doesn't come to an end, so that nobody waits for its replies."""
+    timer = Timer(LONGEST, run.kill)
+    timer.start()
+    try:
+        yield
+    finally:
+        timer.cancel()
 
 
 @dataclass
@@ -148,7 +174,7 @@ class Trial:
         if step.how.startswith("crash"):
             more["TRIAL_TRACE"] = str(self.folder / "trace")
         try:
-            ran = call(self.command, words, self.folder, given, more=more)
+            ran = call(self.command, words, self.folder, given, LONGEST, more)
         except subprocess.TimeoutExpired:
             raise Failure(" ".join(words), "an end within two minutes", "none") from None
         noted = counts.read_bytes()[8 * HAPPENED_AT :][:8]
@@ -166,6 +192,7 @@ class Trial:
             name, _, _, action, number = step.fault.split()
             shown = f"fault {name} {action} {number if action == 'error' else ''}".rstrip()
             self.seen[shown + ("" if happened else " not met")] += 1
+            self.seen[f"fault {name} of {what}"] += happened
 
     # ---- run
 
@@ -203,36 +230,49 @@ class Trial:
         self.check_status("run", step, ran, happened, int(has_fault))
         if ran.status in (0, 1):
             same("the number of replies", len(replies), whole)
-        if rest and ran.status not in (4, KILLED):
+        if rest and ran.status not in (4, *ENDED):
             raise Failure("a reply that is cut short", b"", rest)
+        if happened and ran.status not in (0, 1):
+            self.note_moment(step, not before, [reply for _, reply in replies[whole:]])
         if step.how.startswith("crash"):
             self.crash(step, before, replies, after)
         else:
             self.settle(after[whole + 1] if rest else after[whole], after[min(whole + 1, len(replies))])
 
     def crash(self, step: Step, before: bytes, replies: Sequence[tuple[Line, list[str]]], after: list[int]) -> None:
-        """Reads what power cuts during the run might have left, and goes on with the last of these journals."""
+        """Reads what power cuts during the run might have left, and goes on with one of these journals: with the last
+        one, or, by each second number, with one that has the fewest events, which may have no header yet."""
         sizes = [len(text_of(reply)) for _, reply in replies]
+        found: list[tuple[int, bytes]] = []
         for image in self.images(step, before):
             whole = sum(size <= image.replied for size in accumulate(sizes))
             position = self.position_of(self.contents(image.file), after[whole], after[min(whole + 1, len(replies))])
             self.seen["crash with the last event" if position > after[whole] else "crash at the last reply"] += 1
+            found.append((position, image.file))
+        position, file = min(found, key=lambda it: it[0]) if step.seed % 2 else found[-1]
+        self.journal.write_bytes(file)
         self.cut_to(position)
 
     def images(self, step: Step, before: bytes) -> Iterator[Image]:
-        """Journals that power cuts during the last call might have left. The last one is put into the folder."""
+        """Journals that power cuts during the last call might have left."""
         trace, rng = self.folder / "trace", random.Random(step.seed)
         calls = read_trace(trace.read_bytes() if trace.exists() else b"")
         trace.unlink(missing_ok=True)
         for _ in range(CRASHES):
-            image = crash(rng, before, calls)
-            yield image
-        self.journal.write_bytes(image.file)
+            yield crash(rng, before, calls)
+
+    def note_moment(self, step: Step, is_new: bool, missing: Sequence[Sequence[str]]) -> None:
+        """Notes at which statement a call of the disk stopped a run: that of the first reply that is missing."""
+        name, first, *_ = step.fault.split()
+        if name in CALLS_OF_STATEMENTS:
+            is_header = is_new and first == "1"
+            word = "the header" if is_header else words_of(missing[0][0])[0] if missing else "the end"
+            self.seen[f"fault {name} at {word}"] += 1
 
     def note_replies(self, replies: Iterable[Sequence[str]]) -> None:
         for reply in replies:
             for text in reply:
-                words = re.sub(r"^[a-z0-9_ ]*: ", "", text).split()
+                words = words_of(text)
                 if "FAULT" in words:
                     self.seen[f"refusal {words[1]}"] += 1
                 elif words[0].isupper():
@@ -258,7 +298,7 @@ class Trial:
             if ran.status != 5:
                 same("the status of par", int(faults), ran.status)
         else:
-            if ran.status not in (4, KILLED):
+            if ran.status not in (4, *ENDED):
                 same(f"what {' '.join(words)} writes", b"", ran.out)
             self.check_tags(step, contents, ran.status)
         self.adopt(contents)
@@ -268,7 +308,7 @@ class Trial:
             self.audit(step, json.loads(ran.out))
 
     def told(self, step: Step, lines: Sequence[Line], out: bytes) -> list[tuple[str, list[Line], list[str]]]:
-        """The sessions of a run with their lines and the lines of their replies, in the order in which they are told."""
+        """The sessions of a run with their lines and those of their replies, in the order in which they are told."""
         names: dict[str, list[Line]] = {"setup": []}
         for line in lines:
             if not line.refused:
@@ -313,8 +353,9 @@ class Trial:
     def check_told(self, told: Sequence[tuple[str, list[Line], list[str]]], ran: Ran, contents: Contents) -> None:
         """Replays what sessions were told. A journal that has failed may have one event more."""
         end = (self.base or 0) + len(contents.payloads)
-        stopped = [int(text.rsplit("@", 1)[1]) for _, _, texts in told for text in texts if text.startswith("FAULT E24")]
-        self.note_replies(texts for _, _, texts in told)
+        all_texts = [text for _, _, texts in told for text in texts]
+        stopped = [int(text.rsplit("@", 1)[1]) for text in all_texts if text.startswith("FAULT E24")]
+        self.note_replies([all_texts])
         if ran.status == 5:
             more, end = end, min([end, *stopped])
             if more > end + 1:
@@ -326,12 +367,15 @@ class Trial:
         self.store.has_failed = False
 
     def check_tags(self, step: Step, contents: Contents, status: int) -> None:
-        """Of each session whose rows have numbers the first ones have to be there. If its replies were written, all."""
+        """Of each session whose rows have numbers the first ones have to be there. If its replies were written, all,
+        except where the history is full."""
         known = self.store.history.position - (self.base or 0)
         there = tags_of_events([read_event(payload) for payload in contents.payloads[known:]])
+        is_full = (self.base or 0) + len(contents.payloads) == LAST_POSITION
         for session, tags in tags_of_lines(step.lines).items():
             found = [tag for tag in there if tag in tags]
-            wanted = tags if status == 4 and "m" in self.names() else tags[: len(found)]
+            has_all = status == 4 and "m" in self.names() and not is_full
+            wanted = tags if has_all else tags[: len(found)]
             same(f"the rows of {session}", wanted, found)
 
     def names(self) -> list[str]:
@@ -352,6 +396,17 @@ class Trial:
                 raise Failure(f"the audit of a transcript {forged.name}: {forged.text}", forged.wanted, ran.out)
             same("the status of an audit", int(not ran.out.startswith(b"AUDIT YES")), ran.status)
             self.seen[f"audit {forged.name}: {' '.join(ran.out.decode().split()[:2])}"] += 1
+        same("the journal behind an audit", before, self.file())
+
+    def audit_again(self, step: Step) -> None:
+        """Audits the last transcript again, with a fault."""
+        before = self.file()
+        plain, _ = self.call(["audit"], Step("audit"), self.last_transcript)
+        ran, happened = self.call(["audit"], step, self.last_transcript)
+        self.check_status("audit", step, ran, happened, plain.status)
+        is_done = ran.status in (0, 1)
+        if (is_done and ran.out != plain.out) or not plain.out.startswith(ran.out):
+            raise Failure("what audit writes", plain.out, ran.out)
         same("the journal behind an audit", before, self.file())
 
     # ---- calls without input
@@ -387,6 +442,7 @@ class Trial:
             if (found.base, found.payloads) != (image, []) and (cut.replied or not is_old):
                 raise Failure("a power cut during a checkpoint", "the image, or what was there", found)
             self.seen["crash that leaves the history" if is_old else "crash that leaves the image"] += 1
+        self.journal.write_bytes(cut.file)
 
     def show(self, step: Step) -> None:
         """`log` or `check`, which change nothing."""
@@ -418,32 +474,37 @@ class Trial:
     # ---- readers beside a writer
 
     def beside(self, step: Step) -> None:
-        replies, after = [], [self.store.history.position]
         half = len(step.lines) // 2
         model = Run(self.store)
         lines = list(read_lines(b"".join(line + b"\n" for line in step.lines)))
         cut = sum(line.number <= half for line in lines)
         pipe = subprocess.PIPE
-        run = subprocess.Popen([self.command, "run"], cwd=self.folder, stdin=pipe, stdout=pipe, stderr=pipe)
-        assert run.stdin and run.stdout
-        run.stdin.write(b"".join(line + b"\n" for line in step.lines[:half]))
-        run.stdin.flush()
-        replies = [(line, model.reply(line)) for line in lines[:cut]]
-        wanted = b"".join(text_of(reply) for _, reply in replies)
-        given = run.stdout.read(len(wanted)) if wanted else b""
-        self.count_replies(replies, given)
-        if wanted:
-            for word in ("log", "check"):
-                same(f"{word} beside a run", self.shown(word), call(self.command, [word], self.folder).out)
-            same("the companion's log beside a run", self.shown("log").decode(), read(self.file())[1])
-            other = call(self.command, ["run"], self.folder)
-            same("another run beside it", (5, b"tsctl: disk fault\n"), (other.status, other.err))
-        rest, _ = run.communicate(b"".join(line + b"\n" for line in step.lines[half:]), timeout=120)
-        replies = [(line, model.reply(line)) for line in lines[cut:]]
-        whole, _ = self.count_replies(replies, rest)
-        same("the number of replies", len(replies), whole)
-        self.settle(after[0], self.store.history.position)
+        with subprocess.Popen([self.command, "run"], cwd=self.folder, stdin=pipe, stdout=pipe, stderr=pipe) as run:
+            with killed_later(run):
+                assert run.stdin and run.stdout
+                run.stdin.write(b"".join(line + b"\n" for line in step.lines[:half]))
+                run.stdin.flush()
+                first = [(line, model.reply(line)) for line in lines[:cut]]
+                wanted = b"".join(text_of(reply) for _, reply in first)
+                self.count_replies(first, run.stdout.read(len(wanted)))
+                if wanted:
+                    self.read_beside()
+                rest, said = run.communicate(b"".join(line + b"\n" for line in step.lines[half:]))
+        second = [(line, model.reply(line)) for line in lines[cut:]]
+        whole, _ = self.count_replies(second, rest)
+        same("the number of replies", len(second), whole)
+        has_fault = any(b"FAULT" in text_of(reply) for _, reply in [*first, *second])
+        same("the end of a run with readers beside it", (int(has_fault), b""), (run.returncode, said))
+        self.settle(self.store.history.position, self.store.history.position)
         self.seen["run with readers beside it"] += 1
+
+    def read_beside(self) -> None:
+        """Reads the journal beside a run, and tries another one."""
+        for word in ("log", "check"):
+            same(f"{word} beside a run", self.shown(word), call(self.command, [word], self.folder).out)
+        same("the companion's log beside a run", self.shown("log").decode(), read(self.file())[1])
+        other = call(self.command, ["run"], self.folder)
+        same("another run beside it", (5, b"tsctl: disk fault\n"), (other.status, other.err))
 
     def follow(self, step: Step) -> None:
         """Asks a copy that follows the journal, which has to be as new."""
@@ -463,6 +524,7 @@ class Trial:
         kinds: dict[str, Callable[[Step], None]] = {
             "run": self.run, "par": self.par, "json": self.par, "checkpoint": self.checkpoint, "log": self.show,
             "check": self.show, "damage": self.damage, "jump": self.jump, "beside": self.beside, "follow": self.follow,
+            "audit": self.audit_again,
         }
         kinds[step.word](step)
         self.seen[f"step {step.word}"] += 1

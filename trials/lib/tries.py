@@ -44,6 +44,10 @@ class Tries:
         self.library = Path(self.built.name) / "faults.so"
         subprocess.run(["cc", "-O2", "-shared", "-fPIC", "-o", self.library, SOURCE, "-ldl"], check=True)
 
+    def close(self) -> None:
+        if self.library:
+            self.built.cleanup()
+
     def failure_of(self, life: Life, seen: Counter[str]) -> Failed | None:
         """What fails in a life: its steps up to the one that does."""
         with folder() as path:

@@ -8,8 +8,8 @@ LIMIT_TIMES = (2**62 - 1, -(2**62), 2**62, -(2**62) - 1, 2**63 - 1, -(2**63))
 BAD_NUMBERS = ("9223372036854775808", "-9223372036854775809", "99999999999999999999999")
 WORDS = (
     "select from where and is not null insert into values delete create table materialized view with data no as group "
-    "by call refresh cut snap finish begin read only commit rollback tick time_bucket calendar_bucket count sum min max "
-    "avg bigint true false timescaledb continuous set alter older_than m c z time dev v b n"
+    "by call refresh cut snap finish begin read only commit rollback tick time_bucket calendar_bucket count sum min "
+    "max avg bigint true false timescaledb continuous set alter older_than m c z time dev v b n"
 ).split()
 MARKS = (
     "(", ")", ",", "*", "=", "<>", "!=", "<", "<=", ">", ">=", "=>", ".", ";", "'m'", "'", "#", "-", "\r", "\0", "\xe9",
@@ -57,8 +57,9 @@ class Writer:
         """The usual text, or rarely one of the others: less rarely in a statement that is written without care."""
         return usual if not others or self.rng.random() < chance * self.care else self.rng.choice(others)
 
-    def time(self) -> str:
-        return self.often(str(self.rng.randrange(-150, 400)), *map(str, LIMIT_TIMES), *BAD_NUMBERS, "null", chance=0.985)
+    def time(self, chance: float = 0.985) -> str:
+        usual = str(self.rng.randrange(-150, 400))
+        return self.often(usual, *map(str, LIMIT_TIMES), *BAD_NUMBERS, "null", chance=chance)
 
     def value(self) -> str:
         usual = self.rng.choice([str(self.rng.randrange(-9, 30)), str(self.rng.randrange(4)), "NULL"])
@@ -93,7 +94,8 @@ class Writer:
         return self.often(self.rng.choice(self.columns(table)), "nothing", "time", "count", chance=0.95)
 
     def new_name(self, letter: str) -> str:
-        return self.often(f"{letter}{self.rng.randrange(6)}", *self.tables, *self.views, "x" * 63, "x" * 64, chance=0.93)
+        usual = f"{letter}{self.rng.randrange(6)}"
+        return self.often(usual, *self.tables, *self.views, "x" * 63, "x" * 64, chance=0.93)
 
     # ---- parts
 
@@ -118,7 +120,9 @@ class Writer:
         name = rng.choice(["b", "b", "x", ""])
         keys = [self.column(table) for _ in range(rng.choice([0, 0, 1, 1, 2]))]
         calls = [self.call(table) for _ in range(rng.choice([1, 1, 2, 3]) if rng.random() < 0.99 else 16)]
-        shown = [text if text == "count(*)" and place == 0 else f"{text} AS a{place}" for place, text in enumerate(calls)]
+        shown = [f"{text} AS a{place}" for place, text in enumerate(calls)]
+        if calls[0] == "count(*)":
+            shown[0] = calls[0]
         if view:
             view.step, view.offset = int(step), int(offset) if ", " + offset + ")" in bucket else 0
             view.bucket, view.keys = name or "time_bucket", keys
@@ -163,7 +167,8 @@ class Writer:
         view = View(name, "b", [], [], 10, 0)
         fold = self.fold(table, view)
         self.views.setdefault(name, view)
-        only = self.rng.choice(["", ", timescaledb.materialized_only = true", ", timescaledb.materialized_only = false"])
+        option = ", timescaledb.materialized_only = "
+        only = self.rng.choice(["", option + "true", option + "false"])
         data = self.rng.choice(["", " WITH DATA", " WITH NO DATA"])
         self.events += 1 if "NO" in data else 3
         return f"CREATE MATERIALIZED VIEW {name} WITH (timescaledb.continuous{only}) AS {fold}{data}"
@@ -178,20 +183,22 @@ class Writer:
     def insert(self) -> str:
         rng, table = self.rng, self.table()
         columns = list(self.columns(table))
-        head = ""
+        head, chance = "", 0.985
         if rng.random() < 0.25:
+            # A column that is left out may be a mistake, and so may a time in the same row.
+            chance = 0.85
             rng.shuffle(columns)
             columns = columns[: rng.randrange(1, len(columns) + 1)]
             if rng.random() < 0.1:
                 columns.append(self.column(table))
             head = f" ({', '.join(columns)})"
         count = rng.choice([1, 1, 2, 3, 6]) if rng.random() < 0.995 else rng.choice([1000, 1001])
-        rows = [self.row(columns) for _ in range(count)]
+        rows = [self.row(columns, chance) for _ in range(count)]
         self.events += 1
         return f"INSERT INTO {table}{head} VALUES {', '.join(rows)}"
 
-    def row(self, columns: list[str]) -> str:
-        values = [self.time() if column == "time" else self.value() for column in columns]
+    def row(self, columns: list[str], chance: float = 0.985) -> str:
+        values = [self.time(chance) if column == "time" else self.value() for column in columns]
         if self.rng.random() < 0.01:
             values.append("1")
         return f"({', '.join(values)})"
@@ -229,7 +236,8 @@ class Writer:
         rng, name = self.rng, self.view()
         view = self.views.get(name) or View(name, "b", [], [("count", "n")], 10, 0)
         step = view.step * rng.choice([1, 2, 3, 10]) if rng.random() < 0.93 else view.step + 1
-        offset = (view.offset + view.step * rng.randrange(3)) % max(step, 1) if rng.random() < 0.9 else rng.randrange(40)
+        fitting = (view.offset + view.step * rng.randrange(3)) % max(step, 1)
+        offset = fitting if rng.random() < 0.9 else rng.randrange(40)
         keys = [key for key in view.keys if rng.random() < 0.5] if rng.random() < 0.95 else ["v"]
         fits = {"count": "sum", "sum": "sum", "min": "min", "max": "max"}
         chosen = [(function, name) for function, name in view.calls if function in fits or rng.random() < 0.1]
@@ -365,7 +373,7 @@ class Writer:
         return (head + statement + tail).encode("latin-1")
 
     def setup(self, session: str) -> list[bytes]:
-        """A hypertable and an aggregate over it, with a few rows."""
+        """A hypertable and an aggregate over it, with a few rows, and in some lives one more hypertable."""
         self.tables["m"] = ["time", "dev", "v"]
         self.hypers.add("m")
         self.views["c"] = View("c", "b", ["dev"], [("count", "n"), ("sum", "s"), ("max", "most")], 10, 0)
@@ -374,10 +382,16 @@ class Writer:
         lines = [
             "CREATE TABLE m (time BIGINT NOT NULL, dev BIGINT, v BIGINT)",
             "SELECT create_hypertable('m', 'time', chunk_time_interval => 100)",
-            f"CREATE MATERIALIZED VIEW c WITH (timescaledb.continuous{only}) AS SELECT time_bucket(10, time) AS b, dev, "
-            "count(*) AS n, sum(v) AS s, max(v) AS most FROM m GROUP BY b, dev WITH NO DATA",
+            f"CREATE MATERIALIZED VIEW c WITH (timescaledb.continuous{only}) AS SELECT time_bucket(10, time) AS b, "
+            "dev, count(*) AS n, sum(v) AS s, max(v) AS most FROM m GROUP BY b, dev WITH NO DATA",
             f"INSERT INTO m VALUES {', '.join(self.row(self.tables['m']) for _ in range(5))}",
         ]
+        if self.rng.random() < 0.25:
+            self.tables["t0"] = ["k", "time", "w"]
+            self.hypers.add("t0")
+            self.events += 2
+            lines.append("CREATE TABLE t0 (k BIGINT NOT NULL, time BIGINT NOT NULL, w BIGINT)")
+            lines.append("SELECT create_hypertable('t0', 'time', chunk_time_interval => 10)")
         return [f"{session}: {line}".encode() for line in lines]
 
     def limits(self, session: str) -> list[bytes]:
