@@ -54,3 +54,8 @@ echo
 "$tsq" export --bigint --chunk 86400 --schema other 2>&1 | awk '/^[0-9]/ && ++rows > 3 { next } 1' | head -n 20
 "$tsq" export --scale nosuch=1 2>&1 || echo "status $?"
 "$tsq" export --plain --policies policies.sql 2>&1 || echo "status $?"
+
+# A journal without an event gives nothing, which is said.
+mkdir empty
+tsctl --in empty run </dev/null
+"$tsq" export --in empty 2>&1

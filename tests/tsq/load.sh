@@ -93,6 +93,16 @@ printf '2024-01-03 00:00,pump-e,1.25\n2024-01-02,pump-a,\n' >more.csv
 tsctl log
 echo "a: SELECT * FROM readings" | tsctl run
 
+# Each input is loaded once, whatever came since: under another name too, and of one that has grown only the rest.
+"${into[@]}" --null n/a --skip-broken aside.csv 2>&1 | grep -e already -e commits
+cp more.csv renamed.csv
+printf '2024-01-04,pump-a,3\n' >>renamed.csv
+for name in more renamed more; do
+  "$tsq" load "$name.csv" --table readings --into . --columns time,device,celsius 2>&1 | grep -e already -e "^rows" -e commits
+done
+"$tsq" load more.csv --table readings --into . --columns time,device,celsius --again 2>&1 | grep -e already -e "^rows" -e commits
+tsctl check
+
 # JSON and line protocol.
 cat >rows.ndjson <<'JSON'
 {"ts": 1704240000, "device": "pump-a", "celsius": 1.50, "extra": {}}

@@ -138,3 +138,22 @@ cat ask.sql | "$tsq" --in words --scale nosuch=3 2>&1 | tail -n 1 || echo "statu
 # Words that are no command.
 "$tsq" rnu x 2>&1 || echo "status $?"
 "$tsq" --in words log | tail -n 1
+
+# Stale ranges whose rows drop_chunks removed, which a refresh would lose, are named apart from those that are late.
+mkdir drops
+cat >drops/all.sql <<'SQL'
+a: CREATE TABLE m (time BIGINT NOT NULL, v BIGINT)
+a: SELECT create_hypertable('m', 'time', chunk_time_interval => 10)
+a: CREATE MATERIALIZED VIEW tens WITH (timescaledb.continuous) AS SELECT time_bucket(10, time) AS b, sum(v) AS s FROM m GROUP BY b WITH NO DATA
+a: INSERT INTO m VALUES (1, 1), (12, 2), (25, 3)
+a: CALL refresh_continuous_aggregate('tens', NULL, NULL)
+a: SELECT drop_chunks('m', 20)
+a: INSERT INTO m VALUES (26, 4)
+SQL
+"$tsq" drops/all.sql --in drops >/dev/null
+echo "a: SELECT * FROM tens" >drops/ask.sql
+for form in "" --csv --json --json=answers "--csv --ranges"; do
+  # shellcheck disable=SC2086
+  "$tsq" drops/ask.sql --in drops $form 2>&1
+done
+printf '\\x\nSELECT * FROM tens\n\\stale\n' | HOME="$PWD" "$tsq" prompt --in drops 2>&1

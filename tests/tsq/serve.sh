@@ -18,8 +18,17 @@ END
 token="Authorization: Bearer secret"
 ask() { python3 ask.py "$@"; }
 
-# Waits until a file has a text.
-await() { until grep -qs -e "$2" "$1"; do sleep 0.05; done; }
+# None stays behind, however this script ends.
+server=
+trap '[ -z "$server" ] || kill -KILL "$server"' EXIT
+
+# Waits until a file has a text, as long as the server is there.
+await() {
+  until grep -qs -e "$2" "$1"; do
+    kill -0 "$server" || { cat said; exit 1; }
+    sleep 0.05
+  done
+}
 
 # Begins, with these words and what comes through the pipe `lines`.
 begin() {
@@ -27,6 +36,7 @@ begin() {
   rm -f said replies
   mkfifo lines
   "$tsq" serve --port 0 --times s --scale mean=1 "$@" <lines >replies 2>said &
+  server=$!
   exec 3>lines
   await said http
   sed -n 's/.*127\.0\.0\.1:\([0-9]*\).*/\1/p' said >port
@@ -34,8 +44,9 @@ begin() {
 
 # Ends it by a signal, and prints what it has said, without the port.
 finish() {
-  kill -s "$1" "$!"
-  wait "$!" && echo "status 0" || echo "status $?"
+  kill -s "$1" "$server"
+  wait "$server" && echo "status 0" || echo "status $?"
+  server=
   exec 3>&-
   rm lines
   sed 's/0\.0\.1:[0-9]*/0.0.1:PORT/' said
@@ -59,7 +70,7 @@ ask GET "/aggregates" ""
 ask GET "/aggregates/minutes" ""
 ask GET "/aggregates/minutes?from=2024-01-01T00:01:00Z&format=csv" ""
 ask POST "/sql" "SELECT * FROM minutes WHERE minute = 1704067200" "Accept: text/csv"
-ask GET "/pictures/minutes?column=mean" ""
+ask GET "/pictures/minutes?columns=mean" ""
 
 # A session's name is no part of a statement, what writes needs the token, and other sites are turned away.
 ask POST "/sql?session=wall" "BEGIN
@@ -76,7 +87,9 @@ range='"range": {"from": "2024-01-01T00:00:00.000Z", "to": "2024-01-01T00:03:00.
 ask POST "/search" '{"target": ""}'
 ask POST "/query" "{$range, \"maxDataPoints\": 100, \"targets\": [{\"target\": \"minutes.mean\", \"type\": \"timeserie\"}]}"
 ask POST "/annotations" "{$range, \"annotation\": {\"name\": \"stale\", \"query\": \"minutes\"}}"
-ask GET "/" "" | head -n 2
+# All of it is read, since a request whose reply isn't would end with another status.
+ask GET "/" "" >page
+head -n 2 page
 finish TERM
 
 # What was acknowledged is there, and nobody writes in a read-only one.

@@ -1,8 +1,8 @@
 """Writes small bitstreams in the format of LLVM's bitcode."""
 from dataclasses import dataclass, field
 
-# What ends a level, begins a nested block, or is a record without an abbreviation.
-END, ENTER, RECORD = 0, 1, 3
+# What ends a level, begins a nested block, defines an abbreviation, or is a record without one.
+END, ENTER, DEFINE, RECORD = range(4)
 
 
 @dataclass
@@ -42,6 +42,24 @@ class Writer:
                      for begin in range(0, len(self.bits), 8))
 
 
+def names(text: bytes) -> Writer:
+    """A text of names: an abbreviation of a record with a blob, and that record."""
+    inside = Writer()
+    inside.fixed(DEFINE, 3)
+    inside.variable(2, 5)
+    inside.fixed(1, 1)
+    inside.variable(1, 8)
+    inside.fixed(0, 1)
+    inside.fixed(5, 3)
+    inside.fixed(4, 3)
+    inside.variable(len(text), 6)
+    inside.align()
+    for byte in text:
+        inside.fixed(byte, 8)
+    inside.align()
+    return inside
+
+
 def body(words: int) -> Writer:
     """A function's body with so many words of a record."""
     inside = Writer()
@@ -51,7 +69,7 @@ def body(words: int) -> Writer:
 
 def module(sizes: list[int], declared: int = 1, more: tuple[int, ...] = ()) -> bytes:
     """A file of bitcode: a function that is declared, one for each size with a body, of which the first is external, a
-    variable, a constant, and records of these codes."""
+    variable, a constant, and records of these codes. The functions are named by letters, both kinds from `a` on."""
     inside = Writer()
     inside.record(3, 1, 2)
     for at in range(declared):
@@ -69,5 +87,5 @@ def module(sizes: list[int], declared: int = 1, more: tuple[int, ...] = ()) -> b
     whole.fixed(int.from_bytes(b"BC\xc0\xde", "little"), 32)
     whole.block(2, 13, 3, Writer())
     whole.block(2, 8, 3, inside)
-    whole.block(2, 23, 3, body(2))
+    whole.block(2, 23, 3, names(b"abcdefgh"))
     return whole.whole()

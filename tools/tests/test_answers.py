@@ -7,7 +7,10 @@ import unittest
 from pathlib import Path
 from typing import Any
 
-from tsqlib.answers import Style, answer_object, csv_lines, expanded, json_lines, json_ranges, range_text, table
+from tsqlib.answers import (
+    Style, answer_object, csv_lines, csv_ranges, expanded, json_lines, json_ranges, range_text, table,
+)  # fmt: skip
+from tsqlib.dropped import with_drops
 from tsqlib.names import Names
 from tsqlib.replies import Reply
 from tsqlib.schema import Output
@@ -45,28 +48,56 @@ class AnswersTest(unittest.TestCase):
 
     def test_texts_and_scales_that_are_remembered(self) -> None:
         for row, wanted in zip(csv_lines(REPLY, OUTPUT, Style(padded=False, fractions=False, names=self.names())), (
-            "hour,dev,n,mean,stale", f'0,"pump, a",{BIG},2.15,false', "3600,true,1,,true", "7200,,0,0.033,false",
+            "hour,dev,n,mean,stale,dropped", f'0,"pump, a",{BIG},2.15,false,false', "3600,true,1,,true,false",
+            "7200,,0,0.033,false,false",
         )):  # fmt: skip
             self.assertEqual(row, wanted)
         # What is asked for goes before what is remembered.
         scaled = csv_lines(REPLY, OUTPUT, Style(padded=False, fractions=False, scales={"mean": 0}, names=self.names()))
-        self.assertTrue(scaled[1].endswith("21.5,false"))
+        self.assertTrue(scaled[1].endswith("21.5,false,false"))
 
     def test_json(self) -> None:
         plain = self.rows(Style("s", 12, False, False))
-        self.assertEqual(plain[0], {"hour": "1970-01-01T00:00:00Z", "dev": 1, "n": BIG, "mean": 21.5, "stale": False})
+        marks = {"stale": False, "dropped": False}
+        self.assertEqual(plain[0], {"hour": "1970-01-01T00:00:00Z", "dev": 1, "n": BIG, "mean": 21.5} | marks)
         texts = self.rows(Style(None, 12, False, False, strings=True, names=self.names()))
-        self.assertEqual(texts[0], {"hour": "0", "dev": "pump, a", "n": str(BIG), "mean": "2.15", "stale": False})
-        self.assertEqual(texts[1], {"hour": "3600", "dev": "true", "n": "1", "mean": None, "stale": True})
-        self.assertEqual(json_ranges(REPLY, OUTPUT, Style(strings=True)), ['{"from": null, "to": "0"}', '{"from": "3600", "to": "7200"}'])
+        self.assertEqual(texts[0], {"hour": "0", "dev": "pump, a", "n": str(BIG), "mean": "2.15"} | marks)
+        marks["stale"] = True
+        self.assertEqual(texts[1], {"hour": "3600", "dev": "true", "n": "1", "mean": None} | marks)
+        self.assertEqual(json_ranges(REPLY, OUTPUT, Style(strings=True)), [
+            '{"from": null, "to": "0", "dropped": false}', '{"from": "3600", "to": "7200", "dropped": false}',
+        ])  # fmt: skip
+
+    def test_dropped_rows_are_apart(self) -> None:
+        reply = with_drops(REPLY._replace(stale=[(None, 3600), (7200, 10800)]), 3600, 3600)
+        self.assertEqual((reply.dropped, reply.stale), ([(None, 3600)], [(7200, 10800)]))
+        style = Style(padded=False, fractions=False)
+        self.assertEqual([line.split(",")[-2:] for line in csv_lines(reply, OUTPUT, style)[1:]],
+                         [["false", "true"], ["false", "false"], ["true", "false"]])  # fmt: skip
+        found = [json.loads(line) for line in json_lines(reply, OUTPUT, style)]
+        self.assertEqual([(row["stale"], row["dropped"]) for row in found],
+                         [(False, True), (False, False), (True, False)])  # fmt: skip
+        self.assertEqual(csv_ranges(reply, OUTPUT, style), ["from,to,dropped", ",3600,true", "7200,10800,false"])
+        whole = json.loads(answer_object(reply, OUTPUT, style))
+        self.assertEqual(whole["dropped"], [{"from": None, "to": 3600}])
+        self.assertEqual(whole["stale"], [{"from": 7200, "to": 10800}])
+        lines = expanded(reply, OUTPUT, style)
+        self.assertEqual([line for line in lines if line.startswith("-- ")],
+                         ["-- row 1 dropped", "-- row 2", "-- row 3 stale"])  # fmt: skip
+        self.assertEqual(lines[-2:], ["dropped min..3600", "stale 7200..10800"])
 
     def test_an_object_for_each_reply(self) -> None:
         found = json.loads(answer_object(REPLY, OUTPUT, Style("s", 3, False, False)))
-        self.assertEqual((found["line"], found["session"], found["position"], found["columns"]), (7, "a", 9, ["hour", "dev", "n", "mean", "stale"]))
+        self.assertEqual(
+            (found["line"], found["session"], found["position"], found["columns"]),
+            (7, "a", 9, ["hour", "dev", "n", "mean", "stale", "dropped"]),
+        )
         self.assertEqual((len(found["rows"]), found["rows"][1]["stale"]), (3, True))
         self.assertEqual(found["stale"][1], {"from": "1970-01-01T01:00:00Z", "to": "1970-01-01T02:00:00Z"})
         refused = Reply(Line(2, "a", "a: SELECT"), ["a: FAULT E05 syntax at 10"])
-        self.assertEqual(json.loads(answer_object(refused, None, Style()))["fault"], {"code": "E05", "word": "syntax", "place": 10})
+        self.assertEqual(
+            json.loads(answer_object(refused, None, Style()))["fault"], {"code": "E05", "word": "syntax", "place": 10}
+        )
         stray = json.loads(answer_object(Reply(Line(2, None, "x"), ["line 2: FAULT E03 no_session"]), None, Style()))
         self.assertEqual((stray["session"], stray["position"]), (None, None))
 
@@ -74,7 +105,10 @@ class AnswersTest(unittest.TestCase):
         self.assertEqual(expanded(REPLY, OUTPUT, Style())[4:6], ["mean           21.500", "mean_fraction  43/2"])
 
     def test_ranges(self) -> None:
-        for bounds, unit, wanted in (((None, 5), None, "min..5"), ((0, 60), "s", "1970-01-01 00:00:00..1970-01-01 00:01:00")):
+        for bounds, unit, wanted in (
+            ((None, 5), None, "min..5"),
+            ((0, 60), "s", "1970-01-01 00:00:00..1970-01-01 00:01:00"),
+        ):
             self.assertEqual(range_text(bounds, unit), wanted)
 
 

@@ -21,11 +21,14 @@ from tsqlib.sums import BLOCK, Sums, read_sums
 
 SETUP = """a: CREATE TABLE m (time BIGINT NOT NULL, v BIGINT)
 a: SELECT create_hypertable('m', 'time', chunk_time_interval => 100)
-a: CREATE MATERIALIZED VIEW c WITH (timescaledb.continuous) AS SELECT time_bucket(10, time) AS b, sum(v) AS s FROM m GROUP BY b WITH NO DATA
+a: CREATE MATERIALIZED VIEW c WITH (timescaledb.continuous) AS SELECT time_bucket(10, time) AS b, sum(v) AS s FROM m \
+GROUP BY b WITH NO DATA
 """
 # A journal of several blocks.
-ROWS = "".join(f"a: INSERT INTO m VALUES {', '.join(f'({time}, {time * time})' for time in range(start, start + 500))}\n"
-               for start in range(0, 10000, 500))  # fmt: skip
+ROWS = "".join(
+    f"a: INSERT INTO m VALUES {', '.join(f'({time}, {time * time})' for time in range(start, start + 500))}\n"
+    for start in range(0, 10000, 500)
+)
 
 
 @NEEDS
@@ -72,7 +75,9 @@ class BackupTest(unittest.TestCase):
 
     def test_a_copy_answers_as_the_folder_does(self) -> None:
         Names.read(self.folder).remember([("v", "pump-a")], {}, "s")
-        self.run_script(ROWS + "a: CALL refresh_continuous_aggregate('c', NULL, NULL)\na: INSERT INTO m VALUES (7, 7)\n")
+        self.run_script(
+            ROWS + "a: CALL refresh_continuous_aggregate('c', NULL, NULL)\na: INSERT INTO m VALUES (7, 7)\n"
+        )
         lines = self.backup()
         self.assertRegex(lines[0], r"copy: @26, \d+ bytes, checked by tsctl check$")
         self.assertEqual([Path(line).name for line in lines[1:]], ["copy.sums", "copy.names"])
@@ -87,7 +92,9 @@ class BackupTest(unittest.TestCase):
         self.assertFalse(self.is_wrong(self.folder))
 
     def test_copies_beside_a_writer_are_whole(self) -> None:
-        run = subprocess.Popen([programs.tsctl(), "run"], cwd=self.folder, stdin=subprocess.PIPE, stdout=subprocess.PIPE)
+        run = subprocess.Popen(
+            [programs.tsctl(), "run"], cwd=self.folder, stdin=subprocess.PIPE, stdout=subprocess.PIPE
+        )
         is_ended = threading.Event()
 
         def feed() -> None:
@@ -206,11 +213,15 @@ class BackupTest(unittest.TestCase):
 
     def test_sums_are_read_as_they_were_written(self) -> None:
         path = self.top / "sums"
-        for sums in (Sums(7, 9, "1", ("a" * 64,)), Sums(0, 2 * BLOCK + 1, "2", ("a" * 64, "b" * 64, "c" * 64), "d" * 64)):
+        for sums in (
+            Sums(7, 9, "1", ("a" * 64,)),
+            Sums(0, 2 * BLOCK + 1, "2", ("a" * 64, "b" * 64, "c" * 64), "d" * 64),
+        ):
             path.write_text(sums.text())
             self.assertEqual(read_sums(path), sums)
             for changed in (sums.text()[:-3], sums.text().replace("block 0", "block 1"), "", "\xff",
-                            sums.text().replace("bytes", "bites"), sums.text().replace("a" * 64 + "\n", "a" * 63 + "\n")):  # fmt: skip
+                            sums.text().replace("bytes", "bites"),
+                            sums.text().replace("a" * 64 + "\n", "a" * 63 + "\n")):  # fmt: skip
                 path.write_text(changed)
                 with self.assertRaises(Trouble):
                     read_sums(path)

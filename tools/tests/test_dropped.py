@@ -3,13 +3,14 @@ import struct
 import unittest
 
 from tsqlib.dropped import Drops, parted
+from tsqlib.replies import Range
 
 
 def hyper(interval: int) -> bytes:
     return b"\x02" + struct.pack("<IIq", 0, 0, interval)
 
 
-def insert(*rows: tuple) -> bytes:
+def insert(*rows: tuple[int | None, ...]) -> bytes:
     """An operation that inserts rows, each a time and values."""
     out = b"\x01" + struct.pack("<II", 0, len(rows))
     for time, *values in rows:
@@ -61,7 +62,7 @@ class DropsTest(unittest.TestCase):
 
 class PartedTest(unittest.TestCase):
     def test_parts_at_the_first_bucket_that_was_kept(self) -> None:
-        cases = [
+        cases: list[tuple[list[Range], int | None, int, tuple[list[Range], list[Range]]]] = [
             ([(None, 10), (30, 40)], None, 1, ([], [(None, 10), (30, 40)])),
             ([(None, 10), (30, 40)], 20, 1, ([(None, 10)], [(30, 40)])),
             ([(None, 40)], 20, 10, ([(None, 20)], [(20, 40)])),

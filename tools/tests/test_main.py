@@ -3,6 +3,8 @@ from __future__ import annotations
 
 import contextlib
 import io
+import subprocess
+import sys
 import tempfile
 import unittest
 from argparse import Namespace
@@ -14,6 +16,7 @@ from tsqlib.messages import Trouble
 from tsqlib.options import journal_of
 from tsqlib.version import version
 
+TOOLS = Path(__file__).resolve().parents[1]
 COMMANDS = ("run", "prompt", "load", "help")
 
 
@@ -42,14 +45,34 @@ class CommandTest(unittest.TestCase):
                 with_command([word, "x"], COMMANDS)
 
     def test_control_characters_are_refused(self) -> None:
-        for words in (["plot", "c", "--where", "b > 0\nplot: DELETE FROM m"], ["plot", "c", "--out", "x'\nsystem"], ["run", "\x1b[2J"]):
+        for words in (
+            ["plot", "c", "--where", "b > 0\nplot: DELETE FROM m"],
+            ["plot", "c", "--out", "x'\nsystem"],
+            ["run", "\x1b[2J"],
+        ):
             with self.assertRaisesRegex(Trouble, "control character"):
                 options_of(words)
-        self.assertEqual(options_of(["load", "x", "--table", "m", "--columns", "time", "--delimiter", "\t"]).delimiter, "\t")
+        self.assertEqual(
+            options_of(["load", "x", "--table", "m", "--columns", "time", "--delimiter", "\t"]).delimiter, "\t"
+        )
 
     def test_options_are_written_in_full(self) -> None:
         with contextlib.redirect_stderr(io.StringIO()), self.assertRaises(SystemExit):
             options_of(["run", "--frac"])
+
+    def test_a_command_reads_its_own_module_and_its_usage_has_all(self) -> None:
+        code = (
+            "import sys; from tsqlib.main import main; status = main(sys.argv[1:]);"
+            " print(status, 'tsqlib.log' in sys.modules, 'tsqlib.serve' in sys.modules)"
+        )
+        with tempfile.TemporaryDirectory() as folder:
+            (Path(folder) / "tsctl.journal").touch()
+            words = [sys.executable, "-c", code, "log", "--in", folder]
+            done = subprocess.run(words, capture_output=True, text=True, cwd=TOOLS)
+        self.assertEqual(done.stdout, "0 True False\n", done.stderr)
+        with contextlib.redirect_stderr(io.StringIO()) as said, self.assertRaises(SystemExit):
+            options_of(["log", "--nosuch"])
+        self.assertIn("run,prompt,load,import,plot", said.getvalue())
 
     def test_a_journal_is_a_file_or_that_of_a_folder(self) -> None:
         for folder, journal, wanted in (

@@ -73,7 +73,11 @@ class NamesTest(unittest.TestCase):
     def test_contradictions(self) -> None:
         self.file.write_bytes(WHOLE)
         names = Names.read(self.folder)
-        cases: list[tuple[dict[str, int], Unit | None]] = [({"celsius": 1}, None), ({"celsius": 2, "v": 1}, "ms"), ({}, "us")]
+        cases: list[tuple[dict[str, int], Unit | None]] = [
+            ({"celsius": 1}, None),
+            ({"celsius": 2, "v": 1}, "ms"),
+            ({}, "us"),
+        ]
         for scales, times in cases:
             with self.subTest(scales=scales, times=times), self.assertRaises(Trouble):
                 names.remember([("device", "new")], scales, times)

@@ -2,6 +2,7 @@
 import unittest
 
 from tsqlib.messages import Trouble
+from tsqlib.replies import Range
 from tsqlib.picture import (
     COLORS, MOST_LINES, Column, Mark, Row, bounds_of, look_of, marks_of, panels_of, pieces_of, shared, widened,
 )  # fmt: skip
@@ -52,6 +53,7 @@ class LinesTest(unittest.TestCase):
 class RangesTest(unittest.TestCase):
     def test_a_picture_has_all_buckets_and_ranges(self) -> None:
         rows = [Row(100, 110, (), ()), Row(190, 200, (), ())]
+        cases: list[tuple[list[Range], tuple[int, int]]]
         cases = [([], (100, 200)), ([(50, 60)], (50, 200)), ([(150, 300)], (100, 300)), ([(None, 120)], (90, 200))]
         for ranges, bounds in cases:
             with self.subTest(ranges=ranges):

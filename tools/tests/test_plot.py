@@ -35,7 +35,8 @@ sys.exit(main.main(sys.argv[1:]))"""
 START = 1704067200
 SETUP = f"""a: CREATE TABLE m (time BIGINT NOT NULL, dev BIGINT, v BIGINT)
 a: SELECT create_hypertable('m', 'time', chunk_time_interval => {DAY})
-a: CREATE MATERIALIZED VIEW c WITH (timescaledb.continuous) AS SELECT time_bucket(60, time) AS minute, dev, count(*) AS n, avg(v) AS mean, max(v) AS high, max(time) AS last FROM m GROUP BY minute, dev WITH NO DATA
+a: CREATE MATERIALIZED VIEW c WITH (timescaledb.continuous) AS SELECT time_bucket(60, time) AS minute, dev, count(*) \
+AS n, avg(v) AS mean, max(v) AS high, max(time) AS last FROM m GROUP BY minute, dev WITH NO DATA
 """
 
 
@@ -101,12 +102,63 @@ class OverHistory(unittest.TestCase):
         arguments = options_of(["plot", "--in", str(self.folder), *words])
         names = Names.read(self.folder)
         clock = Clock(arguments.times or names.times, zone_of(arguments.zone))
-        return plot.picture_of(arguments, plot.asked(arguments, clock), names, clock)
+        return plot.picture_of(arguments, plot.asked(arguments, names, clock), names, clock)
 
     def plot(self, *words: str) -> tuple[int, str, str]:
         """The status of `tsq plot`, and what it has printed and said."""
-        done = subprocess.run([sys.executable, TSQ, "plot", *words], cwd=self.folder, capture_output=True, text=True, timeout=120)
+        done = subprocess.run(
+            [sys.executable, TSQ, "plot", *words], cwd=self.folder, capture_output=True, text=True, timeout=120
+        )
         return done.returncode, done.stdout, done.stderr
+
+
+class StatementsTest(OverHistory):
+    """Pieces of statements on the command line have dates, as statements of scripts do."""
+
+    def test_dates_in_tests_and_queries(self) -> None:
+        begin = f"{START + DAY + 3600}"
+        cases = [
+            (["c", "--where", "minute >= '2024-01-02 01:00'"], ["c", "--where", f"minute >= {begin}"]),
+            (["c", "--where", "minute >= '2024-01-02 02:00+01' AND minute < '2024-01-03'"],
+             ["c", "--where", f"minute >= {begin} AND minute < {START + 2 * DAY}"]),
+            (["--query", "SELECT time_bucket('1 hour', minute) AS h, sum(n) FROM c WHERE dev = 'pump' GROUP BY h"],
+             ["--query", "SELECT time_bucket(3600, minute) AS h, sum(n) FROM c WHERE dev = 1 GROUP BY h"]),
+        ]  # fmt: skip
+        Names.read(self.folder).remember([("dev", "pump")])
+        for words, numbers in cases:
+            with self.subTest(words=words):
+                found, wanted = self.picture(*words, "--times", "s"), self.picture(*numbers, "--times", "s")
+                self.assertEqual(found.panels, wanted.panels)
+                self.assertEqual((found.start, found.end), (wanted.start, wanted.end))
+        Names.read(self.folder).remember(times="s")
+        self.assertEqual(self.picture(*cases[0][0]).start, self.picture(*cases[0][1]).start)
+
+    def test_queries_have_the_scales_of_the_folder(self) -> None:
+        query = "SELECT time_bucket(86400, minute) AS day, max(high) AS high, sum(n) AS n FROM c GROUP BY day"
+        plain = self.picture("--query", query, "--times", "s").panels
+        Names.read(self.folder).remember(scales={"v": 3}, times="s")
+        scaled = self.picture("--query", query).panels
+        self.assertEqual([panel.label for panel in plain], [panel.label for panel in scaled])
+
+        def values(panels: list[Panel]) -> list[list[float]]:
+            return [[value for line in panel.lines for piece in line.pieces for _, value in piece] for panel in panels]
+
+        high, count = values(plain)
+        self.assertEqual(values(scaled), [[value / 1000 for value in high], count])
+
+    def test_averages_that_are_left_out_of_a_roll(self) -> None:
+        words = self.picture("c", "--by", "day", "--times", "s").words
+        self.assertIn("mean is left out: c has no count of its values", [word.text for word in words])
+
+    def test_dates_that_are_none(self) -> None:
+        for words, wanted in (
+            (["c", "--where", "minute >= '2024-01-02'"], "With `--times s`, `ms` or `us`, `tsq` reads dates"),
+            (["c", "--times", "s", "--where", "minute >= 'noon'"], "is no date, such as"),
+            (["--times", "s", "--query", "SELECT time_bucket('1 month', minute) AS h, sum(n) FROM c GROUP BY h"],
+             "has no fixed length"),
+        ):  # fmt: skip
+            with self.subTest(words=words), self.assertRaisesRegex(Trouble, re.escape(wanted)):
+                self.picture(*words)
 
 
 @unittest.skipUnless(HAS_MATPLOTLIB, "no python3 here has matplotlib")
@@ -159,6 +211,18 @@ class SvgTest(OverHistory):
         self.assertIn("hour, UTC", svg.texts())
         self.assertIn("stale: 2024-01-02 17:40..17:41", svg.texts())
         self.assertIn("panel1-dropped1", svg.names())
+
+    def test_titles_and_labels_have_room(self) -> None:
+        query = "SELECT time_bucket('1 day', minute) AS day, max(high) AS the_highest FROM c WHERE dev = 1 GROUP BY day"
+        texts = self.drawn("--query", query, "--times", "s").texts()
+        self.assertIn(query[: query.rindex(" ", 0, 91)], texts)
+        picture = Picture("t", "x", [Panel("v", [])], START + 68 * DAY, START + 95 * DAY, unit="s")
+        files = plot.rendered(picture)
+        assert files
+        days = [text for text in Svg(files["svg"]).texts() if re.fullmatch(r"2024-\d\d-\d\d", text)]
+        self.assertIn("2024-04-01", days)
+        self.assertNotIn("2024-03-29", days)
+        self.assertNotIn("2024-03-31", days)
 
     def test_has_the_texts_scales_and_times_of_the_folder(self) -> None:
         Names.read(self.folder).remember([("dev", "pump $a"), ("dev", "_b")], {"v": 3}, "s")
@@ -216,8 +280,10 @@ class CommandTest(OverHistory):
         programs.call(["run"], b"""a: CREATE TABLE z (time BIGINT NOT NULL, v BIGINT)
 a: SELECT create_hypertable('z', 'time', chunk_time_interval => 100)
 a: INSERT INTO z VALUES (1, NULL)
-a: CREATE MATERIALIZED VIEW nulls WITH (timescaledb.continuous) AS SELECT time_bucket(10, time) AS b, max(v) FROM z GROUP BY b
-a: CREATE MATERIALIZED VIEW empty WITH (timescaledb.continuous) AS SELECT time_bucket(10, time) AS b, max(v) FROM z GROUP BY b WITH NO DATA
+a: CREATE MATERIALIZED VIEW nulls WITH (timescaledb.continuous) AS SELECT time_bucket(10, time) AS b, max(v) FROM z \
+GROUP BY b
+a: CREATE MATERIALIZED VIEW empty WITH (timescaledb.continuous) AS SELECT time_bucket(10, time) AS b, max(v) FROM z \
+GROUP BY b WITH NO DATA
 """, self.folder)  # fmt: skip
         cases = [
             (["nulls"], "there is no value to draw: each is NULL"),
@@ -243,7 +309,9 @@ a: CREATE MATERIALIZED VIEW empty WITH (timescaledb.continuous) AS SELECT time_b
 
     @unittest.skipUnless(HAS_MATPLOTLIB, "no python3 here has matplotlib")
     def test_writes_two_files_while_another_process_writes(self) -> None:
-        run = subprocess.Popen([programs.tsctl(), "run"], cwd=self.folder, stdin=subprocess.PIPE, stdout=subprocess.PIPE)
+        run = subprocess.Popen(
+            [programs.tsctl(), "run"], cwd=self.folder, stdin=subprocess.PIPE, stdout=subprocess.PIPE
+        )
         assert run.stdin and run.stdout
         run.stdin.write(b"w: INSERT INTO m VALUES (1704300000, 7, 1)\n")
         run.stdin.flush()
@@ -253,7 +321,8 @@ a: CREATE MATERIALIZED VIEW empty WITH (timescaledb.continuous) AS SELECT time_b
         self.assertEqual(sorted(os.listdir(self.folder)), ["it.png", "it.svg", "tsctl.journal"])
 
     def test_says_how_to_get_what_draws(self) -> None:
-        done = subprocess.run([sys.executable, "-E", "-S", "-c", WITHOUT, "plot", "c", "--columns", "n"], cwd=self.folder,
+        done = subprocess.run([sys.executable, "-E", "-S", "-c", WITHOUT, "plot", "c", "--columns", "n"],
+                              cwd=self.folder,
                               capture_output=True, text=True)  # fmt: skip
         self.assertEqual((done.returncode, done.stdout), (3, ""), done.stderr)
         self.assertIn("apt-get install python3-matplotlib", done.stderr)

@@ -35,7 +35,17 @@ LENGTHS: list[tuple[int, Unit, str]] = [
 ]
 
 # A number, and how many digits it needs after the point.
-DIGITS = [("1", 0), ("1.50", 1), ("0.00", 0), ("1e-05", 5), ("1.25e1", 1), ("100", 0), ("1e3", 0), ("-.125", 3), ("1.0e-1", 1)]
+DIGITS = [
+    ("1", 0),
+    ("1.50", 1),
+    ("0.00", 0),
+    ("1e-05", 5),
+    ("1.25e1", 1),
+    ("100", 0),
+    ("1e3", 0),
+    ("-.125", 3),
+    ("1.0e-1", 1),
+]
 
 DUMP = """SET client_encoding = 'UTF8';
 CREATE TABLE public.m (
@@ -67,7 +77,8 @@ VIEWS = [
      "SELECT time_bucket(3600, time) AS hour, device, count(*) AS n FROM m GROUP BY 1, 2"),
     (f"SELECT time_bucket('7 days'::interval, \"time\") AS w, avg(v) AS a {FROM} GROUP BY 1",
      "SELECT time_bucket(604800, time, 345600) AS w, avg(v) AS a FROM m GROUP BY 1"),
-    (f"SELECT {BUCKET}, sum(v) {FROM} WHERE ((m.v > '-1.5'::numeric) AND (m.device = 'it''s'::text)) GROUP BY ({BUCKET})",
+    (f"SELECT {BUCKET}, sum(v) {FROM} WHERE ((m.v > '-1.5'::numeric) AND (m.device = 'it''s'::text)) GROUP BY "
+     f"({BUCKET})",
      "SELECT time_bucket(3600, time), sum(v) FROM m WHERE v > -150 AND device = 7 GROUP BY 1"),
     (f"SELECT {BUCKET}, sum(v) {FROM} WHERE (m.v IS NOT NULL) GROUP BY ({BUCKET})",
      "SELECT time_bucket(3600, time), sum(v) FROM m WHERE v IS NOT NULL GROUP BY 1"),
@@ -108,7 +119,9 @@ class PostgresTest(unittest.TestCase):
             self.assertEqual(digits_in(text), digits, text)
         for text in ["NaN", "Infinity", "", "x"]:
             self.assertRaises(Bad, digits_in, text)
-        self.assertEqual([digits_of_time(f"2024-01-01 00:00:00{it}+00") for it in ["", ".5", ".1234", ".100000"]], [0, 3, 6, 3])
+        self.assertEqual(
+            [digits_of_time(f"2024-01-01 00:00:00{it}+00") for it in ["", ".5", ".1234", ".100000"]], [0, 3, 6, 3]
+        )
 
     def test_copy(self) -> None:
         for text in ["a\tb\nc\rd\\e", "\\N", "\\.", "größe", "\x08\x0b\x0c", ""]:
@@ -121,7 +134,9 @@ class DumpTest(unittest.TestCase):
     def test_reads(self) -> None:
         dump = Dump(io.BytesIO(DUMP.encode()))
         (table,) = dump.whole_tables()
-        self.assertEqual([it.type for it in table.columns], ["timestamp with time zone", "character varying(20)", "numeric(10,2)"])
+        self.assertEqual(
+            [it.type for it in table.columns], ["timestamp with time zone", "character varying(20)", "numeric(10,2)"]
+        )
         self.assertEqual([it.is_not_null for it in table.columns], [True, False, False])
         rows = [cells for _, cells in dump.rows(table)]
         self.assertEqual(rows, [["2024-01-01 00:00:00+00", "a\tb\\n", "1.50"], ["2024-01-02 00:00:00+00", None, None]])
@@ -129,16 +144,29 @@ class DumpTest(unittest.TestCase):
 
     def test_refuses(self) -> None:
         cut = DUMP[: DUMP.index("\\.\nCOPY")]
-        for content in [cut, "-- PostgreSQL database dump\n" + DUMP, "PGDMP\1", "INSERT INTO public.m VALUES (1);\n", "SET client_encoding = 'LATIN1';\n", "\xff\n"]:
+        for content in [
+            cut,
+            "-- PostgreSQL database dump\n" + DUMP,
+            "PGDMP\1",
+            "INSERT INTO public.m VALUES (1);\n",
+            "SET client_encoding = 'LATIN1';\n",
+            "\xff\n",
+        ]:
             with self.subTest(content=content):
                 self.assertRaises(Trouble, Dump, io.BytesIO(content.encode("latin-1")))
 
     def test_names(self) -> None:
         taken: set[str] = set()
-        self.assertEqual([name_here(it, taken) for it in ["A b", "a_b", "1x", "größe"]], ["a_b", "a_b_2", "_1x", "gr__e"])
+        self.assertEqual(
+            [name_here(it, taken) for it in ["A b", "a_b", "1x", "größe"]], ["a_b", "a_b_2", "_1x", "gr__e"]
+        )
 
     def test_time_columns(self) -> None:
-        columns = [Column("made", "date", False), Column("at", "timestamp with time zone", True), Column("n", "bigint", True)]
+        columns = [
+            Column("made", "date", False),
+            Column("at", "timestamp with time zone", True),
+            Column("n", "bigint", True),
+        ]
         cases: list[tuple[list[str], int]] = [([], 1), (["made"], 0), (["n"], 2)]
         for times, place in cases:
             source = source_of(Table("public.t", columns), set(), Options(frozenset(), times, {}))

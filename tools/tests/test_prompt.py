@@ -55,15 +55,24 @@ class TypedTest(unittest.TestCase):
 class CompletionTest(unittest.TestCase):
     def test_what_may_follow(self) -> None:
         schema = Schema()
-        schema.outputs = {"m": Output(["time", "dev"], frozenset([0])), "c": Output(["hour", "n"], frozenset([0]), is_view=True)}
+        schema.outputs = {
+            "m": Output(["time", "dev"], frozenset([0])),
+            "c": Output(["hour", "n"], frozenset([0]), is_view=True),
+        }
         schema.sources = {"c": "m"}
         for before, part, wanted in (
-            ("", "SEL", ["SELECT"]), ("", "sel", ["select"]), ("", "\\st", ["\\stale"]), ("SELECT * ", "", ["FROM", "AS", "AND"]),
-            ("SELECT * FROM ", "", ["c", "m"]), ("SELECT * FROM m ", "", ["WHERE"]), ("SELECT * FROM c WHERE ", "", ["hour", "n"]),
-            ("SELECT * FROM m WHERE time > 5 AND ", "d", ["dev"]), ("INSERT INTO m ", "", ["VALUES (", "("]), ("INSERT INTO m (", "", ["dev", "time"]),
-            ("CALL refresh_continuous_aggregate('", "", ["c"]), ("SELECT drop_chunks('", "", ["m"]), ("x: SELECT * FROM m; DELETE ", "", ["FROM"]),
-            ("SELECT time_bucket(5, hour) AS b, sum(n) FROM c GROUP BY ", "", ["b", "hour", "n"]), ("SELECT ", "ti", ["time_bucket("]),
-            ("ALTER MATERIALIZED VIEW ", "", ["c"]), ("SELECT time_bucket(5, ", "h", ["hour"]), ("CREATE ", "mat", ["materialized view"]),
+            ("", "SEL", ["SELECT"]), ("", "sel", ["select"]), ("", "\\st", ["\\stale"]),
+            ("SELECT * ", "", ["FROM", "AS", "AND"]),
+            ("SELECT * FROM ", "", ["c", "m"]), ("SELECT * FROM m ", "", ["WHERE"]),
+            ("SELECT * FROM c WHERE ", "", ["hour", "n"]),
+            ("SELECT * FROM m WHERE time > 5 AND ", "d", ["dev"]), ("INSERT INTO m ", "", ["VALUES (", "("]),
+            ("INSERT INTO m (", "", ["dev", "time"]),
+            ("CALL refresh_continuous_aggregate('", "", ["c"]), ("SELECT drop_chunks('", "", ["m"]),
+            ("x: SELECT * FROM m; DELETE ", "", ["FROM"]),
+            ("SELECT time_bucket(5, hour) AS b, sum(n) FROM c GROUP BY ", "", ["b", "hour", "n"]),
+            ("SELECT ", "ti", ["time_bucket("]),
+            ("ALTER MATERIALIZED VIEW ", "", ["c"]), ("SELECT time_bucket(5, ", "h", ["hour"]),
+            ("CREATE ", "mat", ["materialized view"]),
         ):  # fmt: skip
             self.assertEqual(fitting(schema, before, part), wanted, before)
 
@@ -84,7 +93,11 @@ class AtTerminal(InFolder):
         process, terminal = pty.fork()
         if process == 0:
             os.chdir(self.folder)
-            os.execve(sys.executable, [sys.executable, str(TSQ), *words], os.environ | {"HOME": ".", "TERM": "vt100", "COLUMNS": "60", "LINES": "30"} | environment)
+            os.execve(
+                sys.executable,
+                [sys.executable, str(TSQ), *words],
+                os.environ | {"HOME": ".", "TERM": "vt100", "COLUMNS": "60", "LINES": "30"} | environment,
+            )
         self.process, self.terminal, self.seen = process, terminal, ""
         self.addCleanup(self.close)
 
@@ -111,7 +124,9 @@ class AtTerminal(InFolder):
                 part = b""
             if not part:
                 self.fail(f"no {pattern} before the end in {self.seen!r}")
-            self.seen = re.sub("\x1b\\[\\?[0-9]*[a-z]", "", self.seen + part.decode("utf-8", "replace").replace("\r", ""))
+            self.seen = re.sub(
+                "\x1b\\[\\?[0-9]*[a-z]", "", self.seen + part.decode("utf-8", "replace").replace("\r", "")
+            )
         text, self.seen = self.seen[: found.end()], self.seen[found.end() :]
         return text
 
@@ -172,7 +187,8 @@ class PromptTest(AtTerminal):
     def test_colors_and_width(self) -> None:
         programs.call(["run"], SETUP, self.folder)
         names = ", ".join(f"a_long_name_{number} BIGINT" for number in range(9))
-        programs.call(["run"], f"a: CREATE TABLE w (time BIGINT NOT NULL, {names})\na: SELECT create_hypertable('w', 'time', chunk_time_interval => 5)\n"
+        programs.call(["run"], f"a: CREATE TABLE w (time BIGINT NOT NULL, {names})\na: SELECT create_hypertable('w', "
+                               f"'time', chunk_time_interval => 5)\n"
                       "a: INSERT INTO w (time) VALUES (1)\n".encode(), self.folder)  # fmt: skip
         cases: tuple[tuple[dict[str, str], bool], ...] = (({}, True), ({"NO_COLOR": "1"}, False))
         for environment, is_colored in cases:
@@ -265,6 +281,9 @@ class InterruptTest(AtTerminal):
         self.wait("tsq> ")
         self.type("INSERT INTO COMMIT VALUES (1)\n")
         self.wait("E18 no_block")
+        self.wait("tsq> ")
+        # Readline doesn't see a signal that comes after it has written the prompt and before it waits for a key.
+        time.sleep(0.5)
         os.kill(self.process, signal.SIGTERM)
         self.assertEqual(self.status(), 143)
         self.assertFalse(self.is_running("program"))

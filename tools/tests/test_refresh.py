@@ -17,8 +17,10 @@ from tsqlib.replies import Reply, replies_in
 
 SETUP = """a: CREATE TABLE m (time BIGINT NOT NULL, v BIGINT)
 a: SELECT create_hypertable('m', 'time', chunk_time_interval => 100)
-a: CREATE MATERIALIZED VIEW tens WITH (timescaledb.continuous) AS SELECT time_bucket(10, time) AS b, count(*) AS n, sum(v) AS s FROM m GROUP BY b WITH NO DATA
-a: CREATE MATERIALIZED VIEW sixties WITH (timescaledb.continuous) AS SELECT time_bucket(60, time) AS b, count(*) AS n FROM m GROUP BY b WITH NO DATA
+a: CREATE MATERIALIZED VIEW tens WITH (timescaledb.continuous) AS SELECT time_bucket(10, time) AS b, count(*) AS n, \
+sum(v) AS s FROM m GROUP BY b WITH NO DATA
+a: CREATE MATERIALIZED VIEW sixties WITH (timescaledb.continuous) AS SELECT time_bucket(60, time) AS b, count(*) AS n \
+FROM m GROUP BY b WITH NO DATA
 a: INSERT INTO m VALUES (5, 1), (45, 2), (115, 3), (125, 4), (205, 5), (305, 6)
 a: CALL refresh_continuous_aggregate('tens', NULL, NULL)
 a: CALL refresh_continuous_aggregate('sixties', NULL, NULL)
@@ -71,11 +73,14 @@ class RefreshTest(unittest.TestCase):
         self.assertEqual(self.refresh("tens")[1][0], "tens: nothing is stale that a refresh could mend")
 
     def test_leaves_a_bucket_that_a_dropped_chunk_ends_in(self) -> None:
-        self.run_script("a: INSERT INTO m VALUES (190, 1)\na: CALL refresh_continuous_aggregate('sixties', NULL, NULL)\n"
+        self.run_script("a: INSERT INTO m VALUES (190, 1)\na: CALL refresh_continuous_aggregate('sixties', NULL, "
+                        "NULL)\n"
                         "a: SELECT drop_chunks('m', 200)\na: INSERT INTO m VALUES (203, 1), (303, 1)\n")  # fmt: skip
         self.assertEqual(self.rows("sixties")["180"], ["2"])
         _, lines = self.refresh("sixties")
-        self.assertEqual([line.split(": ")[0] for line in lines], ["240..360", "left 0..240", "sixties is refreshed from 240 on"])
+        self.assertEqual(
+            [line.split(": ")[0] for line in lines], ["240..360", "left 0..240", "sixties is refreshed from 240 on"]
+        )
         self.assertEqual(self.rows("sixties")["180"], ["2"])
 
     def test_knows_what_was_dropped_before_an_image(self) -> None:
@@ -89,7 +94,9 @@ class RefreshTest(unittest.TestCase):
 
     def test_begins_at_a_time(self) -> None:
         self.run_script(LATE)
-        self.assertEqual([line.split(": ")[0] for line in self.refresh("tens", "--from", "200")[1]], ["200..210", "300..310"])
+        self.assertEqual(
+            [line.split(": ")[0] for line in self.refresh("tens", "--from", "200")[1]], ["200..210", "300..310"]
+        )
         self.assertEqual(self.stale("tens"), [(40, 50)])
         self.assertEqual([line.split(": ")[0] for line in self.refresh("tens")[1]], ["40..50"])
         self.assertEqual(self.stale("tens"), [])
@@ -109,7 +116,9 @@ class RefreshTest(unittest.TestCase):
                              ("tens\na: DELETE FROM m", "has a control character")]:
             with self.subTest(view), self.assertRaisesRegex(Trouble, wanted):
                 self.refresh(view)
-        run = subprocess.Popen([programs.tsctl(), "run"], cwd=self.folder, stdin=subprocess.PIPE, stdout=subprocess.PIPE)
+        run = subprocess.Popen(
+            [programs.tsctl(), "run"], cwd=self.folder, stdin=subprocess.PIPE, stdout=subprocess.PIPE
+        )
         assert run.stdin and run.stdout
         run.stdin.write(b"a: COMMIT\n")
         run.stdin.flush()
@@ -123,7 +132,9 @@ class RefreshTest(unittest.TestCase):
         drops = JournalDrops(self.folder)
         self.assertIsNone(drops.kept_from("tens"))
         self.run_script(DROP)
-        self.assertEqual((drops.kept_from("tens"), drops.kept_from("sixties"), drops.kept_from("nosuch")), (130, 180, None))
+        self.assertEqual(
+            (drops.kept_from("tens"), drops.kept_from("sixties"), drops.kept_from("nosuch")), (130, 180, None)
+        )
         self.run_script("a: INSERT INTO m VALUES (199, 1)\na: SELECT drop_chunks('m', 300)\n")
         self.assertEqual(drops.kept_from("tens"), 210)
         self.assertIsNone(JournalDrops(self.folder / "nowhere").kept_from("tens"))

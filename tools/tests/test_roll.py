@@ -23,8 +23,11 @@ DAY = 86400
 START = 1704067200  # 2024-01-01
 SETUP = f"""a: CREATE TABLE m (time BIGINT NOT NULL, dev BIGINT, v BIGINT)
 a: SELECT create_hypertable('m', 'time', chunk_time_interval => {DAY})
-a: CREATE MATERIALIZED VIEW hours WITH (timescaledb.continuous) AS SELECT time_bucket(3600, time) AS hour, dev, count(*) AS n, count(v) AS c, sum(v) AS s, min(v) AS lo, max(v) AS hi, avg(v) AS mean FROM m GROUP BY hour, dev WITH NO DATA
-a: CREATE MATERIALIZED VIEW days WITH (timescaledb.continuous, timescaledb.materialized_only = false) AS SELECT time_bucket({DAY}, time) AS day, count(*) AS n, avg(v) AS mean FROM m GROUP BY day WITH NO DATA
+a: CREATE MATERIALIZED VIEW hours WITH (timescaledb.continuous) AS SELECT time_bucket(3600, time) AS hour, dev, \
+count(*) AS n, count(v) AS c, sum(v) AS s, min(v) AS lo, max(v) AS hi, avg(v) AS mean FROM m GROUP BY hour, dev WITH \
+NO DATA
+a: CREATE MATERIALIZED VIEW days WITH (timescaledb.continuous, timescaledb.materialized_only = false) AS SELECT \
+time_bucket({DAY}, time) AS day, count(*) AS n, avg(v) AS mean FROM m GROUP BY day WITH NO DATA
 """
 Rows = list[tuple[int, int, int | None]]
 
@@ -58,9 +61,13 @@ class RollTest(unittest.TestCase):
         with tempfile.TemporaryDirectory() as folder:
             inserts = ""
             for begin in range(0, len(cls.rows), 1000):
-                values = ", ".join(f"({time}, {dev}, {'NULL' if v is None else v})" for time, dev, v in cls.rows[begin : begin + 1000])
+                values = ", ".join(
+                    f"({time}, {dev}, {'NULL' if v is None else v})" for time, dev, v in cls.rows[begin : begin + 1000]
+                )
                 inserts += f"a: INSERT INTO m VALUES {values}\n"
-            refreshes = "".join(f"a: CALL refresh_continuous_aggregate('{view}', NULL, NULL)\n" for view in ("hours", "days"))
+            refreshes = "".join(
+                f"a: CALL refresh_continuous_aggregate('{view}', NULL, NULL)\n" for view in ("hours", "days")
+            )
             programs.call(["run"], (SETUP + inserts + refreshes).encode(), folder)
             cls.journal = (Path(folder) / "tsctl.journal").read_bytes()
 
@@ -101,7 +108,9 @@ class RollTest(unittest.TestCase):
         self.assertEqual(self.months("UTC"), folded(self.rows, "UTC"))
         printed, _ = self.roll("hours", "--by", "quarter", "--times", "s")
         lines = printed.splitlines()
-        self.assertEqual([line.split()[0] for line in lines[3:11]], [f"2024-Q{quarter}" for quarter in (1, 1, 2, 2, 3, 3, 4, 4)])
+        self.assertEqual(
+            [line.split()[0] for line in lines[3:11]], [f"2024-Q{quarter}" for quarter in (1, 1, 2, 2, 3, 3, 4, 4)]
+        )
         self.assertEqual([line.rpartition("  ")[2] for line in lines[3:11:2]][:3], ["dropped", "dropped", "stale"])
         self.assertIn("stale 2024-07-19 00:00..01:00", lines)
         self.assertTrue(any(line.startswith("dropped 2024-01-01") for line in lines))
@@ -119,7 +128,10 @@ class RollTest(unittest.TestCase):
         printed, _ = self.roll("hours", "--by", "year", "--times", "s", "--from", "2024-02-01")
         self.assertIn("cut 2024: from 2024-02-01 on", printed)
         self.assertNotIn("bucket", printed)
-        self.run_script(f"a: INSERT INTO m VALUES ({START + 400 * DAY}, 0, 1)\na: CALL refresh_continuous_aggregate('hours', NULL, NULL)\n")
+        self.run_script(
+            f"a: INSERT INTO m VALUES ({START + 400 * DAY}, 0, 1)\na: CALL refresh_continuous_aggregate('hours', NULL,"
+            " NULL)\n"
+        )
         printed, _ = self.roll("hours", "--by", "year", "--times", "s", "--from", "2025-01-01")
         self.assertIn("cut 2025: up to the watermark 2025-02-04 01:00", printed)
         # A real-time aggregate shows what is above its watermark.

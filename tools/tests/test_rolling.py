@@ -16,7 +16,9 @@ ALL = (
 )  # fmt: skip
 
 
-def aggregate(*values: Value, width: int = 10, never_null: tuple[str, ...] = ("time",), keys: tuple[str, ...] = ("dev",)) -> Aggregate:
+def aggregate(
+    *values: Value, width: int = 10, never_null: tuple[str, ...] = ("time",), keys: tuple[str, ...] = ("dev",)
+) -> Aggregate:
     return Aggregate("a", "b", width, 0, keys, values, False, "m", "time", ("time", "dev", "v"), frozenset(never_null))
 
 
@@ -63,7 +65,8 @@ class RollTest(unittest.TestCase):
                 self.assertEqual(([total.name for total in totals], left), (names, missing))
 
     def test_an_average_without_a_sum_is_exact(self) -> None:
-        rolled = roll_up(aggregate(ALL[5], ALL[1]), [["0", "1", "1/3", "3"], ["10", "1", "null", "0"], ["20", "1", "7/2", "2"]],
+        rolled = roll_up(aggregate(ALL[5], ALL[1]), [["0", "1", "1/3", "3"], ["10", "1", "null", "0"],
+                                                     ["20", "1", "7/2", "2"]],
                          lambda time: (0, 100))  # fmt: skip
         self.assertEqual(rolled.rows(), [["0", "1", "8/5", "5"]])
 

@@ -10,7 +10,7 @@ import time
 import unittest
 from pathlib import Path
 
-from tests.serving import NEEDS
+from tests.serving import NEEDS, await_that
 from tsqlib import programs
 from tsqlib.programs import Ended, Program
 
@@ -50,7 +50,9 @@ class InFolder(unittest.TestCase):
     def run_tsq(self, *words: str, script: bytes = b"", **environment: str) -> tuple[int, str, str]:
         """The status of tsq, and what it has printed and said."""
         words = (sys.executable, str(TSQ), *words)
-        done = subprocess.run(words, cwd=self.folder, input=script, capture_output=True, timeout=120, env=os.environ | environment)
+        done = subprocess.run(
+            words, cwd=self.folder, input=script, capture_output=True, timeout=120, env=os.environ | environment
+        )
         return done.returncode, done.stdout.decode(), done.stderr.decode()
 
     def slow(self) -> str:
@@ -61,16 +63,21 @@ class InFolder(unittest.TestCase):
         return str(path)
 
     def is_running(self, name: str) -> bool:
-        """Whether the process whose number a file has is there still."""
-        try:
-            return Path(f"/proc/{(self.folder / name).read_text().strip()}/stat").read_text().split()[2] != "Z"
-        except OSError:
-            return False
+        """Whether the process whose number a file has is there still. One that was killed may take a moment to end."""
+        stat = Path(f"/proc/{(self.folder / name).read_text().strip()}/stat")
+
+        def has_ended() -> bool:
+            try:
+                return stat.read_text().split()[2] == "Z"
+            except OSError:
+                return True
+
+        return not await_that(has_ended, 5)
 
     def await_file(self, name: str) -> None:
-        until = time.monotonic() + 20
-        while not (self.folder / name).exists() and time.monotonic() < until:
-            time.sleep(0.01)
+        """Waits until a file has something."""
+        path = self.folder / name
+        await_that(lambda: path.exists() and path.stat().st_size > 0)
 
 
 @NEEDS
@@ -78,7 +85,10 @@ class StreamTest(InFolder):
     def test_each_reply_comes_at_once(self) -> None:
         child = self.begin()
         assert child.stdin and child.stdout
-        for line, wanted in ((SETUP, [b"a: TABLE @1\n", b"a: HYPERTABLE @2\n", b"a: COMMIT @3 +2 -0\n"]), (b"a: BEGIN\n", [b"a: BEGIN\n"])):
+        for line, wanted in (
+            (SETUP, [b"a: TABLE @1\n", b"a: HYPERTABLE @2\n", b"a: COMMIT @3 +2 -0\n"]),
+            (b"a: BEGIN\n", [b"a: BEGIN\n"]),
+        ):
             child.stdin.write(line)
             child.stdin.flush()
             self.assertEqual([child.stdout.readline() for _ in wanted], wanted)
@@ -103,7 +113,10 @@ class StreamTest(InFolder):
 
     def test_numbers_of_lines_are_those_of_the_script(self) -> None:
         _, out, _ = self.run_tsq(script=b"\na: SELECT\n  *;\n\n\xff\nno session\n")
-        self.assertEqual([line for line in out.splitlines() if "FAULT" in line or " | " in line][:2], ["a: FAULT E05 syntax at 12", "  2 | a: SELECT *;"])
+        self.assertEqual(
+            [line for line in out.splitlines() if "FAULT" in line or " | " in line][:2],
+            ["a: FAULT E05 syntax at 12", "  2 | a: SELECT *;"],
+        )
         self.assertIn("line 5: FAULT E02", out)
         self.assertIn("line 6: FAULT E03", out)
 

@@ -9,17 +9,23 @@ from tsqlib.scripts import Script, given_from, given_of, is_whole, lines_from, l
 from tsqlib.statements import MOST_LINE, tokens_in
 
 WHOLE = (
-    "SELECT * FROM m", "select * from m where v = 7", "BEGIN", "COMMIT", "TICK 5", "DELETE FROM m", "INSERT INTO m VALUES (1, 2)",
+    "SELECT * FROM m", "select * from m where v = 7", "BEGIN", "COMMIT", "TICK 5", "DELETE FROM m",
+    "INSERT INTO m VALUES (1, 2)",
     "SELECT time_bucket(10, time), count(*) FROM m GROUP BY 1", "CALL refresh_continuous_aggregate('c', NULL, NULL)",
-    "CREATE TABLE m (time BIGINT NOT NULL)", "REFRESH CUT 'c', NULL, NULL", "SELECT create_hypertable('m', 'time', chunk_time_interval => 7)",
-    "ALTER MATERIALIZED VIEW c SET (timescaledb.materialized_only = true)", "no such statement", "SELECT * FROM m WHERE v IS NULL",
+    "CREATE TABLE m (time BIGINT NOT NULL)", "REFRESH CUT 'c', NULL, NULL",
+    "SELECT create_hypertable('m', 'time', chunk_time_interval => 7)",
+    "ALTER MATERIALIZED VIEW c SET (timescaledb.materialized_only = true)", "no such statement",
+    "SELECT * FROM m WHERE v IS NULL",
     "CREATE MATERIALIZED VIEW c WITH (timescaledb.continuous) AS SELECT time_bucket(1, t), count(*) FROM m GROUP BY 1",
 )  # fmt: skip
 OPEN = (
-    "", "SELECT * FROM", "SELECT", "SELECT *", "DELETE", "DELETE FROM m WHERE", "DELETE FROM m WHERE v =", "INSERT INTO m",
-    "INSERT INTO m VALUES", "INSERT INTO m VALUES (1, 2),", "INSERT INTO m VALUES (1,", "CREATE TABLE m", "CREATE TABLE m (time BIGINT",
+    "", "SELECT * FROM", "SELECT", "SELECT *", "DELETE", "DELETE FROM m WHERE", "DELETE FROM m WHERE v =",
+    "INSERT INTO m",
+    "INSERT INTO m VALUES", "INSERT INTO m VALUES (1, 2),", "INSERT INTO m VALUES (1,", "CREATE TABLE m",
+    "CREATE TABLE m (time BIGINT",
     "SELECT time_bucket(10, time), count(*) FROM m", "CREATE MATERIALIZED VIEW c WITH (timescaledb.continuous) AS",
-    "ALTER MATERIALIZED VIEW c", "CALL refresh_continuous_aggregate('c', NULL,", "SELECT * FROM m WHERE v IS", "SELECT * FROM m WHERE v IS NOT",
+    "ALTER MATERIALIZED VIEW c", "CALL refresh_continuous_aggregate('c', NULL,", "SELECT * FROM m WHERE v IS",
+    "SELECT * FROM m WHERE v IS NOT",
 )  # fmt: skip
 
 
@@ -68,19 +74,47 @@ class TokensTest(unittest.TestCase):
 
 class ScriptTest(unittest.TestCase):
     def test_whole_lines_stay_as_they_are(self) -> None:
-        script = "a: DELETE FROM m\r\n\n-- x\na: SELECT * FROM m -- WHERE\nb: COMMIT; BEGIN\nSELECT 1\na:\na: DELETE FROM m"
-        wanted = [(1, "a: DELETE FROM m\r"), (4, "a: SELECT * FROM m -- WHERE"), (5, "b: COMMIT; BEGIN"), (6, "SELECT 1"), (7, "a:"), (8, "a: DELETE FROM m")]
+        script = (
+            "a: DELETE FROM m\r\n\n-- x\na: SELECT * FROM m -- WHERE\nb: COMMIT; BEGIN\nSELECT 1\na:\na: DELETE FROM m"
+        )
+        wanted = [
+            (1, "a: DELETE FROM m\r"),
+            (4, "a: SELECT * FROM m -- WHERE"),
+            (5, "b: COMMIT; BEGIN"),
+            (6, "SELECT 1"),
+            (7, "a:"),
+            (8, "a: DELETE FROM m"),
+        ]
         self.assertEqual(texts(script), wanted)
 
     def test_statements_over_lines_are_joined(self) -> None:
         for script, wanted in (
             ("a: DELETE FROM m\n  WHERE v = 7;\n", [(1, "a: DELETE FROM m WHERE v = 7;")]),
-            ("\na: DELETE FROM m -- all?\n\n-- no\nWHERE v = 7 ; -- end\nb: BEGIN", [(2, "a: DELETE FROM m WHERE v = 7 ;"), (6, "b: BEGIN")]),
+            (
+                "\na: DELETE FROM m -- all?\n\n-- no\nWHERE v = 7 ; -- end\nb: BEGIN",
+                [(2, "a: DELETE FROM m WHERE v = 7 ;"), (6, "b: BEGIN")],
+            ),
             ("a: DELETE FROM m\nv = 7;", [(1, "a: DELETE FROM m v = 7;")]),
             ("a:\nSELECT * FROM m;", [(1, "a: SELECT * FROM m;")]),
-            ("a: CREATE MATERIALIZED VIEW c WITH (x) AS\nSELECT time_bucket(1, t), count(*)\nFROM m GROUP BY 1\nWITH NO DATA;",
-             [(1, "a: CREATE MATERIALIZED VIEW c WITH (x) AS SELECT time_bucket(1, t), count(*) FROM m GROUP BY 1 WITH NO DATA;")]),
-            ("a: INSERT INTO m VALUES\n('a -- b'), -- c\n('d;');", [(1, "a: INSERT INTO m VALUES ('a -- b'), ('d;');")]),
+            (
+                (
+                    "a: CREATE MATERIALIZED VIEW c WITH (x) AS\nSELECT time_bucket(1, t), count(*)\nFROM m GROUP BY"
+                    " 1\nWITH NO DATA;"
+                ),
+                [
+                    (
+                        1,
+                        (
+                            "a: CREATE MATERIALIZED VIEW c WITH (x) AS SELECT time_bucket(1, t), count(*) FROM m GROUP"
+                            " BY 1 WITH NO DATA;"
+                        ),
+                    )
+                ],
+            ),
+            (
+                "a: INSERT INTO m VALUES\n('a -- b'), -- c\n('d;');",
+                [(1, "a: INSERT INTO m VALUES ('a -- b'), ('d;');")],
+            ),
         ):
             self.assertEqual(texts(script), wanted)
 
@@ -104,7 +138,8 @@ class StreamTest(unittest.TestCase):
     def test_whole_lines_are_given_at_once_but_those_that_remove_rows(self) -> None:
         reader = Script(is_stream=True)
         for number, line, wanted in (
-            (1, "a: SELECT * FROM m", 1), (2, "a: DELETE FROM m", 0), (3, "b: BEGIN", 2), (4, "a: SELECT drop_chunks('m', 5)", 0),
+            (1, "a: SELECT * FROM m", 1), (2, "a: DELETE FROM m", 0), (3, "b: BEGIN", 2),
+            (4, "a: SELECT drop_chunks('m', 5)", 0),
             (5, "", 0), (6, "a: CREATE TABLE m", 1), (7, "(time BIGINT", 0), (8, ");", 1), (9, "a: DELETE FROM m;", 1),
         ):  # fmt: skip
             self.assertEqual(len(list(reader.add(number, line.encode()))), wanted, line)

@@ -34,7 +34,8 @@ def schema() -> Schema:
 class IntervalTest(unittest.TestCase):
     def test_lengths(self) -> None:
         for text, seconds in (
-            ("1 hour", 3600), ("90 minutes", 5400), ("1 day 06:30", DAY + 23400), ("2h", 7200), ("1.5 hours", 5400), ("00:00:05", 5),
+            ("1 hour", 3600), ("90 minutes", 5400), ("1 day 06:30", DAY + 23400), ("2h", 7200), ("1.5 hours", 5400),
+            ("00:00:05", 5),
             ("1 week", 7 * DAY), (" 3  DAYS ", 3 * DAY), ("-1 hour", -3600), ("1 hour 1 min 1 sec", 3661), ("0 s", 0),
         ):  # fmt: skip
             self.assertEqual(nanoseconds_of(text), seconds * 10**9, text)
@@ -42,7 +43,19 @@ class IntervalTest(unittest.TestCase):
         self.assertEqual(length_of("5 us", "us"), 5)
 
     def test_what_is_no_length(self) -> None:
-        for text in ("", "hour", "1", "1 month", "2 years", "1 fortnight", "1 hour x", "1 hour;", "2026-10-25", "-", "1 . 5 h"):
+        for text in (
+            "",
+            "hour",
+            "1",
+            "1 month",
+            "2 years",
+            "1 fortnight",
+            "1 hour x",
+            "1 hour;",
+            "2026-10-25",
+            "-",
+            "1 . 5 h",
+        ):
             with self.assertRaises(Bad, msg=text):
                 nanoseconds_of(text)
         with self.assertRaisesRegex(Bad, "whole number of s"):
@@ -52,13 +65,18 @@ class IntervalTest(unittest.TestCase):
 class SlotTest(unittest.TestCase):
     def found(self, text: str) -> list[tuple[str, str, str]]:
         tokens = tokens_in(text)
-        return [(" ".join(it.text for it in tokens[slot.first : slot.last]), slot.kind, slot.column) for slot in sorted(slots(tokens, schema()))]
+        return [
+            (" ".join(it.text for it in tokens[slot.first : slot.last]), slot.kind, slot.column)
+            for slot in sorted(slots(tokens, schema()))
+        ]
 
     def test_places_are_found_by_the_kind_of_statement(self) -> None:
         for text, wanted in (
             ("INSERT INTO m VALUES ('x', 2, NULL), (4, 5, 6)",
-             [("'x'", TIME, "time"), ("2", VALUE, "dev"), ("NULL", VALUE, "v"), ("4", TIME, "time"), ("5", VALUE, "dev"), ("6", VALUE, "v")]),
-            ("INSERT INTO M (dev, TIME) VALUES (1, now() - INTERVAL '1 s')", [("1", VALUE, "dev"), ("now ( ) - INTERVAL '1 s'", TIME, "time")]),
+             [("'x'", TIME, "time"), ("2", VALUE, "dev"), ("NULL", VALUE, "v"), ("4", TIME, "time"),
+              ("5", VALUE, "dev"), ("6", VALUE, "v")]),
+            ("INSERT INTO M (dev, TIME) VALUES (1, now() - INTERVAL '1 s')",
+             [("1", VALUE, "dev"), ("now ( ) - INTERVAL '1 s'", TIME, "time")]),
             ("INSERT INTO odd VALUES (1, 2)", [("1", VALUE, "v"), ("2", TIME, "at")]),
             ("INSERT INTO nothing VALUES (1, 2)", []),
             ("DELETE FROM m WHERE time >= 'a' AND dev='b'", [("'a'", TIME, "time"), ("'b'", VALUE, "dev")]),
@@ -72,11 +90,14 @@ class SlotTest(unittest.TestCase):
             ("SELECT drop_chunks('m', older_than => 'a')", [("'a'", AGE, "")]),
             ("CALL refresh_continuous_aggregate('c', 'a', NULL)", [("'a'", TIME, ""), ("NULL", TIME, "")]),
             ("REFRESH CUT 'c', NULL, 'a'", [("NULL", TIME, ""), ("'a'", TIME, "")]),
-            ("SELECT add_retention_policy('m', drop_after => '1 d', schedule_interval => 5)", [("'1 d'", LENGTH, ""), ("5", LENGTH, "")]),
-            ("CREATE MATERIALIZED VIEW d WITH (timescaledb.continuous) AS SELECT time_bucket('1 h', time), sum(v) FROM m WHERE dev = 'p' GROUP BY 1 WITH NO DATA",
+            ("SELECT add_retention_policy('m', drop_after => '1 d', schedule_interval => 5)",
+             [("'1 d'", LENGTH, ""), ("5", LENGTH, "")]),
+            ("CREATE MATERIALIZED VIEW d WITH (timescaledb.continuous) AS SELECT time_bucket('1 h', time), sum(v) "
+             "FROM m WHERE dev = 'p' GROUP BY 1 WITH NO DATA",
              [("'1 h'", LENGTH, ""), ("'p'", VALUE, "dev")]),
             ("TICK now()", [("now ( )", TIME, "")]),
-            ("BEGIN", []), ("INSERT INTO m VALUES (1,", [("1", TIME, "time")]), ("SELECT", []), ("INSERT", []), ("REFRESH", []),
+            ("BEGIN", []), ("INSERT INTO m VALUES (1,", [("1", TIME, "time")]), ("SELECT", []), ("INSERT", []),
+            ("REFRESH", []),
         ):  # fmt: skip
             self.assertEqual(self.found(text), wanted, text)
 
@@ -98,18 +119,26 @@ class TranslatorTest(unittest.TestCase):
         for text, sent in (
             ("a: SELECT * FROM m", "a: SELECT * FROM m"),
             ("a: TICK NOW ( );", f"a: TICK {DATE + 100};"),
-            ("a: INSERT INTO m VALUES ('2026-10-25 02:00+02:00', 'pump-a', 5) -- 'x'", f"a: INSERT INTO m VALUES ({DATE}, 1, 5) -- 'x'"),
-            ("a: INSERT INTO m VALUES ('2026-10-25T00:00:01Z', 'it''s -- odd', 5)", f"a: INSERT INTO m VALUES ({DATE + 1}, 2, 5)"),
-            ("a:DELETE FROM m WHERE dev=' pump-a 'AND time<DATE'2026-10-25'", f"a:DELETE FROM m WHERE dev=1AND time<{DATE}"),
-            ("a: SELECT * FROM m WHERE time >= now() - INTERVAL '1 day' + INTERVAL '1 s'", f"a: SELECT * FROM m WHERE time >= {DATE + 101 - DAY}"),
+            ("a: INSERT INTO m VALUES ('2026-10-25 02:00+02:00', 'pump-a', 5) -- 'x'",
+             f"a: INSERT INTO m VALUES ({DATE}, 1, 5) -- 'x'"),
+            ("a: INSERT INTO m VALUES ('2026-10-25T00:00:01Z', 'it''s -- odd', 5)",
+             f"a: INSERT INTO m VALUES ({DATE + 1}, 2, 5)"),
+            ("a:DELETE FROM m WHERE dev=' pump-a 'AND time<DATE'2026-10-25'",
+             f"a:DELETE FROM m WHERE dev=1AND time<{DATE}"),
+            ("a: SELECT * FROM m WHERE time >= now() - INTERVAL '1 day' + INTERVAL '1 s'",
+             f"a: SELECT * FROM m WHERE time >= {DATE + 101 - DAY}"),
             ("a: SELECT drop_chunks('m', INTERVAL '1 day')", f"a: SELECT drop_chunks('m', {DATE + 100 - DAY})"),
-            ("a: SELECT drop_chunks('m', older_than => TIMESTAMPTZ '2026-10-25')", f"a: SELECT drop_chunks('m', older_than => {DATE})"),
-            ("a: CALL refresh_continuous_aggregate('c', NULL, '2026-10-25')", f"a: CALL refresh_continuous_aggregate('c', NULL, {DATE})"),
+            ("a: SELECT drop_chunks('m', older_than => TIMESTAMPTZ '2026-10-25')",
+             f"a: SELECT drop_chunks('m', older_than => {DATE})"),
+            ("a: CALL refresh_continuous_aggregate('c', NULL, '2026-10-25')",
+             f"a: CALL refresh_continuous_aggregate('c', NULL, {DATE})"),
             ("a: REFRESH CUT 'c', '2026-10-25', NULL", f"a: REFRESH CUT 'c', {DATE}, NULL"),
             ("a: SELECT calendar_bucket(1, 'month', time), count(*) FROM m GROUP BY 1",) * 2,
         ):  # fmt: skip
             self.assertEqual(translator.translated(text), sent)
-        self.assertEqual(self.translator("us").translated("a: TICK '2026-10-25 00:00:00.25'"), f"a: TICK {DATE * 10**6 + 250000}")
+        self.assertEqual(
+            self.translator("us").translated("a: TICK '2026-10-25 00:00:00.25'"), f"a: TICK {DATE * 10**6 + 250000}"
+        )
 
     def test_what_is_not_sent(self) -> None:
         translator = self.translator()
@@ -136,12 +165,19 @@ class TranslatorTest(unittest.TestCase):
 
     def test_nothing_is_touched_without_unit_and_texts(self) -> None:
         translator = self.translator(None, texts=False)
-        for text in ("a: TICK now()", "a: SELECT * FROM m WHERE dev = 'pump-a'", "a: INSERT INTO m VALUES ('2026-10-25', 1, 1)"):
+        for text in (
+            "a: TICK now()",
+            "a: SELECT * FROM m WHERE dev = 'pump-a'",
+            "a: INSERT INTO m VALUES ('2026-10-25', 1, 1)",
+        ):
             self.assertEqual(translator.translated(text), text)
 
     def test_new_texts_are_on_the_disk_before_their_rows(self) -> None:
         translator = self.translator(new=frozenset(["v"]))
-        self.assertEqual(translator.translated("a: INSERT INTO m VALUES (1, 'pump-c', 'x'), (2, 'pump-c', 'x')"), "a: INSERT INTO m VALUES (1, 3, 1), (2, 3, 1)")
+        self.assertEqual(
+            translator.translated("a: INSERT INTO m VALUES (1, 'pump-c', 'x'), (2, 'pump-c', 'x')"),
+            "a: INSERT INTO m VALUES (1, 3, 1), (2, 3, 1)",
+        )
         kept = Names.read(self.folder)
         self.assertEqual((kept.number_of("dev", "pump-c"), kept.number_of("v", "x"), kept.times), (3, 1, "s"))
 

@@ -101,7 +101,9 @@ class ValuesTest(unittest.TestCase):
         convert = converter(Column("v", 0, 1), "null", frozenset({"null", "n/a"}))
         self.assertEqual([convert(it) for it in ["", " ", "NULL", "N/A", " 1.5 ", "2"]], ["null"] * 4 + ["15", "20"])
         plain = converter(Column("v", 0), "null", frozenset({"null"}))
-        self.assertEqual([plain(it) for it in ["7", "07", "-7", "9223372036854775807"]], ["7", "7", "-7", str(2**63 - 1)])
+        self.assertEqual(
+            [plain(it) for it in ["7", "07", "-7", "9223372036854775807"]], ["7", "7", "-7", str(2**63 - 1)]
+        )
         for text in ["9223372036854775808", "-9223372036854775809", "1.5", "²", "x"]:
             self.assertRaises(Bad, plain, text)
         time = converter(Column("time", 0, times=Times()), "null", frozenset({"null"}))

@@ -65,14 +65,30 @@ def low_end(bounds: Range) -> int:
     return BELOW_ALL if bounds[0] is None else bounds[0]
 
 
-def is_stale(reply: Reply, row: list[str]) -> bool:
-    """Whether the bucket of a row lies in a stale range of the answer."""
-    if not reply.stale:
+def lies_in(ranges: list[Range], row: list[str]) -> bool:
+    """Whether the bucket of a row lies in one of these ranges."""
+    if not ranges:
         return False
     start = int(row[0])
     # The ranges rise and don't meet, so of those that begin at or before the start the last one may hold it.
-    begun = bisect_right(reply.stale, start, key=low_end)
-    return begun > 0 and start < int(reply.stale[begun - 1][1])
+    begun = bisect_right(ranges, start, key=low_end)
+    return begun > 0 and start < int(ranges[begun - 1][1])
+
+
+def is_stale(reply: Reply, row: list[str]) -> bool:
+    """Whether the bucket of a row lies in a stale range of the answer."""
+    return lies_in(reply.stale, row)
+
+
+def mark_of(reply: Reply, row: list[str]) -> str:
+    """What is said of a row."""
+    return "stale" if is_stale(reply, row) else "dropped" if lies_in(reply.dropped, row) else ""
+
+
+def range_lines(reply: Reply, unit: str | None, is_iso: bool = False) -> list[str]:
+    """Lines that name the ranges of dropped rows, and the stale ranges."""
+    named = [("dropped", bounds) for bounds in reply.dropped] + [("stale", bounds) for bounds in reply.stale]
+    return [f"{word} {range_text(bounds, unit, is_iso)}" for word, bounds in named]
 
 
 def range_text(bounds: Range, unit: str | None, is_iso: bool = False) -> str:
@@ -129,18 +145,12 @@ def columns_of(reply: Reply, output: Output, style: Style, is_iso: bool = False)
 # ---- tables
 
 
-def mark_of(reply: Reply, dropped: Reply, row: list[str]) -> str:
-    """What is said of a row in a table."""
-    return "stale" if is_stale(reply, row) else "dropped" if is_stale(dropped, row) else ""
-
-
-def table(reply: Reply, output: Output, style: Style, gone: list[Range] | None = None) -> list[str]:
+def table(reply: Reply, output: Output, style: Style) -> list[str]:
     """The lines of a table: names, a rule and the rows, in which a stale bucket is marked; then the stale ranges, and
     apart from them those whose rows were dropped."""
     columns = columns_of(reply, output, style)
-    dropped = reply._replace(stale=gone or [])
-    if reply.stale or gone:
-        columns.append(Column("stale", [mark_of(reply, dropped, row) for row in reply.rows], ""))
+    if reply.stale or reply.dropped:
+        columns.append(Column("stale", [mark_of(reply, row) for row in reply.rows], ""))
     written = []
     for column in columns:
         # Beside a NULL average stands no fraction.
@@ -149,9 +159,7 @@ def table(reply: Reply, output: Output, style: Style, gone: list[Range] | None =
         align = str.rjust if column.heading else str.ljust
         rule = "-" * width if column.heading else ""
         written.append([align(text, width) for text in [column.heading, rule, *texts]])
-    lines = ["  ".join(cells).rstrip() for cells in zip(*written)]
-    lines += [f"dropped {range_text(bounds, style.unit)}" for bounds in dropped.stale]
-    return lines + [f"stale {range_text(bounds, style.unit)}" for bounds in reply.stale]
+    return ["  ".join(cells).rstrip() for cells in zip(*written)] + range_lines(reply, style.unit)
 
 
 def expanded(reply: Reply, output: Output, style: Style) -> list[str]:
@@ -160,19 +168,21 @@ def expanded(reply: Reply, output: Output, style: Style) -> list[str]:
     width = max((len(column.name) for column in columns), default=0)
     lines = []
     for number, row in enumerate(reply.rows):
-        lines.append(f"-- row {number + 1}" + " stale" * is_stale(reply, row))
+        lines.append(f"-- row {number + 1} {mark_of(reply, row)}".rstrip())
         lines += [f"{column.name.ljust(width)}  {column.texts[number]}" for column in columns]
-    return lines + [f"stale {range_text(bounds, style.unit)}" for bounds in reply.stale]
+    return lines + range_lines(reply, style.unit)
 
 
 # ---- for other programs
 
 
 def columns_for_programs(reply: Reply, output: Output, style: Style) -> list[Column]:
-    """The columns of an answer under different names, with `true` or `false` for stale buckets."""
+    """The columns of an answer under different names, with `true` or `false` for stale buckets, and for those of
+    dropped rows."""
     columns = columns_of(reply, output, style, is_iso=True)
-    if output.is_view or reply.stale:
-        columns.append(Column("stale", [str(is_stale(reply, row)).lower() for row in reply.rows], ""))
+    if output.is_view or reply.stale or reply.dropped:
+        for name, ranges in (("stale", reply.stale), ("dropped", reply.dropped)):
+            columns.append(Column(name, [str(lies_in(ranges, row)).lower() for row in reply.rows], ""))
     names = distinct([column.name for column in columns])
     return [column._replace(name=name) for name, column in zip(names, columns)]
 
@@ -232,17 +242,34 @@ def range_cells(bounds: Range, style: Style) -> list[str]:
     return ["null" if bound is None else time_text(bound, style.unit, is_iso=True) for bound in bounds]
 
 
+def marked(reply: Reply) -> list[tuple[Range, str]]:
+    """The stale ranges and those of dropped rows by their times, with `true` for the latter."""
+    found = [(bounds, "false") for bounds in reply.stale] + [(bounds, "true") for bounds in reply.dropped]
+    return sorted(found, key=lambda item: low_end(item[0]))
+
+
 def csv_ranges(reply: Reply, _output: Output, style: Style) -> list[str]:
-    """The stale ranges of an answer as CSV, with `from` and `to` in its first line; `min` is an empty cell."""
-    cells = [range_cells(bounds, style) for bounds in reply.stale]
-    return ["from,to", *(",".join("" if cell == "null" else cell for cell in row) for row in cells)]
+    """The stale ranges of an answer as CSV, with `from`, `to` and `dropped` in its first line; `min` is an empty
+    cell."""
+    cells = [[*range_cells(bounds, style), is_dropped] for bounds, is_dropped in marked(reply)]
+    return ["from,to,dropped", *(",".join("" if cell == "null" else cell for cell in row) for row in cells)]
+
+
+def json_ends(bounds: Range, style: Style) -> str:
+    """The ends of a range as fields of JSON."""
+    column = Column("", [], "", is_text=bool(style.unit))
+    low, high = (json_cell(cell, column, style) for cell in range_cells(bounds, style))
+    return f'"from": {low}, "to": {high}'
 
 
 def json_ranges(reply: Reply, _output: Output, style: Style) -> list[str]:
     """The stale ranges of an answer as JSON, an object a range."""
-    column = Column("", [], "", is_text=bool(style.unit))
-    rows = [[json_cell(cell, column, style) for cell in range_cells(bounds, style)] for bounds in reply.stale]
-    return ["{" + f'"from": {low}, "to": {high}' + "}" for low, high in rows]
+    return [f'{{{json_ends(bounds, style)}, "dropped": {is_dropped}}}' for bounds, is_dropped in marked(reply)]
+
+
+def json_list(ranges: list[Range], style: Style) -> str:
+    """Ranges as a list of JSON."""
+    return "[" + ", ".join(f"{{{json_ends(bounds, style)}}}" for bounds in ranges) + "]"
 
 
 # ---- an object for each reply
@@ -254,8 +281,8 @@ def object_of(fields: Iterable[tuple[str, str]]) -> str:
 
 
 def answer_object(reply: Reply, output: Output | None, style: Style) -> str:
-    """A reply as one object of JSON: its line, session and position; of an answer its columns, rows and stale ranges;
-    else its lines, and of a refusal its number, word and place."""
+    """A reply as one object of JSON: its line, session and position; of an answer its columns, rows, stale ranges and
+    ranges of dropped rows; else its lines, and of a refusal its number, word and place."""
     position = reply.position()
     fields: list[tuple[str, Any]] = [
         ("line", reply.line.number), ("session", reply.line.session), ("position", position), ("reply", reply.texts()),
@@ -267,5 +294,5 @@ def answer_object(reply: Reply, output: Output | None, style: Style) -> str:
         columns = [column.name for column in columns_for_programs(reply, output, style)]
         written.append(("columns", json.dumps(columns)))
         written.append(("rows", "[" + ", ".join(json_rows(reply, output, style)) + "]"))
-        written.append(("stale", "[" + ", ".join(json_ranges(reply, output, style)) + "]"))
+        written += [("stale", json_list(reply.stale, style)), ("dropped", json_list(reply.dropped, style))]
     return object_of(written)

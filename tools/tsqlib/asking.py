@@ -2,6 +2,7 @@
 from __future__ import annotations
 
 import re
+from collections.abc import Callable
 from dataclasses import dataclass
 from pathlib import Path
 
@@ -11,10 +12,12 @@ from .dropped import parted
 from .follower import open_snapshot
 from .journal import LEAST_TIME, MOST_TIME
 from .messages import Trouble
+from .names import Names, Unit
 from .refusals import explanation
 from .replies import Range, Reply, replies_in
-from .schema import Output, Schema, source_of
+from .schema import Output, Schema, learn_folder, source_of
 from .statements import Line
+from .translation import NotSent, Translator
 
 QUERIES = (["select", "*"], ["select", "time_bucket"])
 POSITION = re.compile(r"ANSWER @(\d+)")
@@ -75,17 +78,38 @@ def select_text(aggregate: Aggregate, low: int | None, high: int | None, tests: 
     return f"SELECT * FROM {aggregate.name}" + f" WHERE {where}" * bool(where)
 
 
+Translate = Callable[[str], str]
+
+
+def translator(folder: str | Path, names: Names, unit: Unit | None) -> Translate:
+    """A function that lets dates, lengths of time and texts of keys in a statement be numbers, as in scripts."""
+    schema = Schema()
+    learn_folder(schema, Path(folder))
+    found = Translator(schema, names, unit)
+
+    def translate(statement: str) -> str:
+        try:
+            return found.translated(statement)
+        except NotSent as why:
+            raise Trouble(str(why)) from None
+
+    return translate
+
+
 def position_of(reply: Reply) -> int:
     """The position at which an answer was given."""
     found = POSITION.match(reply.texts()[0])
     return int(found[1]) if found else 0
 
 
-def ask(folder: str, name: str, low: int | None = None, high: int | None = None, tests: str = "") -> Shown:
-    """What an aggregate shows of some of its buckets, and its watermark."""
+def ask(
+    folder: str, name: str, low: int | None = None, high: int | None = None, tests: str = "",
+    translate: Translate = str,
+) -> Shown:  # fmt: skip
+    """What an aggregate shows of some of its buckets, and its watermark. Tests may have what `translate` translates."""
     # The copy may lack what is before an image, which tells what was dropped: so it isn't asked for that.
     aggregate = aggregate_in(folder, name)
-    question = select_text(aggregate, low, high, tests)
+    question = translate(select_text(aggregate, low, high, tests))
     with open_snapshot(folder) as copy:
         replies = replies_to([question, *watermark_question(aggregate)], copy.folder)
     reply = answered(replies[0])
@@ -100,10 +124,10 @@ def watermark_of(replies: list[Reply]) -> int | None:
     return probe.stale[-1][1] if probe.stale else None
 
 
-def ask_query(folder: str, query: str) -> Shown:
+def ask_query(folder: str, title: str, translate: Translate = str) -> Shown:
     """What a query by buckets answers. It is one statement, since it has no line's end. Of a roll-up over an aggregate,
     the stale ranges are those of the aggregate itself."""
-    checked_text(query, "--query")
+    query = translate(checked_text(title, "--query"))
     tokens = Line(1, None, query).tokens()
     if tokens[:2] not in QUERIES:
         raise Trouble("--query is a SELECT of an aggregate, or by time_bucket; --by adds up by the calendar")
@@ -116,8 +140,8 @@ def ask_query(folder: str, query: str) -> Shown:
         if output is None or not output.width:
             raise Trouble("--query has no buckets to draw")
         if source not in schema.sources:
-            return Shown(query, output, reply.rows, [], [], position_of(reply))
+            return Shown(title, output, reply.rows, [], [], position_of(reply))
         aggregate = aggregate_in(folder, source)
         replies = replies_to([f"SELECT * FROM {source}", *watermark_question(aggregate)], copy.folder)
     dropped, late = parted(answered(replies[0]).stale, aggregate.kept_from)
-    return Shown(query, output, reply.rows, late, dropped, position_of(reply), watermark_of(replies[1:]))
+    return Shown(title, output, reply.rows, late, dropped, position_of(reply), watermark_of(replies[1:]))

@@ -68,13 +68,16 @@ def aggregates(prompt: Prompt, name: str) -> list[str]:
 
 
 def show_stale(prompt: Prompt, name: str) -> None:
-    """`\\stale`: the stale ranges of aggregates."""
-    unit = prompt.printer.style.unit
+    """`\\stale`: the stale ranges of aggregates, and those of dropped rows, which a refresh would lose."""
+    unit, drops = prompt.printer.style.unit, prompt.printer.drops
     rows = []
     for view in aggregates(prompt, name):
-        ranges = prompt.talk.stale_ranges(view)
-        rows += [[view, describe.bound_text(low, unit), describe.bound_text(high, unit)] for low, high in ranges]
-    prompt.show(describe.columns_of_rows(["aggregate", "stale from", "to"], rows) if rows else ["nothing is stale"])
+        reply = prompt.talk.stale_ranges(view)
+        reply = drops.parted(reply, prompt.schema.outputs[view].width) if drops else reply
+        for word, ranges in (("dropped", reply.dropped), ("stale", reply.stale)):
+            rows += [[view, word, *(describe.bound_text(end, unit) for end in bounds)] for bounds in ranges]
+    lines = describe.columns_of_rows(["aggregate", "range", "from", "to"], rows)
+    prompt.show(lines if rows else ["nothing is stale"])
 
 
 def show_watermark(prompt: Prompt, name: str) -> None:

@@ -32,7 +32,12 @@ class Parts:
         return self
 
     def __exit__(self, *_: object) -> None:
+        self.close()
+
+    def close(self) -> None:
+        """Frees all rows."""
         self.file.close()
+        self.waiting, self.segments = {}, {}
 
     def add(self, time: int, row: str) -> None:
         """Adds a row."""

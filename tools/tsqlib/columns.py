@@ -43,7 +43,9 @@ class Kinds:
 
     def of_table(self, table: Relation) -> list[Kind]:
         """Those of a table's columns, by their numbers: the time is the first."""
-        return [self.kind(name, place == 0 and table.hyper is not None) for place, (name, _) in enumerate(numbered(table))]
+        return [
+            self.kind(name, place == 0 and table.hyper is not None) for place, (name, _) in enumerate(numbered(table))
+        ]
 
     def kind(self, name: str, is_time: bool) -> Kind:
         """That of a column."""
@@ -54,7 +56,8 @@ class Kinds:
         return Kind(scale=self.scales.get(name, self.names.scale_of(name)))
 
     def check(self, view: View, table: Relation) -> None:
-        """Lets columns of texts that an aggregate needs as numbers be numbers. Times that are added up can't be dates."""
+        """Lets columns of texts that an aggregate needs as numbers be numbers. Times that are added up can't be
+        dates."""
         names = [name for name, _ in numbered(table)]
         kinds = self.of_table(table)
         for function in view.functions:

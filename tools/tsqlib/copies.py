@@ -50,7 +50,11 @@ def remove_left(path: Path) -> int:
     """Removes the copies whose processes have ended, and gives the number of the others."""
     count = 0
     for folder in path.glob(FRONT + "*"):
-        lock = locked(folder / LOCK, fcntl.LOCK_EX | fcntl.LOCK_NB)
+        try:
+            lock = locked(folder / LOCK, fcntl.LOCK_EX | fcntl.LOCK_NB)
+        except FileNotFoundError:
+            # Its process has removed it since it was found.
+            continue
         if lock is None:
             count += 1
             continue
@@ -70,7 +74,7 @@ class Copy:
 
     @staticmethod
     def make() -> tuple[Path, int]:
-        """A new folder, and the lock on it. No other process makes or removes one meanwhile."""
+        """A new folder, and the lock on it. No other process makes one meanwhile, or removes another process's."""
         path = room()
         guard = locked(path / "lock", fcntl.LOCK_EX)
         assert guard is not None

@@ -9,10 +9,12 @@ import io
 import logging
 import pickle
 import sys
+import textwrap
 import warnings
-from collections.abc import Iterator
+from collections.abc import Iterator, Sequence
 from contextlib import contextmanager
 from datetime import datetime, timezone
+from statistics import median
 from typing import TYPE_CHECKING, Any
 from zoneinfo import ZoneInfo
 
@@ -42,6 +44,10 @@ WIDTH, PANEL, FRAME, WORD = 10.0, 2.2, 1.0, 0.19
 LEAST_POINTS = 3.1
 POINTS, PNG_DOTS = 72, 120
 MOST_LABELS = 8
+# A label that is closer to the next one than this part of the usual distance is left out.
+CLOSE = 0.9
+# A title has so many lines of so many letters.
+TITLE_LETTERS, TITLE_LINES = 90, 3
 LEGEND_ROWS = 14
 # A line of more points is thinner.
 MANY_POINTS = 1000
@@ -88,6 +94,18 @@ def date_format(moments: list[datetime]) -> str:
     return "%Y-%m" if any(moment.month > 1 for moment in moments) else "%Y"
 
 
+def is_crowded(places: Sequence[float], number: int) -> bool:
+    """Whether a label would meet the next one, which is closer than others: such as that of a month's first day."""
+    gaps = [after - place for place, after in zip(places, places[1:])]
+    return number < len(gaps) and gaps[number] < CLOSE * median(gaps)
+
+
+def title_of(picture: Picture) -> str:
+    """The title in lines that fit; of a long one the begin."""
+    lines = textwrap.wrap(picture.title, TITLE_LETTERS, max_lines=TITLE_LINES, placeholder=" ..")
+    return "\n".join(map(plain, lines))
+
+
 class Times:
     """Puts times on the axis: as matplotlib counts days, or as the numbers that they are."""
 
@@ -123,7 +141,8 @@ class Times:
         class Dates(ticker.Formatter):  # type: ignore[misc]
             def format_ticks(self, values: Any) -> list[str]:
                 moments = dates.num2date(values, tz=zone)
-                return [moment.strftime(date_format(moments)) for moment in moments]
+                form = date_format(moments)
+                return ["" if is_crowded(values, at) else it.strftime(form) for at, it in enumerate(moments)]
 
             def __call__(self, value: float, place: int | None = None) -> str:
                 return str(dates.num2date(value, tz=zone))
@@ -261,7 +280,7 @@ def drawn(picture: Picture) -> Figure:
         has_legend = titles != before and [title for title, _ in titles] != [panel.label]
         draw_panel(axes, panel, f"panel{number}", times, has_legend)
         before = titles
-    all_axes[0].set_title(plain(picture.title), loc="left", pad=12, fontweight="bold")
+    all_axes[0].set_title(title_of(picture), loc="left", pad=12, fontweight="bold")
     all_axes[-1].set_xlabel(plain(picture.axis))
     all_axes[-1].set_xlim(times.place(picture.start), times.place(picture.end + ROOM * (picture.end - picture.start)))
     times.put_labels(all_axes[-1])

@@ -84,11 +84,10 @@ class JournalDrops:
             pass
         return self.drops.kept_from(view)
 
-    def parted(self, reply: Reply, width: int | None) -> tuple[list[Range], list[Range]]:
-        """The stale ranges of an answer: those of dropped rows, and the others. Its buckets have this width."""
-        if not reply.stale:
-            return [], []
-        return parted(reply.stale, self.kept_from(source_of(reply.line.tokens())), width or 1)
+    def parted(self, reply: Reply, width: int | None) -> Reply:
+        """An answer with the stale ranges of dropped rows apart from the others. Its buckets have this width."""
+        kept_from = self.kept_from(source_of(reply.line.tokens())) if reply.stale else None
+        return with_drops(reply, kept_from, width)
 
     def read_on(self) -> None:
         """Takes the frames that came since."""
@@ -113,6 +112,12 @@ class JournalDrops:
             else:
                 self.drops.add(payload)
             self.gate = place + 5 + len(payload)
+
+
+def with_drops(reply: Reply, kept_from: int | None, width: int | None) -> Reply:
+    """An answer with the stale ranges before a time, which `drop_chunks` made, apart from the others."""
+    dropped, late = parted(reply.stale, kept_from, width or 1)
+    return reply._replace(stale=late, dropped=dropped)
 
 
 def parted(stale: list[Range], kept_from: int | None, width: int = 1) -> tuple[list[Range], list[Range]]:

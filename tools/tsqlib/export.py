@@ -54,7 +54,9 @@ def add_command(commands: Commands) -> None:
     stale = "also what aggregates show of stale buckets, as tsctl answers it, into tables NAME_stale"
     parser.add_argument("--stale", action="store_true", help=stale)
     times_option(parser, "times become TIMESTAMPTZ; without it they do if the folder remembers their unit")
-    scale_option(parser, "a column is NUMERIC with N digits after the point, such as temp=2; may be given several times")
+    scale_option(
+        parser, "a column is NUMERIC with N digits after the point, such as temp=2; may be given several times"
+    )
     parser.add_argument("--bigint", action="store_true", help="all columns stay whole numbers, whatever is remembered")
     parser.add_argument("--chunk", type=chunk, metavar="N", help="another chunk interval, in units of the times")
     parser.add_argument("--schema", type=schema_name, default="public", help="where the tables are made; else public")
@@ -164,9 +166,17 @@ def bucket(view: View, time: str, target: Target) -> str:
 def bucket_function(target: Target) -> Iterator[str]:
     """`time_bucket` for PostgreSQL. Its `%` has the sign of what is divided."""
     if target.kinds.unit:
-        words, result, body = "width INTERVAL, t TIMESTAMPTZ, origin TIMESTAMPTZ", "TIMESTAMPTZ", "date_bin(width, t, origin)"
+        words, result, body = (
+            "width INTERVAL, t TIMESTAMPTZ, origin TIMESTAMPTZ",
+            "TIMESTAMPTZ",
+            "date_bin(width, t, origin)",
+        )
     else:
-        words, result, body = "width BIGINT, t BIGINT, start BIGINT", "BIGINT", "t - ((t - start) % width + width) % width"
+        words, result, body = (
+            "width BIGINT, t BIGINT, start BIGINT",
+            "BIGINT",
+            "t - ((t - start) % width + width) % width",
+        )
     yield f"CREATE FUNCTION {target.schema_text()}.time_bucket({words}) RETURNS {result}"
     yield f"LANGUAGE SQL IMMUTABLE PARALLEL SAFE AS $$ SELECT {body} $$;"
 
@@ -223,11 +233,16 @@ def tables(content: Content, history: History, target: Target) -> Iterator[str]:
         yield from copy(table.name, column_names(table), target.kinds.of_table(table), rows, target)
 
 
-def statements(content: Content, history: History, target: Target, stale: list[str], policies: list[str]) -> Iterator[str]:
+def statements(
+    content: Content, history: History, target: Target, stale: list[str], policies: list[str]
+) -> Iterator[str]:
     """The lines of the export. All but the refreshes is one transaction, so that a part of it never is there."""
     yield f"-- The journal of tsctl at position {history.position}, for `psql -v ON_ERROR_STOP=1 -f`."
     if not target.is_plain and not policies:
-        yield "-- Policies belong to sessions and aren't in a journal: `tsq export --policies FILE` takes those of a script."
+        yield (
+            "-- Policies belong to sessions and aren't in a journal: `tsq export --policies FILE` takes those of a"
+            " script."
+        )
     yield "BEGIN;"
     if target.schema != "public":
         yield f"CREATE SCHEMA IF NOT EXISTS {target.schema_text()};"

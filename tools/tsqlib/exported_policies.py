@@ -16,7 +16,9 @@ from .translation import NotSent, Translator
 if TYPE_CHECKING:
     from .export import Target
 
-CALL = re.compile(r"select\s+(add_continuous_aggregate_policy|add_retention_policy)\s*\(\s*'(\w+)'\s*,(.*)\)\s*;?\s*", re.I)
+CALL = re.compile(
+    r"select\s+(add_continuous_aggregate_policy|add_retention_policy)\s*\(\s*'(\w+)'\s*,(.*)\)\s*;?\s*", re.I
+)
 ARGUMENT = re.compile(r"\s*(\w+)\s*=>\s*(-?\d+|null)\s*", re.I)
 
 

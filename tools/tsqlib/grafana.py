@@ -1,4 +1,5 @@
-"""The requests of Grafana's JSON data sources: what may be drawn, time series and tables, stale ranges as regions.
+"""The requests of Grafana's JSON data sources: what may be drawn, time series and tables, stale and dropped ranges as
+regions.
 
 It answers those of `simpod-json-datasource`, with its later versions (`/metrics`), and of `simple-json-datasource`.
 """
@@ -68,25 +69,26 @@ class Grafana:
         most = asked.get("maxDataPoints")
         # A cell has up to four points.
         cells = min(max(most // 4, 1), MOST_POINTS) if isinstance(most, int) else MOST_POINTS
-        samples = self.views.samples(output, column, cells)
+        samples = self.views.samples(output, [column], cells)
         with self.views.sessions.turns:
             self.views.answer(question, output, samples.take)
         milliseconds, names = self.views.milliseconds, output.names[1 : 1 + output.keys]
         found = []
-        for keys, points in samples.points():
+        for keys, (points,) in samples.points():
             shown = zip(names, self.views.dictionary.texts(output, keys))
             title = ", ".join([f"{view}.{column}", *(f"{name} {key}" for name, key in shown)])
             found.append({"target": title, "datapoints": [[value, milliseconds(at)] for at, value in points]})
         return found
 
     def table(self, view: str, asked: Any) -> dict[str, Any]:
-        """The rows as a table, with a column that says whether their buckets are stale."""
+        """The rows as a table, with columns that say whether their buckets are stale, or of dropped rows."""
         question, _, _ = self.bounds(view, asked)
         output, keep = self.views.known(view), FirstRows(self.views.most_rows)
         with self.views.sessions.turns:
-            told = self.views.answer(question, output, keep)
+            told = self.views.parted(self.views.answer(question, output, keep))
         names, rows = cells_for_programs(told.reply, output, self.views.dictionary.style())
-        kinds = ["time" if place in output.times else "number" for place in range(len(output.names))] + ["string"]
+        kinds = ["time" if place in output.times else "number" for place in range(len(output.names))]
+        kinds += ["string"] * (len(names) - len(kinds))
         columns = [{"text": name, "type": kind} for name, kind in zip(names, kinds)]
         cells = [[cell_of(text, kind) for text, kind in zip(row, kinds)] for row in rows]
         times = [place for place, kind in enumerate(kinds) if kind == "time"]
@@ -96,22 +98,26 @@ class Grafana:
         return {"type": "table", "columns": columns, "rows": cells}
 
     def annotations(self, asked: Any) -> bytes:
-        """The stale ranges of an aggregate, or of all, as regions."""
+        """The stale ranges of an aggregate, or of all, and those of dropped rows, as regions."""
         wanted = asked.get("annotation") if isinstance(asked, dict) else None
         name = wanted.get("query") if isinstance(wanted, dict) else None
         views = [name.strip()] if isinstance(name, str) and name.strip() else sorted(self.views.sessions.schema.sources)
         return dumped([region | {"annotation": wanted} for view in views for region in self.regions(view, asked)])
 
     def regions(self, view: str, asked: Any) -> list[dict[str, Any]]:
+        """What is stale of an aggregate, and what it keeps of dropped rows, which no refresh may touch."""
         question, first, end = self.bounds(view, asked)
         with self.views.sessions.turns:
-            told = self.views.answer(question, self.views.known(view), FirstRows(0))
+            reply = self.views.parted(self.views.answer(question, self.views.known(view), FirstRows(0))).reply
+        kinds = (("dropped", "has dropped rows", "keeps what it showed of rows that were dropped here", reply.dropped),
+                 ("stale", "is stale", "is out of date here", reply.stale))  # fmt: skip
         found = []
-        for low, high in told.reply.stale:
-            start = self.views.milliseconds(first if low is None else max(first, low))
-            stop = self.views.milliseconds(min(high, end))
-            found.append({"time": start, "timeEnd": stop, "isRegion": True, "title": f"{view} is stale",
-                          "text": f"{view} is out of date here", "tags": ["stale", view]})  # fmt: skip
+        for tag, title, text, ranges in kinds:
+            for low, high in ranges:
+                start = self.views.milliseconds(first if low is None else max(first, low))
+                stop = self.views.milliseconds(min(high, end))
+                found.append({"time": start, "timeEnd": stop, "isRegion": True, "title": f"{view} {title}",
+                              "text": f"{view} {text}", "tags": [tag, view]})  # fmt: skip
         return found
 
 

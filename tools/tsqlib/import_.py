@@ -12,7 +12,8 @@ from typing import IO
 
 from .blocks import pieces
 from .imported import (
-    MOST_TABLES, Imported, Options, Source, in_range, look, name_here, part_names, reader, scales_of, source_of, unit_of,
+    MOST_TABLES, Imported, Options, Source, in_range, look, name_here, part_names, reader, scales_of, source_of,
+    unit_of,
 )  # fmt: skip
 from .load import width, zone
 from .messages import Trouble, say
@@ -42,7 +43,9 @@ def add_command(commands: Commands) -> None:
     parser.add_argument("--null", action="append", default=[], metavar="TEXT", help=null)
     rounds = "round a column to N digits after the point; may be given several times"
     parser.add_argument("--round", type=scale, action="append", default=[], metavar="NAME=N", help=rounds)
-    parser.add_argument("--chunk", type=width, metavar="N", help="the chunk interval in units of the times; else 7 days")
+    parser.add_argument(
+        "--chunk", type=width, metavar="N", help="the chunk interval in units of the times; else 7 days"
+    )
     parser.set_defaults(call=import_)
 
 
@@ -115,7 +118,8 @@ class Reading:
     def rows(self, dump: Dump, source: Source, options: Options, problems: Problems) -> Iterator[str]:
         """The rows of a table as a statement has them."""
         readers = [
-            reader(column, self.scales.get(column.name, 0), self.times, self.texts, self.names) for column in source.columns
+            reader(column, self.scales.get(column.name, 0), self.times, self.texts, self.names)
+            for column in source.columns
         ]
         known: list[dict[str | None, str]] = [{None: "null"} for _ in readers]
         for line, cells in cells_of(dump, source, options):
@@ -152,7 +156,9 @@ def make(sender: Sender, statement: str) -> None:
         raise Trouble(f"tsctl answers {reply.texts()[0]} to {statement}")
 
 
-def make_tables(dump: Dump, sources: list[Source], reading: Reading, options: Options, folder: Path, interval: int) -> None:
+def make_tables(
+    dump: Dump, sources: list[Source], reading: Reading, options: Options, folder: Path, interval: int
+) -> None:
     """Makes the tables with their rows."""
     for source in sources:
         time = source.columns[source.time].name
@@ -262,7 +268,9 @@ def import_dump(dump: Dump, arguments: argparse.Namespace, options: Options, fol
             pass
     problems.end()
     unit = reading.times.unit or "s"
-    names.remember([(column, text) for column, texts in reading.texts.items() for text in texts.new()], reading.scales, unit)
+    names.remember(
+        [(column, text) for column, texts in reading.texts.items() for text in texts.new()], reading.scales, unit
+    )
     make_tables(dump, sources, reading, options, folder, interval_of(arguments.chunk, unit))
     make_views(dump, Fold(sources, names, unit, reading.scales), options, folder, taken)
     tell(sources, reading, options)

@@ -57,7 +57,12 @@ def kind_of(sql_type: str) -> str:
     text = sql_type.lower()
     if text.endswith("[]"):
         return "text"
-    for kind, types in (("time", TIME_TYPES), ("number", NUMBER_TYPES), ("whole", WHOLE_TYPES), ("truth", ("boolean",))):
+    for kind, types in (
+        ("time", TIME_TYPES),
+        ("number", NUMBER_TYPES),
+        ("whole", WHOLE_TYPES),
+        ("truth", ("boolean",)),
+    ):
         if text.startswith(types):
             return kind
     return "text"
@@ -189,6 +194,8 @@ def rounded(column: Imported, text: str, scale: int) -> int:
 def in_range(column: Imported, number: int) -> str:
     """A number of 64 bits as text."""
     if not LEAST <= number <= MOST:
-        hint = f" with {column.digits} digits after the point: --round {column.name}=N keeps fewer" * (column.digits > 0)
+        hint = f" with {column.digits} digits after the point: --round {column.name}=N keeps fewer" * (
+            column.digits > 0
+        )
         raise Bad(f"doesn't fit into 64 bits{hint}")
     return str(number)

@@ -305,7 +305,15 @@ class Fields:
 def event(payload: Bytes) -> Event:
     """The event that a payload is."""
     fields = Fields(payload)
-    kinds: list[Callable[[], Any]] = [fields.table, fields.hyper, fields.view, fields.mode, fields.commit, fields.cut, fields.built]
+    kinds: list[Callable[[], Any]] = [
+        fields.table,
+        fields.hyper,
+        fields.view,
+        fields.mode,
+        fields.commit,
+        fields.cut,
+        fields.built,
+    ]
     read: Event = fields.one_of(kinds)()
     if fields.at != len(payload):
         raise Wrong

@@ -2,26 +2,25 @@
 from __future__ import annotations
 
 import argparse
-import hashlib
-import json
 from contextlib import ExitStack
 from pathlib import Path
 from typing import TextIO
 from zoneinfo import ZoneInfo
 
-from .blocks import Parts
 from .cells import time_text
+from .intake import AGAIN, ONCE, PLAIN, Intake, Manner
 from .messages import Trouble, say
 from .names import Names, Unit
-from .options import Commands, scale_option, times_option
+from .options import JOURNAL, Commands, scale_option, times_option
 from .plans import Plan, dict_of_scales, plan_of
+from .positions import position_in
 from .printed import print_statements
 from .programs import Ended
 from .reading import Aside, Read, read_rows
-from .resume import Note, NoteFile
+from .resume import Notes, is_absent
 from .schema import Hypertable, hypertable_of
-from .sending import Sender, send
-from .sources import Hashed, LineProtocol, Objects, looks_like, opened
+from .sending import Sender, check, send
+from .sources import LineProtocol, Objects, looks_like, opened
 from .values import Texts
 
 SECONDS_OF_DAY = 86400
@@ -77,8 +76,12 @@ def add_command(commands: Commands) -> None:
 
 def add_format(parser: argparse.ArgumentParser) -> None:
     """How the file is written."""
-    parser.add_argument("--format", choices=FORMATS, help="without it the name's end tells: .ndjson, .jsonl, .lp; else CSV")
-    columns = "the table's columns in the order of the file's, one without a name is left out; or NAME=KEY,.. by its names"
+    parser.add_argument(
+        "--format", choices=FORMATS, help="without it the name's end tells: .ndjson, .jsonl, .lp; else CSV"
+    )
+    columns = (
+        "the table's columns in the order of the file's, one without a name is left out; or NAME=KEY,.. by its names"
+    )
     parser.add_argument("--columns", metavar="NAME,..", help=columns)
     parser.add_argument("--header", action="store_true", help="the first line of CSV holds names, and isn't a row")
     delimiter = "what stands between the cells of CSV, instead of a comma"
@@ -96,7 +99,7 @@ def add_meaning(parser: argparse.ArgumentParser) -> None:
     doubled = "which one a date means in the hour that clocks show twice; without it the first"
     parser.add_argument("--doubled", choices=["first", "second"], default="first", help=doubled)
     parser.add_argument("--epoch", choices=["s", "ms", "us", "ns"], help="times are numbers of this unit since 1970")
-    null = "a cell that is NULL, beside an empty one and null; may be given several times"
+    null = "a cell that is NULL, beside an empty one and null, such as --null=-; may be given several times"
     parser.add_argument("--null", action="append", default=[], metavar="TEXT", help=null)
     texts = "columns of texts, which get numbers in tsctl.names"
     parser.add_argument("--texts", metavar="NAME,..", default="", help=texts)
@@ -110,7 +113,9 @@ def add_sending(parser: argparse.ArgumentParser) -> None:
     parser.add_argument("--block", type=width, metavar="N", help=block)
     once = parser.add_mutually_exclusive_group()
     once.add_argument("--once", action="store_true", help="with --into: leave out rows that are there already")
-    once.add_argument("--again", action="store_true", help="with --into: load an input that was loaded last once more")
+    once.add_argument(
+        "--again", action="store_true", help="with --into: load an input that was loaded already once more"
+    )
     aside = "put rows that can't be read into this file, and load the others"
     parser.add_argument("--skip-broken", metavar="FILE", help=aside)
     parser.add_argument("--session", default="load", help="the session that puts them in")
@@ -128,8 +133,8 @@ def load(options: argparse.Namespace) -> int:
             raise Trouble(f"{name} needs --into")
     files = ExitStack()
     with files:
-        hashed, text = opened(options.file, options.encoding)
-        status = load_into(options, hashed, text, files) if options.into else load_printed(options, text, files)
+        text = files.enter_context(opened(options.file, options.encoding))
+        status = load_into(options, text, files) if options.into else load_printed(options, text, files)
     return status
 
 
@@ -154,7 +159,10 @@ def tell_apart(plan: Plan, aside: Aside) -> None:
         say(f"rows put aside into {aside.name}: {aside.count}")
     if plan.times.doubled:
         which = "second" if plan.times.fold else "first"
-        say(f"rows in an hour that clocks in {plan.times.zone} show twice: {plan.times.doubled}, taken as the {which} one")
+        say(
+            f"rows in an hour that clocks in {plan.times.zone} show twice: {plan.times.doubled}, taken as the"
+            f" {which} one"
+        )
     if isinstance(plan.source, Objects) and plan.source.others:
         say(f"keys that aren't loaded: {', '.join(sorted(plan.source.others))}")
     if isinstance(plan.source, LineProtocol) and plan.source.elsewhere:
@@ -168,7 +176,7 @@ def width_of_blocks(options: argparse.Namespace, unit: Unit | None, table: Hyper
     return SECONDS_OF_DAY * TICKS[unit] if unit else table.interval
 
 
-def load_into(options: argparse.Namespace, hashed: Hashed, text: TextIO, files: ExitStack) -> int:
+def load_into(options: argparse.Namespace, text: TextIO, files: ExitStack) -> int:
     """Commits the rows of a file into a folder."""
     names = Names.read(options.into)
     table = hypertable_of(options.into, options.table)
@@ -176,45 +184,27 @@ def load_into(options: argparse.Namespace, hashed: Hashed, text: TextIO, files: 
     if contradiction := names.would_contradict(scales, options.times):
         raise Trouble(contradiction)
     plan = plan_of(options, text, names, table)
-    parts = files.enter_context(Parts(width_of_blocks(options, plan.times.unit, table)))
+    notes, position = Notes.read(options.into), position_in(options.into / JOURNAL)
+    known = [note for note in notes.of(table.name) if not is_absent(note, position)]
+    manner = manner_of(options, width_of_blocks(options, plan.times.unit, table))
+    intake = files.enter_context(Intake(options.file, table.name, manner, known))
     aside = Aside(options.skip_broken, options.file, plan.source.head, files)
-    read = read_rows(plan, options.null, "null", lambda time, row: parts.add(time, ",".join(row)), aside.add)
+    read = read_rows(plan, options.null, "null", lambda time, row: intake.add(time, ",".join(row)), aside.add)
     read.say()
     if read.broken and not options.skip_broken:
         say("nothing is loaded")
         return 2
-    note = new_note(options, hashed, parts.width)
-    found = NoteFile(options.into).read()
-    check_same(found, note)
+    intake.finish()
     remember(names, plan.texts, scales, options.times)
-    status = commit(options, table, parts, plan.at, found, note) if read.rows else 0
+    status = commit(options, table, intake, plan.at, notes) if read.rows else 0
     tell_apart(plan, aside)
-    print_summary(read, note, aside, plan.times.unit, options.once)
+    print_summary(read, intake, aside, plan.times.unit)
     return status
 
 
-def new_note(options: argparse.Namespace, hashed: Hashed, width: int) -> Note:
-    """The note of a load of this input with these options."""
-    left_out = ("call", "file", "into", "skip_broken", "again")
-    used = {name: str(value) for name, value in vars(options).items() if name not in left_out}
-    text = json.dumps([hashed.size, hashed.sum.hexdigest(), width, used], sort_keys=True)
-    return Note(options.file, hashlib.sha256(text.encode()).hexdigest())
-
-
-def check_same(found: Note | None, note: Note) -> None:
-    """That a load which was broken off is this one."""
-    if found and not found.is_finished and found.input != note.input:
-        raise Trouble(
-            f"a load of {found.name} into this folder was broken off after {found.rows} rows. The same command with the "
-            "same input goes on with it; remove tsctl.load to give it up"
-        )
-
-
-def is_done(options: argparse.Namespace, found: Note | None, note: Note, sender: Sender) -> bool:
-    """Whether the last load is this one, and has come to its end."""
-    if found is None or not found.is_finished or found.input != note.input or options.once or options.again:
-        return False
-    return found.position <= sender.position()
+def manner_of(options: argparse.Namespace, width: int) -> Manner:
+    """How the input is loaded."""
+    return Manner(ONCE if options.once else AGAIN if options.again else PLAIN, width, options.gap)
 
 
 def remember(names: Names, texts: list[Texts], scales: dict[str, int], times: Unit | None) -> None:
@@ -227,21 +217,17 @@ def remember(names: Names, texts: list[Texts], scales: dict[str, int], times: Un
                 raise Trouble("tsctl.names was changed meanwhile by another load: nothing is loaded, try again")
 
 
-def commit(
-    options: argparse.Namespace, table: Hypertable, parts: Parts, at: int, found: Note | None, note: Note
-) -> int:
-    """Commits the blocks, and gives the exit status. A load that was broken off goes on: the note takes how far it
-    came."""
+def commit(options: argparse.Namespace, table: Hypertable, intake: Intake, at: int, notes: Notes) -> int:
+    """Commits the blocks, and gives the exit status. A load that was broken off goes on."""
     try:
         with Sender(options.into, table.name, table.time, options.session, options.once) as sender:
-            done = is_done(options, found, note, sender)
-            is_begun = found is not None and not found.is_finished
-            if found and (done or is_begun):
-                vars(note).update(vars(found))
-            if done:
-                say("this input was loaded already; --again loads it once more")
-            else:
-                send(sender, parts.blocks(options.gap, at), at, note, NoteFile(options.into), is_begun)
+            check(sender, intake, notes)
+            tell_known(intake)
+            for stretch in intake.stretches:
+                send(sender, stretch.parts.blocks(options.gap, at), at, stretch.note, notes)
+            for note, state in intake.replaced():
+                note.state = state
+                notes.write(note)
             return 0
     except Ended as ended:
         say(f"tsctl has ended with status {ended.status}: `tsctl --in {options.into} why` says more")
@@ -252,15 +238,30 @@ def commit(
     return status
 
 
-def print_summary(read: Read, note: Note, aside: Aside, unit: Unit | None, is_once: bool) -> None:
-    """Prints what was loaded."""
-    print(f"rows {note.rows} of {read.rows}")
+def tell_known(intake: Intake) -> None:
+    """Says what of the input was loaded before, and which loads wait to be continued."""
+    if before := intake.before:
+        name = f", as {before.name}" if before.name != intake.name else ""
+        if intake.stretches:
+            say(f"the first {before.size} rows were loaded already{name}; --again loads them once more")
+        else:
+            say(f"this input was loaded already{name}; --again loads it once more")
+    for note in intake.elsewhere():
+        say(f"a load of {note.name} was broken off after {note.rows} rows: the same command continues it")
+
+
+def print_summary(read: Read, intake: Intake, aside: Aside, unit: Unit | None) -> None:
+    """Prints what was loaded: now, or before if that was all."""
+    notes = [stretch.note for stretch in intake.stretches] or ([intake.before] if intake.before else [])
+    print(f"rows {sum(note.rows for note in notes)} of {read.rows}")
     if read.first is not None and read.last is not None:
         print(f"times {time_text(read.first, unit)}..{time_text(read.last, unit)}")
     print(f"NULL {read.nulls}")
-    print(f"duplicates {note.duplicates} {'left out' if is_once else 'loaded'}")
+    is_once = intake.manner.mode == ONCE
+    print(f"duplicates {sum(note.duplicates for note in notes)} {'left out' if is_once else 'loaded'}")
     print(f"put aside {aside.count}")
-    print("commits " + (", ".join(commit_text(*pair) for pair in note.commits) or "none"))
+    commits = [commit_text(*pair) for note in notes for pair in note.commits]
+    print("commits " + (", ".join(commits) or "none"))
 
 
 def commit_text(first: int, last: int) -> str:

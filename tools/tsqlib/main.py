@@ -8,13 +8,15 @@ import os
 import re
 import sys
 from collections.abc import Collection
+from importlib import import_module
 
-from . import backup, export, import_, load, log, plot, prompt, refresh, roll, run, serve, verify, watch
 from .messages import Trouble, say
 from .version import version
 
-# Modules that each add a command, in the order of the help.
-MODULES = (run, prompt, load, import_, plot, roll, refresh, watch, serve, backup, verify, export, log)
+# The commands, in the order of the help. Each has a module of its name, which is read where the command is meant.
+COMMANDS = (
+    "run", "prompt", "load", "import", "plot", "roll", "refresh", "watch", "serve", "backup", "verify", "export", "log",
+)  # fmt: skip
 TROUBLE = 2
 WRITE_FAULT = 4
 OUT_OF_MEMORY = 7
@@ -43,15 +45,18 @@ def add_help(commands: argparse._SubParsersAction[Parser], top: Parser) -> None:
     parser.set_defaults(call=print_help)
 
 
-def parser_of_words() -> tuple[Parser, Collection[str]]:
-    """The parser of the command line, and the names of the commands."""
+def parser_of(command: str) -> Parser:
+    """The parser of words that begin with a command, or with something else that may be of all."""
     parser = Parser(prog="tsq", description="A companion of tsctl; docs/TSQ.md says more.")
     parser.add_argument("--version", action="version", version=f"tsq {version()}")
-    commands = parser.add_subparsers(required=True, dest="command_name", title="commands")
-    for module in MODULES:
-        module.add_command(commands)
+    # Its usage has all of them, whichever are read.
+    names = f"{{{','.join((*COMMANDS, 'help'))}}}"
+    commands = parser.add_subparsers(required=True, dest="command_name", title="commands", metavar=names)
+    for name in [command] if command in COMMANDS else COMMANDS:
+        module = "import_" if name == "import" else name
+        import_module(f".{module}", __package__).add_command(commands)
     add_help(commands, parser)
-    return parser, commands.choices
+    return parser
 
 
 def folder_words(words: list[str]) -> int:
@@ -83,11 +88,12 @@ def options_of(words: list[str]) -> argparse.Namespace:
     for word in words:
         if CONTROL.search(word):
             raise Trouble(f"{word!r} has a control character")
-    parser, commands = parser_of_words()
-    words = with_command(words, commands)
-    options = parser.parse_args(words)
-    if words[0] == "run" and prompt.is_meant(options):
-        options.call = prompt.prompt
+    words = with_command(words, (*COMMANDS, "help"))
+    options = parser_of(words[0]).parse_args(words)
+    if words[0] == "run" and sys.stdin.isatty():
+        prompt = import_module(".prompt", __package__)
+        if prompt.is_meant(options):
+            options.call = prompt.prompt
     return options
 
 

@@ -11,6 +11,7 @@ from collections.abc import Iterable
 from . import programs
 from .cells import UNITS
 from .policies import Policies
+from .replies import Range
 from .samples import FirstRows
 from .views import Answer, Question, Views
 
@@ -74,6 +75,8 @@ class Metrics:
         if unit:
             seconds = [(name, it["length"] / UNITS[unit]) for name, it in found]
             lines += sample("stale_seconds", "Time that is stale, from the first row on", "gauge", seconds)
+            dropped = [(name, it["dropped"] / UNITS[unit]) for name, it in found]
+            lines += sample("dropped_seconds", "Time of dropped rows that the aggregate keeps", "gauge", dropped)
             marks = [(name, it["watermark"] / UNITS[unit]) for name, it in found if it["watermark"] is not None]
             lines += sample("watermark_seconds", "Watermark, since 1970", "gauge", marks)
         pending = self.pending_by_view()
@@ -83,7 +86,6 @@ class Metrics:
     def stale(self, view: str) -> bytes:
         """The stale ranges of an aggregate: how many, and how long they are together."""
         keep, output, question = FirstRows(1), self.views.known(view), Question(view)
-
         return self.views.sessions.look(("stale", view), lambda: self.views.read(question, output, keep), written)
 
     def pending_by_view(self) -> dict[str, int]:
@@ -107,10 +109,16 @@ class Metrics:
 
 
 def written(answer: Answer) -> bytes:
-    """What is stale in an answer, as JSON."""
+    """What is stale in an answer, and what it keeps of dropped rows, as JSON."""
     reply = answer.told.reply
-    length = sum(max(0, high - bound_of(low, high, first_time(reply.rows))) for low, high in reply.stale)
-    return json.dumps({"ranges": len(reply.stale), "length": length, "watermark": answer.watermark}).encode()
+    first = first_time(reply.rows)
+    lengths = {"length": length_of(reply.stale, first), "dropped": length_of(reply.dropped, first)}
+    return json.dumps({"ranges": len(reply.stale), "watermark": answer.watermark} | lengths).encode()
+
+
+def length_of(ranges: list[Range], first: int | None) -> int:
+    """How long ranges are together, from the first row on."""
+    return sum(max(0, high - bound_of(low, high, first)) for low, high in ranges)
 
 
 def bound_of(low: int | None, high: int, first: int | None) -> int:

@@ -104,7 +104,7 @@ class Names:
 
     @contextmanager
     def _locked(self) -> Iterator[BinaryIO]:
-        """The file, held by this process only, once its new lines were read. A last line that was cut off is removed."""
+        """The file, held by this process only, once its new lines were read. A last line that is cut off is removed."""
         try:
             with open(os.open(self.path, os.O_RDWR | os.O_CREAT, 0o666), "r+b") as file:
                 fcntl.flock(file, fcntl.LOCK_EX)

@@ -44,7 +44,9 @@ def folder_option(parser: argparse.ArgumentParser) -> None:
     parser.add_argument("--in", dest="folder", metavar="FOLDER", help="the folder of the journal, instead of this one")
 
 
-def snapshot_option(parser: argparse.ArgumentParser, meaning: str = "a copy of the journal is read; this command always does so") -> None:
+def snapshot_option(
+    parser: argparse.ArgumentParser, meaning: str = "a copy of the journal is read; this command always does so"
+) -> None:
     """That a copy of the journal is asked, whoever holds it."""
     parser.add_argument("--snapshot", action="store_true", help=meaning)
 

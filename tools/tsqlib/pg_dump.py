@@ -45,7 +45,7 @@ class Table:
 
 
 class Copy(NamedTuple):
-    """Rows in the file: the columns of their cells, the byte and the line at which they begin, and how many they are."""
+    """Rows in the file: the columns of their cells, the byte and the line at which they begin, and their number."""
 
     columns: list[str]
     place: int
@@ -164,7 +164,7 @@ class Dump:
             self.tables[name].copies.append(Copy(columns, place, first, count))
 
     def direct_views(self) -> dict[str, str]:
-        """The names of continuous aggregates by the views that have their queries, as TimescaleDB's catalog has them."""
+        """The names of continuous aggregates by the views that have their queries, as in TimescaleDB's catalog."""
         table = self.tables.get("_timescaledb_catalog.continuous_agg")
         if table is None:
             return {}

@@ -10,7 +10,9 @@ from .names import Names, Unit
 from .pg_dump import plain
 from .values import Bad, number_of, time_of
 
-TOKEN = re.compile(r"""\s+|("(?:[^"]|"")*"|[A-Za-z_][\w$]*|E?'(?:[^']|'')*'|-?\d+(?:\.\d+)?|::|<>|<=|>=|=>|!=|.)""", re.DOTALL)
+TOKEN = re.compile(
+    r"""\s+|("(?:[^"]|"")*"|[A-Za-z_][\w$]*|E?'(?:[^']|'')*'|-?\d+(?:\.\d+)?|::|<>|<=|>=|=>|!=|.)""", re.DOTALL
+)
 # A cast to a type, of which only the value matters.
 CAST = re.compile(
     r"(?:timestamp|time) (?:with|without) time zone|double precision|character varying|[a-z_][\w.]*", re.IGNORECASE
@@ -71,7 +73,17 @@ def clauses_of(tokens: list[str]) -> dict[str, list[str]]:
     for token in tokens:
         depth += (token == "(") - (token == ")")
         lower = token.lower()
-        if depth == 0 and lower in ("having", "order", "limit", "union", "join", "window", "distinct", "with", "offset"):
+        if depth == 0 and lower in (
+            "having",
+            "order",
+            "limit",
+            "union",
+            "join",
+            "window",
+            "distinct",
+            "with",
+            "offset",
+        ):
             raise Bad(f"has {lower.upper()}")
         if depth == 0 and lower in ("select", "from", "where", "group"):
             word = lower

@@ -84,7 +84,10 @@ def check_known(header: list[str], table: Hypertable | None) -> None:
     """That a file's names, which stand for --columns, are those of the table."""
     for name in header if table else []:
         if table and name not in table.names:
-            raise Trouble(f"{table.name} has no column {name or '``'}: --columns {','.join(table.names)} says which ones these are")
+            raise Trouble(
+                f"{table.name} has no column {name or '``'}: --columns {','.join(table.names)} says which ones"
+                " these are"
+            )
 
 
 def check_names(header: list[str], names: list[str]) -> None:

@@ -14,7 +14,7 @@ from pathlib import Path
 
 from . import drawing
 from .aggregates import checked_name, checked_text
-from .asking import Shown, ask, ask_query
+from .asking import Shown, ask, ask_query, translator
 from .replies import Range
 from .gaps import edges_of
 from .messages import Trouble, say
@@ -48,7 +48,9 @@ def add_command(commands: Commands) -> None:
     parser.add_argument("--columns", metavar="NAME,..", help="what is drawn; without it every function's column")
     parser.add_argument("--from", dest="low", metavar="TIME", help="buckets that start at a time or later")
     parser.add_argument("--to", dest="high", metavar="TIME", help="buckets that start before a time")
-    parser.add_argument("--where", default="", metavar="TESTS", help="tests on the bucket, such as `hour >= 0`")
+    parser.add_argument(
+        "--where", default="", metavar="TESTS", help="tests on the bucket, such as `hour >= '2024-01-31'`"
+    )
     keys = "only rows whose key has this value, such as sensor=8; may be given several times"
     parser.add_argument("--key", type=key, action="append", default=[], metavar="NAME=VALUE", help=keys)
     parser.add_argument("--out", metavar="NAME", help="writes NAME.png and NAME.svg; without it the aggregate's name")
@@ -67,15 +69,16 @@ def bounds_in(arguments: argparse.Namespace, clock: Clock) -> tuple[int | None, 
     return low, high
 
 
-def asked(arguments: argparse.Namespace, clock: Clock) -> Shown:
+def asked(arguments: argparse.Namespace, names: Names, clock: Clock) -> Shown:
     """What the aggregate shows, or what the query answers."""
     folder = arguments.folder or "."
+    translate = translator(folder, names, arguments.times or names.times)
     if arguments.query:
         for name in ("by", "low", "high", "where"):
             if getattr(arguments, name):
                 raise Trouble("--query stands for itself: --by, --from, --to and --where are for an aggregate")
-        return ask_query(folder, arguments.query)
-    return ask(folder, arguments.view, *bounds_in(arguments, clock), arguments.where)
+        return ask_query(folder, arguments.query, translate)
+    return ask(folder, arguments.view, *bounds_in(arguments, clock), arguments.where, translate)
 
 
 def series_of(arguments: argparse.Namespace, shown: Shown, clock: Clock) -> Series:
@@ -195,7 +198,7 @@ def plot(arguments: argparse.Namespace) -> int:
     clock = Clock(arguments.times or names.times, zone_of(arguments.zone))
     name = checked_name(arguments.view) if arguments.view else "query"
     out = checked_text(arguments.out or name, "--out")
-    picture = picture_of(arguments, asked(arguments, clock), names, clock)
+    picture = picture_of(arguments, asked(arguments, names, clock), names, clock)
     contents = rendered(picture)
     if contents is None:
         say("pictures are drawn by matplotlib 3.6 or later, and no python3 here has it: `apt-get update &&"

@@ -117,7 +117,9 @@ class Policies:
         """Adds them to a program that has just begun, which knows of no earlier run."""
         for policy in self.policies:
             policy.ran_at = None
-            statement = self.sessions.translated(Statement(b"policies:", f" {policy.statement}".encode(), policy.number))
+            statement = self.sessions.translated(
+                Statement(b"policies:", f" {policy.statement}".encode(), policy.number)
+            )
             policy.interval = interval_in(statement.text())
             _, reply = self.sessions.put(OWNER, statement)
             fault = reply.fault()

@@ -7,7 +7,7 @@ from collections.abc import Callable
 from pathlib import Path
 
 from .answers import (
-    Style, answer_object, csv_lines, csv_ranges, expanded, is_stale, json_lines, json_ranges, output_for, range_text,
+    Style, answer_object, csv_lines, csv_ranges, expanded, is_stale, json_lines, json_ranges, output_for, range_lines,
     table,
 )  # fmt: skip
 from .dropped import JournalDrops
@@ -53,6 +53,7 @@ class Printer:
         output = output_for(reply, self.schema) if reply.is_answer() else None
         if output:
             self.see(output)
+            reply = self.drops.parted(reply, output.width) if self.drops else reply
         if self.form == "answers":
             print(answer_object(reply, output, self.style))
         elif self.form:
@@ -69,7 +70,7 @@ class Printer:
         if reply.fault():
             for line in explanation(reply, self.is_script, self.schema):
                 print(*wrapped(line), sep="\n")
-        if output and (reply.rows or reply.stale):
+        if output and (reply.rows or reply.stale or reply.dropped):
             self.print_rows(reply, output)
             print()
 
@@ -80,8 +81,7 @@ class Printer:
             marks = [line.startswith("-- ") and line.endswith(" stale") for line in lines]
             self.screen.show([(line, (YELLOW,) if mark else ()) for line, mark in zip(lines, marks)])
             return
-        gone, late = self.drops.parted(reply, output.width) if self.drops else ([], reply.stale)
-        lines = table(reply._replace(stale=late), output, self.style, gone)
+        lines = table(reply, output, self.style)
         ends = HEADING + len(reply.rows)
         colors = [(BOLD,)] * HEADING + [(YELLOW,) if is_stale(reply, row) else () for row in reply.rows]
         stale = [(line, (YELLOW,)) for line in lines[ends:]]
@@ -103,8 +103,8 @@ class Printer:
         lines = written[self.form](reply, output, self.style)
         if lines:
             print(*lines, sep="\n")
-        for bounds in [] if self.has_ranges else reply.stale:
-            say(f"stale {range_text(bounds, self.style.unit, is_iso=True)}")
+        for line in [] if self.has_ranges else range_lines(reply, self.style.unit, is_iso=True):
+            say(line)
 
     def names(self) -> Names:
         """What the folder remembers."""

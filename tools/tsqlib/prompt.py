@@ -78,7 +78,7 @@ class Prompt:
         self.schema = schema
         self.names = Names.read(talk.folder)
         self.printer = Printer(schema, style_of(options, self.names), options.form, is_script=False)
-        self.printer.drops = JournalDrops(talk.folder)
+        self.printer.drops = JournalDrops(talk.follower.origin if talk.follower else talk.folder)
         self.sender = Sender(options, schema, self.names)
         self.typed = Typed()
         self.is_timing = False

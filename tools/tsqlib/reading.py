@@ -40,7 +40,9 @@ class Read:
             say(f"and {self.broken - MOST_TOLD} more")
 
 
-def told_of(plan: Plan, line: int, cells: list[str] | Bad, convert: list[tuple[int, Callable[[str], str]]]) -> list[str]:
+def told_of(
+    plan: Plan, line: int, cells: list[str] | Bad, convert: list[tuple[int, Callable[[str], str]]]
+) -> list[str]:
     """What is wrong with a row, a line for each cell."""
     if isinstance(cells, Bad):
         return [f"line {line} {cells}"]

@@ -22,14 +22,16 @@ Range = tuple[int | None, int]
 class Reply(NamedTuple):
     """The reply to a line: its lines that begin with the session, the cells of its rows, and its stale ranges.
 
-    A stale range is a pair of its bounds, where the first one is None for `min`. Of a tick the lines of the statements
-    that it ran are among its own.
+    A stale range is a pair of its bounds, where the first one is None for `min`. Those in which `drop_chunks` removed
+    rows are among them until they are parted from the others into `dropped`. Of a tick the lines of the statements that
+    it ran are among its own.
     """
 
     line: Line
     heads: list[str]
     rows: list[Any] = []
     stale: list[Any] = []
+    dropped: list[Any] = []
 
     def texts(self) -> list[str]:
         """The heads without the session."""

@@ -1,114 +1,281 @@
-"""Where a load into a folder is, so that one that was broken off goes on there.
+"""What was loaded into a folder, so that no input is loaded twice, and a load that was broken off goes on.
 
-The note `tsctl.load` beside the journal has the input of the last load, how many blocks are done, and the position
-before the next one. It is on the disk before that block's COMMIT is sent. So if the journal's position is that of the
-note, the next block wasn't committed. If the journal has gone on, its event after that position is the block or isn't,
-which `event_after` tells. A load that is done leaves its note, so that the same command doesn't load its rows twice.
+The file `tsctl.load`, beside the journal, has a line for each state of a load: an object of JSON. The last line of an
+input counts. An input is known by its table, and by the number and the SHA-256 of its rows. So it is the same under
+another name, and a file that has grown begins with it.
+
+No line says that a block is committed before it is. Before a COMMIT is sent, a line says which block comes next, and
+the position before it. If the load ends there, the journal tells whether the block was committed: the event after that
+position has its rows, or hasn't.
 """
 from __future__ import annotations
 
+import fcntl
+import hashlib
 import json
 import os
-from collections import Counter
-from collections.abc import Sequence
+from collections.abc import Iterable, Iterator
+from contextlib import contextmanager
 from dataclasses import asdict, dataclass, field
 from pathlib import Path
+from typing import BinaryIO
 
-from .history import History, follow
-from .image import Image
-from .journal import Commit, Damaged, Insert
+from .history import History
+from .journal import Commit, Event, Insert, Wrong
 from .messages import Trouble
 from .names import sync_folder
+from .positions import event_at
 
 FILE = "tsctl.load"
+HEADER = b"tsctl.load 2\n"
+# A longer file is written again, with the last lines of the inputs that came last.
+MOST_SIZE = 1 << 23
+MOST_KEPT = 1 << 22
+BEGUN, FINISHED, GIVEN_UP = "begun", "finished", "given up"
+Key = tuple[str, int, str]
+
+
+@dataclass
+class Block:
+    """A block that is on its way: the position before it, its rows, those of them that are there more than once, and
+    its sum."""
+
+    position: int
+    rows: int
+    duplicates: int
+    sum: str
 
 
 @dataclass
 class Note:
-    """How far a load has come. `input` tells which input it is, with its options, so that no other goes on with it.
-    `commits` are pairs of a first and a last position."""
+    """How far a load has come. `size` and `sum` tell the input by its rows, of which it loads those from `start` on,
+    parted in a certain manner. `commits` are pairs of a first and a last position, and `last` is the sum of the block
+    that was committed last."""
 
     name: str
-    input: str
+    table: str
+    size: int
+    sum: str
+    manner: str
+    start: int = 0
+    state: str = BEGUN
     done: int = 0
-    position: int = 0
     rows: int = 0
     duplicates: int = 0
-    is_finished: bool = False
     commits: list[tuple[int, int]] = field(default_factory=list)
+    last: str = ""
+    coming: Block | None = None
 
-    def committed(self, position: int, rows: int) -> None:
-        """Takes a block that was committed with so many rows."""
-        self.rows += rows
+    def key(self) -> Key:
+        """What tells the input from others."""
+        return self.table, self.size, self.sum
+
+    def begin(self, position: int, rows: list[str], duplicates: int) -> None:
+        """Takes that a block comes next."""
+        self.coming = Block(position, len(rows), duplicates, sum_of_block(self.table, rows))
+
+    def take(self, position: int) -> None:
+        """Takes that the block which was to come was committed."""
+        assert self.coming
+        self.rows += self.coming.rows
+        self.duplicates += self.coming.duplicates
+        self.last = self.coming.sum
+        self.done += 1
+        self.coming = None
         if self.commits and self.commits[-1][1] == position - 1:
             self.commits[-1] = (self.commits[-1][0], position)
         else:
             self.commits.append((position, position))
 
+    def has_rows(self) -> bool:
+        """Whether rows of it may be in the table."""
+        return self.state != GIVEN_UP or bool(self.commits) or self.coming is not None
 
-class NoteFile:
-    """The note's file in a folder."""
+
+def note_of(line: bytes) -> Note:
+    """The note that a line has."""
+    read = json.loads(line)
+    read["commits"] = [(int(first), int(last)) for first, last in read["commits"]]
+    read["coming"] = Block(**read["coming"]) if read["coming"] else None
+    return Note(**read)
+
+
+class Notes:
+    """The notes of a folder, by their inputs, in the order in which they were written."""
 
     def __init__(self, folder: Path) -> None:
         self.path = folder / FILE
+        self.notes: dict[Key, Note] = {}
+        self.size = 0
 
-    def read(self) -> Note | None:
-        """The note of a load that was broken off."""
+    @classmethod
+    def read(cls, folder: Path) -> Notes:
+        """Those of a folder; without a file, none."""
+        notes = cls(folder)
         try:
-            read = json.loads(self.path.read_bytes())
-            read["commits"] = [(first, last) for first, last in read["commits"]]
-            return Note(**read)
+            notes.learn(notes.path.read_bytes())
         except FileNotFoundError:
-            return None
+            pass
         except OSError as error:
-            raise Trouble(f"{self.path}: {error.strerror}") from None
+            raise Trouble(f"{notes.path}: {error.strerror}") from None
+        return notes
+
+    def learn(self, content: bytes) -> None:
+        """Takes the whole lines of bytes that follow those already read."""
+        if self.size == 0 and content.startswith(b"{"):
+            self.learn_old(content)
+            return
+        end = content.rfind(b"\n") + 1
+        lines = content[:end].split(b"\n")[:-1]
+        if self.size == 0 and lines and lines.pop(0) + b"\n" != HEADER:
+            raise Trouble(self.damaged())
+        try:
+            for note in map(note_of, lines):
+                self.put(note)
         except (ValueError, TypeError, KeyError):
-            raise Trouble(f"{self.path} is no note of a load: remove it, and see what the journal has") from None
+            raise Trouble(self.damaged()) from None
+        self.size += end
+
+    def learn_old(self, content: bytes) -> None:
+        """Takes the file of version 0.15, which has the last load only, and doesn't tell its rows."""
+        try:
+            is_finished = json.loads(content)["is_finished"]
+        except (ValueError, TypeError, KeyError):
+            raise Trouble(self.damaged()) from None
+        if not is_finished:
+            raise Trouble(
+                f"{self.path} is of a load that tsq 0.15 began and didn't end: end it by that version, or remove the "
+                "file, and load with --once, which leaves out rows that are there"
+            )
+
+    def damaged(self) -> str:
+        """What is said of a file that isn't whole."""
+        return f"{self.path} is damaged: remove it, and load with --once, which leaves out rows that are there"
+
+    def put(self, note: Note) -> None:
+        """Takes a note as the last one."""
+        self.notes.pop(note.key(), None)
+        self.notes[note.key()] = note
+
+    def of(self, table: str) -> list[Note]:
+        """The notes of a table."""
+        return [note for note in self.notes.values() if note.table == table]
 
     def write(self, note: Note) -> None:
-        """Puts a note on the disk, whole, in place of the one before it."""
-        new = self.path.with_suffix(".load_new")
-        try:
-            with open(new, "w", encoding="utf-8") as file:
-                json.dump(asdict(note), file)
+        """Puts a note on the disk."""
+        with self.locked() as file:
+            self.put(note)
+            line = line_of(note)
+            if self.size == 0 or self.size + len(line) > MOST_SIZE:
+                self.replace()
+            else:
+                file.write(line)
                 file.flush()
                 os.fsync(file.fileno())
-            os.replace(new, self.path)
-            sync_folder(self.path.parent)
+                self.size += len(line)
+
+    @contextmanager
+    def locked(self) -> Iterator[BinaryIO]:
+        """The file, held by this process only, once its new lines were read. A last line that is cut off is removed."""
+        try:
+            with open(os.open(self.path, os.O_RDWR | os.O_CREAT, 0o666), "r+b") as file:
+                fcntl.flock(file, fcntl.LOCK_EX)
+                file.seek(self.size)
+                self.learn(file.read())
+                if self.size:
+                    file.truncate(self.size)
+                    file.seek(self.size)
+                yield file
         except OSError as error:
             raise Trouble(f"{self.path}: {error.strerror}") from None
 
-
-def event_after(journal: bytes, position: int) -> tuple[History, object]:
-    """The event of a journal that follows a position. It isn't there if a checkpoint has replaced it."""
-    try:
-        for history, event, _ in follow(journal):
-            if history.position == position + 1 and not isinstance(event, Image):
-                return history, event
-            if history.position > position:
+    def replace(self) -> None:
+        """Writes the file again, whole, in place of the one before it. If there is too much, the oldest loads that came
+        to their end are left out."""
+        notes = sorted(self.notes.values(), key=lambda note: note.state != FINISHED)
+        lines: list[bytes] = []
+        size = len(HEADER)
+        for note in reversed(notes):
+            line = line_of(note)
+            if lines and size + len(line) > MOST_KEPT:
                 break
-    except Damaged as damaged:
-        raise Trouble(str(damaged)) from None
-    raise Trouble(
-        f"a checkpoint has replaced the events behind @{position}, so it can't be told how far this load came: remove "
-        f"{FILE}, and load with --once, which leaves out the rows that are there"
-    )
+            lines.append(line)
+            size += len(line)
+        new = self.path.with_suffix(".load_new")
+        with open(new, "wb") as file:
+            file.write(HEADER + b"".join(reversed(lines)))
+            file.flush()
+            os.fsync(file.fileno())
+        os.replace(new, self.path)
+        sync_folder(self.path.parent)
+        self.size = size
 
 
-def is_block(history: History, event: object, table: str, rows: Sequence[str]) -> bool:
-    """Whether an event is the commit of a block: of these rows in this table, and of nothing else."""
+def line_of(note: Note) -> bytes:
+    """The line of a note."""
+    return json.dumps(asdict(note)).encode() + b"\n"
+
+
+# ---- what the journal has of it
+
+
+def sum_of_block(table: str, rows: Iterable[str]) -> str:
+    """What tells a block from others: its table and its rows, in any order."""
+    return hashlib.sha256("\n".join([table, *sorted(rows)]).encode()).hexdigest()
+
+
+def sum_of_event(history: History, event: Event) -> str:
+    """The sum of the block whose commit an event is; nothing if it is another event."""
     if not isinstance(event, Commit):
-        return False
-    found: Counter[str] = Counter()
+        return ""
+    tables = {operation.table for operation in event.operations}
+    rows: list[str] = []
     for operation in event.operations:
+        if len(tables) > 1 or not isinstance(operation, Insert):
+            return ""
         relation = history.tables[operation.table]
-        if not isinstance(operation, Insert) or relation.name != table:
-            return False
-        found.update(row_text(row, relation.place()) for row in operation.rows)
-    return found == Counter(rows)
+        rows += [row_text(row, relation.place()) for row in operation.rows]
+    return sum_of_block(history.tables[tables.pop()].name, rows)
 
 
 def row_text(row: list[int | None], place: int) -> str:
     """A row of a journal, which begins with its time, as a block has it: in the order of the declared columns."""
     declared = [*row[1 : place + 1], row[0], *row[place + 1 :]]
     return ",".join("null" if value is None else str(value) for value in declared)
+
+
+def sum_at(journal: Path, position: int) -> str | None:
+    """The sum of the block at a position of a journal, and nothing if the journal doesn't have that event any more."""
+    try:
+        found = event_at(journal, position)
+        return sum_of_event(*found) if found else None
+    except (Wrong, IndexError):
+        return None
+
+
+def settle(note: Note, journal: Path, position: int) -> bool:
+    """Takes what the journal, which is at a position, tells of the block that was to come. Gives whether there was
+    anything to take."""
+    if note.coming is None or position < note.coming.position:
+        return False
+    found = "" if position == note.coming.position else sum_at(journal, note.coming.position + 1)
+    if found is None:
+        return False
+    if found == note.coming.sum:
+        note.take(note.coming.position + 1)
+    note.coming = None
+    return True
+
+
+def is_absent(note: Note, position: int) -> bool:
+    """Whether a journal that is at this position was begun again since a load, so that it has nothing of it."""
+    first = note.commits[0][0] if note.commits else note.coming.position + 1 if note.coming else 0
+    return first > position
+
+
+def is_there(note: Note, journal: Path, position: int) -> bool:
+    """Whether a journal that is at this position has what was committed last of a load, as far as it tells."""
+    if not note.commits:
+        return True
+    last = note.commits[-1][1]
+    return last <= position and sum_at(journal, last) in (None, note.last)

@@ -5,15 +5,17 @@ import re
 from collections.abc import Iterator
 from pathlib import Path
 
+from .intake import WAYS_ON, Intake
 from .messages import Trouble
-from .programs import Ended, Program, journal_in
+from .options import JOURNAL
+from .programs import Ended, Program
 from .replies import Reply
-from .resume import Note, NoteFile, event_after, is_block
+from .resume import BEGUN, FILE, FINISHED, Note, Notes, is_there, settle
 from .statements import MOST_LINE
 
 MOST_ROWS = 1000
 COMMITTED = re.compile(r"COMMIT @(\d+) \+(\d+) -0")
-BEGUN = re.compile(r"BEGIN @(\d+)")
+BEGIN = re.compile(r"BEGIN @(\d+)")
 # What a block takes beside its rows.
 ROOM = 1 << 20
 
@@ -59,19 +61,21 @@ class Sender:
 
     def position(self) -> int:
         """The position of the journal."""
-        found = BEGUN.fullmatch(self.text("BEGIN READ ONLY"))
+        found = BEGIN.fullmatch(self.text("BEGIN READ ONLY"))
         if not found or self.text("COMMIT") != "END":
             raise Trouble("tsctl doesn't tell its position")
         return int(found[1])
 
-    def make_room(self, rows: list[str]) -> None:
-        """Begins another run if this one can't take a block, since a run takes so many bytes."""
+    def make_room(self, rows: list[str]) -> bool:
+        """Begins another run if this one can't take a block, since a run takes so many bytes. Gives whether it did."""
         size = sum(map(len, rows)) + 4 * len(rows) + ROOM
-        if not self.program.has_room(size):
-            status = self.program.end()
-            if status > 1:
-                raise Ended(status)
-            self.program = Program(self.folder)
+        if self.program.has_room(size):
+            return False
+        status = self.program.end()
+        if status > 1:
+            raise Ended(status)
+        self.program = Program(self.folder)
+        return True
 
     def commit(self, rows: list[str]) -> int:
         """Commits a block, and gives its position. If a statement is refused, nothing of it is."""
@@ -100,45 +104,47 @@ class Sender:
         return set(reply.rows)
 
 
-def position_now(sender: Sender, note: Note, block: list[str]) -> int:
-    """The position before a load goes on with this block, which the note says is the next one. If it was committed
-    already, the note takes it."""
+def check(sender: Sender, intake: Intake, notes: Notes) -> None:
+    """That the journal has what the notes of earlier loads say, now that nobody else writes. What it tells of blocks
+    that were on their way is noted."""
+    position, journal = sender.position(), sender.folder / JOURNAL
+    if Notes.read(sender.folder).of(sender.table) != notes.of(sender.table):
+        raise Trouble("another load has gone on meanwhile: nothing is loaded, try again")
+    for note in notes.of(sender.table):
+        if note.state == BEGUN and settle(note, journal, position):
+            notes.write(note)
+    for note in intake.relied_on():
+        if not is_there(note, journal, position):
+            raise Trouble(
+                f"{FILE} says that {note.name} was loaded up to @{note.commits[-1][1]}, and the journal has something "
+                f"else there: it was put back, or is another one. Nothing is loaded; {WAYS_ON}"
+            )
+        if note.coming:
+            raise Trouble(
+                f"the journal has lost its event after @{note.coming.position}, so it can't be told how far the load "
+                f"of {note.name} came. Nothing is loaded; {WAYS_ON}"
+            )
+
+
+def send(sender: Sender, blocks: Iterator[list[str]], at: int, note: Note, notes: Notes) -> None:
+    """Commits the blocks from the one on that the note names. `at` is the place of the time in a row."""
     position = sender.position()
-    if position < note.position:
-        raise Trouble(
-            f"the journal is at @{position}, and the load was at @{note.position}: this is an older copy. Remove "
-            "tsctl.load, and load with --once, which leaves out the rows that are there"
-        )
-    if position > note.position and not sender.is_once:
-        history, event = event_after(journal_in(sender.folder), note.position)
-        if is_block(history, event, sender.table, block):
-            note.done += 1
-            note.committed(note.position + 1, len(block))
-            note.duplicates += len(block) - len(set(block))
-    return position
-
-
-def send(sender: Sender, blocks: Iterator[list[str]], at: int, note: Note, notes: NoteFile, is_begun: bool) -> None:
-    """Commits the blocks from the one on that the note names. `at` is the place of the time in a row. `is_begun` says
-    that the note is that of a load which was broken off."""
-    position = None if is_begun else sender.position()
     for number, block in enumerate(blocks):
         if number < note.done:
             continue
-        if position is None:
-            position = position_now(sender, note, block)
-            if number < note.done:
-                continue
         rows = new_rows(sender, block, at) if sender.is_once else block
-        note.done, note.position = number, position
-        if rows:
-            sender.make_room(rows)
-            notes.write(note)
-            position = sender.commit(rows)
-            note.committed(position, len(rows))
-        note.duplicates += len(block) - len(rows if sender.is_once else set(block))
-    note.is_finished = True
-    note.position = position or 0
+        duplicates = len(block) - len(rows if sender.is_once else set(block))
+        if not rows:
+            note.done += 1
+            note.duplicates += duplicates
+            continue
+        if sender.make_room(rows):
+            position = sender.position()
+        note.begin(position, rows, duplicates)
+        notes.write(note)
+        position = sender.commit(rows)
+        note.take(position)
+    note.state = FINISHED
     notes.write(note)
 
 

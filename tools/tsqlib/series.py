@@ -10,7 +10,7 @@ from .messages import Trouble
 from .names import Names
 from .periods import Periods
 from .picture import Column, Row
-from .rolling import Total, number_of, roll_up
+from .rolling import Total, number_of, roll_up, totals_of
 
 NULL = "null"
 MOST_NOTES = 3
@@ -75,6 +75,7 @@ def of_roll(shown: Shown, aggregate: Aggregate, periods: Periods, edges: Edges) 
     states = states_of(shown, rolled, edges, aggregate.width, periods.clock)
     cut = [f"cut {periods.name(start)}: {state.cut}" for start, state in states.items() if state.cut]
     notes = cut[:MOST_NOTES] + [f"and {len(cut) - MOST_NOTES} more that are cut"] * (len(cut) > MOST_NOTES)
+    notes += [f"{name} is left out: {aggregate.name} has no count of its values" for name in totals_of(aggregate)[1]]
     title = f"{aggregate.name} by {periods.kind}"
     return Series(title, periods.kind, list(aggregate.keys), list(map(column, rolled.totals)), buckets, notes)
 
@@ -83,7 +84,11 @@ def of_query(shown: Shown) -> Series:
     """The rows of a query by buckets of one width."""
     output, first = shown.output, 1 + shown.output.keys
     width = output.width or 1
-    columns = [Drawable(name, is_time=first + place in output.times) for place, name in enumerate(output.names[first:])]
+    columns = [
+        Drawable(name, scaled_as=output.units[place] if place < len(output.units) else None,
+                 is_time=place in output.times)
+        for place, name in enumerate(output.names) if place >= first
+    ]  # fmt: skip
     buckets = [Bucket(int(row[0]), int(row[0]) + width, row[1:first], row[first:]) for row in shown.rows]
     return Series(shown.title, output.names[0], output.names[1:first], columns, buckets)
 

@@ -39,6 +39,7 @@ ENDINGS = {
 DISK_FAULT = 5
 SECONDS_TO_WRITE = 3
 SECONDS_OF_SILENCE = 4
+SECONDS_OF_WHY = 60
 
 
 # ---- options
@@ -95,7 +96,7 @@ def why(folder: str | os.PathLike[str]) -> str:
     """What `tsctl why` says of a folder."""
     try:
         how: dict[str, Any] = {"stdin": subprocess.DEVNULL, "stdout": subprocess.PIPE, "stderr": subprocess.STDOUT}
-        done = subprocess.run([programs.TOP / "tools" / "why"], cwd=folder, timeout=20, **how)
+        done = subprocess.run([programs.TOP / "tools" / "why"], cwd=folder, timeout=SECONDS_OF_WHY, **how)
         return str(done.stdout.decode("utf-8", "replace").strip())
     except (OSError, subprocess.TimeoutExpired):
         return ""
@@ -111,7 +112,10 @@ class State:
         self.access = access
         self.policies = policies
         self.guard = threading.Lock()
+        # The number of an ending, and what `tsctl why` says of it.
         self.known: tuple[int, str] = (0, "")
+        self.asking: threading.Thread | None = None
+        self.sessions.before_start = self.wait
 
     def __call__(self) -> dict[str, Any]:
         """As an object of JSON."""
@@ -132,13 +136,41 @@ class State:
         return state
 
     def why(self, status: int) -> str:
-        """What `tsctl why` says, which is asked once for an ending, and by one at a time: it tries the lock itself."""
+        """What `tsctl why` says of a disk fault. Until it is known this is empty, so nobody waits to hear that there is
+        a fault; then it is news."""
         if status != DISK_FAULT:
             return ""
+        endings = self.sessions.endings
         with self.guard:
-            if self.known[0] != self.sessions.endings:
-                self.known = self.sessions.endings, why(self.sessions.folder)
+            if self.known[0] != endings:
+                self.known = endings, ""
+                self.asking = threading.Thread(target=self.find_why, args=(endings,), daemon=True)
+                self.asking.start()
             return self.known[1]
+
+    def last_why(self, status: int) -> str:
+        """The same at the end, when it may take its time."""
+        if status != DISK_FAULT:
+            return ""
+        self.wait()
+        with self.guard:
+            endings, text = self.known
+        return text if endings == self.sessions.endings else why(self.sessions.folder)
+
+    def wait(self) -> None:
+        """Waits for what is asked: it tries the lock of the journal itself, which a new program needs."""
+        with self.guard:
+            asking = self.asking
+        if asking:
+            asking.join(SECONDS_OF_WHY)
+
+    def find_why(self, endings: int) -> None:
+        """Asks for it."""
+        text = why(self.sessions.folder)
+        with self.guard:
+            if self.known[0] == endings:
+                self.known = endings, text
+        self.sessions.news.tell()
 
 
 # ---- standard input
@@ -222,7 +254,7 @@ def announce(server: Server, access: Access, options: Namespace) -> None:
     say(f"http://127.0.0.1:{server.server_port}/{token}")
 
 
-def end(server: Server, sessions: Sessions) -> int:
+def end(server: Server, sessions: Sessions, state: State) -> int:
     """Lets what runs come to its reply, and gives the exit status."""
     server.ended.set()
     status = sessions.end()
@@ -231,7 +263,7 @@ def end(server: Server, sessions: Sessions) -> int:
     server.server_close()
     if status > 1:
         say(f"tsctl has ended with status {status}: {ending(status)}")
-        for line in (why(sessions.folder) if status == DISK_FAULT else "").splitlines():
+        for line in state.last_why(status).splitlines():
             say(line)
         return status
     say(f"ended at position {sessions.position}")
@@ -282,7 +314,9 @@ def serve_within(options: Namespace, ends: ExitStack) -> int:
     state = State(folder, views, access, policies)
     measured = Metrics(views, policies)
     server = listening(options.port, views, access, state, measured)
-    late = threading.Timer(SECONDS_OF_SILENCE, say, ["tsctl starts; a long journal, or a program to be built, takes its time"])
+    late = threading.Timer(
+        SECONDS_OF_SILENCE, say, ["tsctl starts; a long journal, or a program to be built, takes its time"]
+    )
     late.daemon = True
     late.start()
     try:
@@ -302,4 +336,4 @@ def serve_within(options: Namespace, ends: ExitStack) -> int:
     if not access.is_read_only:
         begin_input(sessions, options.rows)
     stop.wait()
-    return end(server, sessions)
+    return end(server, sessions, state)

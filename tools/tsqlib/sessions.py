@@ -154,6 +154,8 @@ class Sessions:
         self.is_wanted: Callable[[], bool] = lambda: True
         # Makes numbers of dates and texts in a line.
         self.in_numbers: Callable[[bytes, Schema], bytes] = lambda raw, _: raw
+        # What is waited for before a program is started by hand.
+        self.before_start: Callable[[], None] = lambda: None
         # What is done with each program before it takes statements.
         self.beginnings: list[Callable[[], None]] = []
 
@@ -161,6 +163,7 @@ class Sessions:
 
     def start(self) -> None:
         """Starts a program, if none runs, and asks it for its position."""
+        self.before_start()
         with self.turns:
             if self.program is None and not self.is_ending:
                 self.begin()
@@ -222,9 +225,10 @@ class Sessions:
             return f"{self.longest:g} seconds are the most (--longest)"
         return None if running.seconds() < SECONDS_ALONE or running.is_wanted() else "its client has gone"
 
-    def can_stop(self, statement: Statement) -> bool:
-        """Whether a statement may be given up: a question, and no session loses anything by it."""
-        return asks(statement.text()) and not self.seats.held()
+    def can_stop(self, owner: Owner, statement: Statement) -> bool:
+        """Whether a statement may be given up: a question, and no session loses anything by it. A program that begins
+        answers once it has read the journal, however long that takes."""
+        return owner != START and asks(statement.text()) and not self.seats.held()
 
     def stop_question(self) -> bool:
         """Lets the question that runs be given up. Gives whether it will be: nothing may be lost by it."""
@@ -322,7 +326,7 @@ class Sessions:
             raise Lost(f"the session {owner.name} has lost {self.lost.pop(owner)}")
         seat = self.seats.seat_of(owner) if statement.front else None
         name = seat.name if seat else ""
-        running = self.running = Running(time.monotonic(), self.can_stop(statement), self.is_wanted)
+        running = self.running = Running(time.monotonic(), self.can_stop(owner, statement), self.is_wanted)
         try:
             raw = (name + ":").encode() * bool(seat) + statement.rest
             reply = program.ask(raw, None, lambda texts: keep(self.checked(texts)), bounded_ranges)

@@ -5,15 +5,16 @@ place of its cells.
 """
 from __future__ import annotations
 
+import codecs
 import csv
-import hashlib
 import io
 import json
 import re
 import sys
 from collections.abc import Iterator
+from contextlib import contextmanager
 from pathlib import Path
-from typing import Any, BinaryIO, Protocol, TextIO
+from typing import Any, Protocol, TextIO
 
 from .messages import Trouble
 from .values import Bad
@@ -37,34 +38,24 @@ class Source(Protocol):
 # ---- bytes
 
 
-class Hashed(io.RawIOBase):
-    """A file's bytes as they are read, with their number and their SHA-256."""
-
-    def __init__(self, file: BinaryIO) -> None:
-        self.file = file
-        self.size = 0
-        self.sum = hashlib.sha256()
-
-    def readable(self) -> bool:
-        return True
-
-    def readinto(self, buffer: Any) -> int:
-        content = self.file.read(len(buffer))
-        buffer[: len(content)] = content
-        self.size += len(content)
-        self.sum.update(content)
-        return len(content)
-
-
-def opened(name: str, encoding: str) -> tuple[Hashed, TextIO]:
-    """A file, or standard input for `-`, as bytes that are counted and as text."""
+@contextmanager
+def opened(name: str, encoding: str) -> Iterator[TextIO]:
+    """A file, or standard input for `-`, which stays open, as text."""
     try:
-        hashed = Hashed(sys.stdin.buffer if name == "-" else open(name, "rb"))
-        return hashed, io.TextIOWrapper(io.BufferedReader(hashed, 1 << 16), encoding=encoding, newline="")
+        codecs.lookup(encoding)
+        file = sys.stdin.buffer if name == "-" else open(name, "rb")
     except OSError as error:
         raise Trouble(f"{name}: {error.strerror}") from None
     except LookupError:
         raise Trouble(f"--encoding {encoding}: there is no such encoding") from None
+    text = io.TextIOWrapper(file, encoding=encoding, newline="")
+    try:
+        yield text
+    finally:
+        if name == "-":
+            text.detach()
+        else:
+            text.close()
 
 
 # ---- CSV
@@ -193,7 +184,9 @@ class Json(Objects):
             raise Bad("is no JSON") from None
         if not isinstance(pairs, Pairs):
             raise Bad("is no JSON object")
-        return [(name, self.cell(name, value)) for name, value in pairs if name.lower() in self.wanted or self.other(name)]
+        return [
+            (name, self.cell(name, value)) for name, value in pairs if name.lower() in self.wanted or self.other(name)
+        ]
 
     def other(self, name: str) -> bool:
         """Notes a key that isn't loaded."""

@@ -169,10 +169,9 @@ class Talk:
         self.ask(f"{ME}: COMMIT".encode())
         return begun.position()
 
-    def stale_ranges(self, view: str) -> list[tuple[int | None, int]]:
-        """The stale ranges of an aggregate."""
-        reply = self.ask(f"{PROBE}: SELECT * FROM {view}".encode(), nothing_of)
-        return reply.stale
+    def stale_ranges(self, view: str) -> Reply:
+        """An answer with the stale ranges of an aggregate, and no rows."""
+        return self.ask(f"{PROBE}: SELECT * FROM {view}".encode(), nothing_of)
 
     def watermark(self, view: str, schema: Schema) -> int | None:
         """The watermark of an aggregate, and nothing if it has none yet.

@@ -2,6 +2,7 @@
 from __future__ import annotations
 
 import threading
+import time
 from collections import deque
 from collections.abc import Callable
 from concurrent.futures import Future
@@ -9,6 +10,9 @@ from typing import Any, TypeVar
 
 MOST_WAITING = 256
 MOST_CACHED = 64_000_000
+# What an answer takes besides its bytes.
+BESIDES = 1000
+MOST_RECENT = 32_000_000
 
 Read = TypeVar("Read")
 
@@ -113,11 +117,34 @@ class Cache:
             raise
         with self.guard:
             if self.found.get(key) is future:
-                self.size += len(body)
+                self.size += len(body) + BESIDES
                 if self.size > MOST_CACHED:
                     self.found, self.size = {}, 0
         future.set_result(body)
         return body
+
+
+class Recent:
+    """Answers that were given lately, for those to whom the position of a moment ago is enough. Each is kept as long as
+    its maker says, so that many that ask cost as one."""
+
+    def __init__(self) -> None:
+        self.guard = threading.Lock()
+        self.found: dict[Any, tuple[float, bytes]] = {}
+
+    def get(self, key: Any) -> bytes | None:
+        with self.guard:
+            until, body = self.found.get(key, (0.0, b""))
+            return body if time.monotonic() < until else None
+
+    def keep(self, key: Any, body: bytes, seconds: float) -> None:
+        """Keeps one if there is room, and forgets those whose time is over."""
+        now = time.monotonic()
+        with self.guard:
+            self.found = {other: it for other, it in self.found.items() if now < it[0] and other != key}
+            size = sum(len(it[1]) + BESIDES for it in self.found.values())
+            if size + len(body) < MOST_RECENT:
+                self.found[key] = now + seconds, body
 
 
 def look(turns: Turns, cache: Cache, key: Any, read: Callable[[], Read], write: Callable[[Read], bytes]) -> bytes:

@@ -148,7 +148,9 @@ def time_of(text: str, unit: Unit, in_zone: Callable[[datetime], datetime] = as_
     try:
         moment = datetime.fromisoformat(f"{day} {(clock or '00:00').partition('.')[0]}")
         if zone:
-            offset = "+00:00" if zone.strip().upper() in ("Z", "UTC") else (zone[:3] + ":" + (zone[3:].strip(":") or "00"))
+            offset = (
+                "+00:00" if zone.strip().upper() in ("Z", "UTC") else (zone[:3] + ":" + (zone[3:].strip(":") or "00"))
+            )
             moment = datetime.fromisoformat(f"{moment.isoformat()}{offset}")
     except ValueError:
         raise Bad("is no date (--time names the time column)") from None

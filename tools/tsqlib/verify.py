@@ -80,7 +80,7 @@ def end_found(file: int, folder: Path | None) -> Iterator[Found]:
         yield Found(str(trouble), "put a copy back, or see \"A journal that is damaged\" in docs/RECIPES.md")
         return
     if folder and (holder := held_by(folder)) is not None:
-        yield Found(f"end: at {end}; process {holder} writes, so what is after it isn't looked at")
+        yield Found(f"end: at {end}; process {holder} writes, so what is after it isn't checked")
         return
     ending = ending_of(file, end)
     wrong, remark = ending.wrong(), ending.remark()
@@ -118,7 +118,7 @@ def all_found(places: Places) -> Iterator[Found]:
         raise Trouble(f"{places.journal}: {error.strerror}") from None
     try:
         if sums is None:
-            yield Found(f"sums: without {places.sums}, which `tsq backup` writes, no changed byte can be told")
+            yield Found(f"sums: without {places.sums}, which `tsq backup` writes, changed bytes can't be detected")
         else:
             yield from compared(file, sums, places.folder is None)
             yield from names_found(places.names, sums, places.folder is None)

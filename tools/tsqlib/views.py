@@ -6,22 +6,28 @@ from __future__ import annotations
 
 import json
 import re
+import time
 from typing import Any, NamedTuple
 
-from .answers import Style, cells_for_programs, csv_lines, json_ranges, json_rows, literal, range_cells
+from .answers import Style, cells_for_programs, csv_lines, json_list, json_rows, literal, range_cells
 from .cells import UNITS
 from .dictionary import Dictionary
-from .dropped import parted
+from .dropped import with_drops
 from .journal import LEAST_TIME, MOST_TIME, NAME
 from .refusals import explanation
 from .replies import Keep, Range, Reply
 from .samples import FirstRows, Samples
-from .schema import Output
+from .schema import Output, source_of
 from .sessions import Sessions, Told
+from .turns import Recent
 from .values import Bad, time_of
 
 MOST_TESTS = 2000
+# Cells of a column, and of all columns of a picture.
 MOST_POINTS = 2000
+MOST_DRAWN = 8000
+# A picture is recent for so many times what it took.
+SHARE = 3
 # Rows in the table below a picture.
 TABLE_ROWS = 100
 TABLE_PLACES = 3
@@ -82,9 +88,10 @@ def object_of(fields: dict[str, str]) -> str:
 
 
 def fields_of_rows(reply: Reply, output: Output, style: Style) -> dict[str, str]:
-    """The rows and the stale ranges of an answer as values of JSON."""
-    rows, ranges = json_rows(reply, output, style), json_ranges(reply, output, style)
-    return {"rows": "[" + ",\n ".join(rows) + "]", "stale": "[" + ", ".join(ranges) + "]"}
+    """The rows, the stale ranges and those of dropped rows of an answer as values of JSON."""
+    rows = json_rows(reply, output, style)
+    ranges = {"stale": json_list(reply.stale, style), "dropped": json_list(reply.dropped, style)}
+    return {"rows": "[" + ",\n ".join(rows) + "]"} | ranges
 
 
 def csv_text(reply: Reply, output: Output, style: Style) -> str:
@@ -104,6 +111,7 @@ class Views:
         self.sessions = sessions
         self.dictionary = dictionary
         self.most_rows = most_rows
+        self.recent = Recent()
 
     # ---- what is asked
 
@@ -144,12 +152,19 @@ class Views:
         """The answer with its watermark and drops, for one that has the turn."""
         told = self.answer(question, output, keep)
         watermark = self.sessions.watermark(question.view)
+        return Answer(self.parted(told), output, watermark, self.dictionary.roster.kept_from(question.view))
+
+    def parted(self, told: Told) -> Told:
+        """An answer with the stale ranges of dropped rows apart from the others."""
         self.dictionary.update()
-        return Answer(told, output, watermark, self.dictionary.roster.kept_from(question.view))
+        if told.output is None or not told.reply.stale:
+            return told
+        kept_from = self.dictionary.roster.kept_from(source_of(told.reply.line.tokens()))
+        return told._replace(reply=with_drops(told.reply, kept_from, told.output.width))
 
     # ---- what there is
 
-    def list(self) -> bytes:
+    def all(self) -> bytes:
         """The aggregates, with their columns."""
         self.dictionary.update()
         schema, found = self.sessions.schema, []
@@ -157,7 +172,8 @@ class Views:
             output = schema.outputs[view]
             keys, values = output.names[1 : 1 + output.keys], output.names[1 + output.keys :]
             found.append({"name": view, "table": source, "bucket": output.names[0], "width": output.width, "keys": keys,
-                          "columns": values, "real_time": view not in schema.only,
+                          "columns": values, "times": [output.names[place] for place in sorted(output.times)],
+                          "real_time": view not in schema.only,
                           "scales": self.dictionary.scales(output)})  # fmt: skip
         return dumped({"position": self.sessions.position, "aggregates": found})
 
@@ -199,37 +215,42 @@ class Views:
     def picture(self, view: str, query: dict[str, str]) -> bytes:
         """What the page draws of an aggregate, with the last rows of its table."""
         output, question = self.known(view), self.question(view, query)
-        columns = output.names[1 + output.keys :]
-        column = query.get("column") or columns[0]
-        if column not in columns:
-            raise Refused(404, f"{view} has no column {column[:63]}; there are {', '.join(columns)}")
+        columns = columns_in(query.get("columns", ""), view, output.names[1 + output.keys :])
         points = query.get("points", "")
-        cells = min(int(points), MOST_POINTS) if re.fullmatch(r"[1-9]\d{0,5}", points) else MOST_POINTS
+        most = min(MOST_POINTS, MOST_DRAWN // max(len(columns), 1))
+        cells = min(int(points), most) if re.fullmatch(r"[1-9]\d{0,5}", points) else most
         wanted = query.get("keys", "")
-        samples = self.samples(output, column, cells, keys_of(wanted, output.keys))
-        return self.sessions.look(
-            ("picture", question, column, cells, wanted),
+        samples = self.samples(output, columns, cells, keys_of(wanted, output.keys))
+        key = ("picture", question, *columns, cells, wanted)
+        if "recent" in query and (body := self.recent.get(key)) is not None:
+            return body
+        begun = time.monotonic()
+        body = self.sessions.look(
+            key,
             lambda: self.read(question, output, samples.take),
-            lambda answer: dumped(self.picture_of(question.view, column, answer, samples)),
+            lambda answer: dumped(self.picture_of(question.view, columns, answer, samples)),
         )
+        self.recent.keep(key, body, SHARE * (time.monotonic() - begun))
+        return body
 
-    def samples(self, output: Output, column: str, cells: int, wanted: set[tuple[str, ...]] | None = None) -> Samples:
-        """The lines of a column, which take the rows of an answer."""
-        power = self.dictionary.scales(output).get(column, 0)
-        place, width = output.names.index(column), output.width or 1
-        return Samples(output.keys, place, power, width, max(cells, 2), TABLE_ROWS, wanted)
+    def samples(
+        self, output: Output, columns: list[str], cells: int, wanted: set[tuple[str, ...]] | None = None
+    ) -> Samples:
+        """The lines of some columns, which take the rows of an answer."""
+        scales = self.dictionary.scales(output)
+        drawn = [(output.names.index(column), scales.get(column, 0)) for column in columns]
+        return Samples(output.keys, drawn, output.width or 1, max(cells, 2), TABLE_ROWS, wanted)
 
-    def picture_of(self, view: str, column: str, answer: Answer, samples: Samples) -> dict[str, Any]:
+    def picture_of(self, view: str, columns: list[str], answer: Answer, samples: Samples) -> dict[str, Any]:
         """A picture as an object of JSON."""
         output, reply, texts = answer.output, answer.told.reply, self.dictionary.texts
-        kept, stale = parted(reply.stale, answer.kept_from, output.width or 1)
         names, rows = cells_for_programs(reply, output, self.dictionary.style()._replace(places=TABLE_PLACES))
         lines = [{"keys": keys, "names": texts(output, keys), "points": points} for keys, points in samples.points()]
         others = [{"keys": keys, "names": texts(output, keys)} for keys in samples.others]
         return {
-            "aggregate": view, "position": answer.told.position, "column": column, "width": output.width,
+            "aggregate": view, "position": answer.told.position, "columns": columns, "width": output.width,
             "lines": lines, "others": others, "cell": samples.width, "count": samples.count,
-            "stale": bound_texts(stale), "dropped": bound_texts(kept),
+            "stale": bound_texts(reply.stale), "dropped": bound_texts(reply.dropped),
             "watermark": None if answer.watermark is None else str(answer.watermark),
             "table": {"names": names, "rows": rows},
         }  # fmt: skip
@@ -240,6 +261,15 @@ class Views:
         if not unit:
             raise Refused(400, "times are plain numbers here: tsq serve --times says what they are")
         return time * 1000 // UNITS[unit]
+
+
+def columns_in(text: str, view: str, names: list[str]) -> list[str]:
+    """The columns that a request names, such as `mean,n`; all of them if it names none."""
+    found = text.split(",") if text else names
+    unknown = [name for name in found if name not in names]
+    if unknown:
+        raise Refused(404, f"{view} has no column {unknown[0][:63]}; there are {', '.join(names)}")
+    return list(dict.fromkeys(found))
 
 
 def keys_of(text: str, count: int) -> set[tuple[str, ...]] | None:

@@ -116,13 +116,12 @@ class Watch:
         if reply.fault():
             return Shown(position, [*reply.heads, *explanation(reply, False)], [], [], True)
         output = output_for(reply, schema)
-        dropped, late = self.drops.parted(reply, output.width)
-        reply = reply._replace(stale=late)
-        lines = table(reply, output, self.style, dropped)
+        reply = self.drops.parted(reply, output.width)
+        lines = table(reply, output, self.style)
         rows = lines[HEADING : HEADING + len(reply.rows)]
         named = [f"stale {range_text(bounds, self.style.unit)}" for bounds in reply.stale[:MOST_NAMED]]
         more = [f"and {len(reply.stale) - MOST_NAMED} stale ranges more"] * (len(reply.stale) > MOST_NAMED)
-        more += [f"dropped {range_text(bounds, self.style.unit)}" for bounds in dropped[:MOST_NAMED]]
+        more += [f"dropped {range_text(bounds, self.style.unit)}" for bounds in reply.dropped[:MOST_NAMED]]
         marked = [(line, is_stale(reply, row)) for line, row in zip(rows, reply.rows)]
         return Shown(position, lines[:HEADING] if rows else [], marked, named + more)
 

@@ -7,6 +7,7 @@ import re
 import select
 import socket
 import threading
+import time
 from collections.abc import Callable
 from functools import partial
 from http.server import BaseHTTPRequestHandler, ThreadingHTTPServer
@@ -40,9 +41,11 @@ JSON, CSV = "application/json", "text/csv; charset=utf-8"
 NAMES = {"127.0.0.1", "localhost", "[::1]"}
 MOST_BODY = 1_048_576
 MOST_LINES = 1000
+MOST_FIELDS = 1000
 MOST_CONNECTIONS = 128
 MOST_LISTENERS = 64
 KEPT_ALIVE = 15
+SECONDS_BETWEEN_EVENTS = 0.02
 READ_ONLY = "nothing may be written here (tsq serve --read-only)"
 NONE_TO_STOP = "no question runs, or one by which a session would lose a block, a refresh or policies"
 NEEDS_TOKEN = "needs the token that tsq serve has said: Authorization: Bearer TOKEN"
@@ -75,9 +78,19 @@ class Server(ThreadingHTTPServer):
         self.deadlines = Deadlines()
         self.room = threading.Semaphore(MOST_CONNECTIONS)
         self.listeners = threading.Semaphore(MOST_LISTENERS)
+        self.telling = threading.Lock()
+        self.told: tuple[int, bytes] = (-1, b"")
         self.ended = threading.Event()
         self.requests = Count()
         super().__init__(("127.0.0.1", port), Handler)
+
+    def event(self, number: int, is_first: bool) -> bytes:
+        """The event that tells this state or a later one. It is made once, however many listen, and for the first one
+        that a client gets."""
+        with self.telling:
+            if is_first or self.told[0] < number:
+                self.told = number, f"id: {number}\nevent: state\ndata: {json.dumps(self.state())}\n\n".encode()
+            return self.told[1]
 
     def process_request(self, request: Any, client_address: Any) -> None:
         if not self.room.acquire(blocking=False):
@@ -138,10 +151,10 @@ class Handler(BaseHTTPRequestHandler):
     def follow(self, method: str) -> None:
         """Answers a request, or says why not."""
         parts = urlsplit(self.path)
-        self.query = dict(parse_qsl(parts.query, max_num_fields=20))
         self.is_read = False
         try:
             self.check_origin(parts.path)
+            self.query = query_of(parts.query)
             body = self.body() if method == "POST" else self.no_body()
             self.is_read = True
             self.server.deadlines.clear(self.connection)
@@ -179,7 +192,7 @@ class Handler(BaseHTTPRequestHandler):
         }  # fmt: skip
         return {
             ("GET", "/state"): lambda _: self.send(dumped(self.server.state())),
-            ("GET", "/aggregates"): lambda _: self.send(views.list()),
+            ("GET", "/aggregates"): lambda _: self.send(views.all()),
             ("GET", "/events"): lambda _: self.send_events(),
             ("GET", "/metrics"): lambda _: self.send(self.server.metrics.text(), metrics.KIND),
             ("POST", "/sql"): self.post_sql,
@@ -300,10 +313,9 @@ class Handler(BaseHTTPRequestHandler):
             news, seen = self.server.sessions.news, -1
             while not self.server.ended.is_set():
                 number = news.wait(seen, KEPT_ALIVE)
-                state = json.dumps(self.server.state())
-                text = ": nothing new\n\n" if number == seen else f"id: {number}\nevent: state\ndata: {state}\n\n"
-                self.write(text.encode())
+                self.write(b": nothing new\n\n" if number == seen else self.server.event(number, seen < 0))
                 seen = number
+                time.sleep(SECONDS_BETWEEN_EVENTS)
         finally:
             self.server.listeners.release()
 
@@ -370,6 +382,7 @@ class Handler(BaseHTTPRequestHandler):
 
     def told_json(self, told: Told, keep: FirstRows) -> str:
         """A reply as an object of JSON."""
+        told = self.server.views.parted(told)
         reply = told.reply
         fields: dict[str, str] = {"line": str(reply.line.number), "session": json.dumps(reply.line.session),
                                   "reply": json.dumps(reply.heads), "position": str(told.position)}  # fmt: skip
@@ -395,11 +408,19 @@ class Handler(BaseHTTPRequestHandler):
 
     def csv_of(self, told: Told) -> str:
         """An answer as CSV, or its stale ranges."""
-        style = self.server.views.dictionary.style()
+        style, told = self.server.views.dictionary.style(), self.server.views.parted(told)
         assert told.output
         if "ranges" in self.query:
             return "".join(line + "\n" for line in csv_ranges(told.reply, told.output, style))
         return csv_text(told.reply, told.output, style)
+
+
+def query_of(text: str) -> dict[str, str]:
+    """The words of a request by their names."""
+    try:
+        return dict(parse_qsl(text, max_num_fields=MOST_FIELDS))
+    except ValueError:
+        raise Refused(400, f"a request has at most {MOST_FIELDS} words behind ?") from None
 
 
 def statements_in(body: bytes, session: str) -> list[Statement]:

@@ -1,9 +1,11 @@
 // A card for each aggregate: its chart, legend, stale ranges and table.
-import { chart, lineClass } from "./chart.js";
+import { charts, lineClass } from "./chart.js";
 import { ask, save } from "./server.js";
 import { counted, h, keyText, rangeText, s, tableOf, timeText, unitOf, widthText } from "./texts.js";
 
 const MOST_NAMED = 12;
+// So many columns are drawn until others are chosen.
+const USUAL_PANELS = 4;
 // Milliseconds between two pictures of an aggregate, however fast statements come; and so many times what one took.
 const PAUSE = 800;
 const SHARE = 4;
@@ -11,13 +13,32 @@ const SHARE = 4;
 /** What all cards show: the range of time, and how the page does. */
 export const view = { span: null, zoom: null, isFine: () => false, position: () => -1, choose: () => {}, propose: () => {}, canWrite: () => false };
 
+/** The columns that are drawn until others are chosen: the first ones that are no times. */
+function usualColumns({ columns, times }) {
+  const values = columns.filter((name) => !times.includes(name));
+  return (values.length ? values : columns).slice(0, USUAL_PANELS);
+}
+
+/** The columns that the address names, or the usual ones: `?hours=mean,n`. */
+function columnsInAddress(about) {
+  const named = (new URLSearchParams(location.search).get(about.name) || "").split(",");
+  const found = about.columns.filter((name) => named.includes(name));
+  return found.length ? found : usualColumns(about);
+}
+
 export class Card {
   constructor(about) {
     this.about = about;
-    this.column = about.columns[0];
+    this.columns = columnsInAddress(about);
     this.picture = null;
-    this.isBusy = this.isWanted = this.isSeen = false;
+    // What was wanted as the picture was asked for: see `wish`.
+    this.range = null;
+    this.isLoading = this.isWanted = this.isHasty = this.isSeen = false;
+    this.pause = 0;
     this.position = -1;
+    // The column and the time that are pointed at; whether a range is being chosen, and a drawing waits for that.
+    this.pointed = null;
+    this.isHeld = this.isLate = false;
     // Lines that are hidden, by the texts of their keys, and the lists of keys that are asked for.
     this.hidden = new Set();
     this.keys = null;
@@ -30,7 +51,7 @@ export class Card {
     const { about } = this;
     const by = about.keys.length ? ` by ${about.keys.join(", ")}` : "";
     const mode = about.real_time ? "rows that aren't refreshed yet included" : "as refreshed";
-    this.choice = h("div", { class: "choice", role: "group", "aria-label": "Column" });
+    this.choice = h("div", { class: "columns", role: "group", "aria-label": `Columns of ${about.name} that are drawn` });
     this.verdict = h("p", { class: "verdict", role: "status" }, "…");
     this.plot = h("div", { class: "plot" });
     this.legend = h("ul", { class: "legend", "aria-label": "Lines" });
@@ -50,31 +71,64 @@ export class Card {
   saveCsv() { save(`aggregates/${this.about.name}?format=csv`, `${this.about.name}.csv`).catch((error) => this.fail(error)); }
 
   showChoice() {
-    this.choice.hidden = this.about.columns.length < 2;
-    this.choice.replaceChildren(...this.about.columns.map((name) => h("button", {
-      type: "button", "aria-pressed": String(name === this.column),
-      onclick: () => { this.column = name; this.showChoice(); this.want(true); },
-    }, name)));
+    const { columns } = this.about;
+    this.choice.hidden = columns.length < 2;
+    this.choice.replaceChildren(...columns.map((name) => h("label", {},
+      h("input", {
+        type: "checkbox", value: name, checked: this.columns.includes(name),
+        onchange: (event) => this.chooseColumn(name, event.target),
+      }), name)));
   }
 
-  /** The lines that aren't hidden, with their numbers. */
+  /** Draws a column, or no longer. One stays. Only a column that isn't here is asked for. */
+  chooseColumn(name, box) {
+    const chosen = this.about.columns.filter((other) => (other === name ? box.checked : this.columns.includes(other)));
+    box.checked = box.checked || !chosen.length;
+    this.columns = chosen.length ? chosen : [name];
+    this.remember();
+    this.draw();
+    this.want(true);
+  }
+
+  /** Keeps the chosen columns in the address, so that a bookmark has them. */
+  remember() {
+    const query = new URLSearchParams(location.search), isUsual = this.columns.join() === usualColumns(this.about).join();
+    if (isUsual) query.delete(this.about.name); else query.set(this.about.name, this.columns.join());
+    const text = query.toString().replaceAll("%2C", ",");
+    history.replaceState(null, "", location.pathname + (text && `?${text}`));
+  }
+
+  /** The columns that are chosen and here. */
+  drawn() { return this.columns.filter((name) => this.picture.columns.includes(name)); }
+
+  /** The chosen columns that aren't here yet. */
+  missing() { return this.columns.filter((name) => !this.picture || !this.picture.columns.includes(name)); }
+
+  /** The lines that aren't hidden and have values, with their numbers. */
   shown() {
-    return this.picture.lines.map((line, number) => [line, number]).filter(([line]) => !this.hidden.has(line.keys.join()) && line.points.length);
+    const lines = this.picture.lines.map((line, number) => [line, number]);
+    return lines.filter(([line]) => !this.hidden.has(line.keys.join()) && line.points.some((points) => points.length));
   }
 
   // ---- pictures
 
-  /** Asks for the picture of the present position, unless it is there; and for the last one that is wanted. */
-  want(isForced) {
-    if (isForced) this.position = -1;
-    if (!view.isFine() || !this.isSeen || this.position === view.position()) return;
-    if (this.isBusy) { this.isWanted = true; return; }
-    this.isBusy = true;
+  /** Whether the picture is that of the present position and range, with all chosen columns. */
+  isCurrent() { return this.position >= view.position() && this.range === this.wish() && !this.missing().length; }
+
+  /** Asks for the picture of the present position, unless it is there; and for the last one that is wanted. What was
+   * chosen by hand waits for no pause. */
+  want(isHasty) {
+    if (!view.isFine() || !this.isSeen || this.isCurrent()) return;
+    if (this.isLoading || (this.pause && !isHasty)) { this.isWanted = true; this.isHasty ||= Boolean(isHasty); return; }
+    clearTimeout(this.pause);
+    this.isLoading = true;
+    this.isWanted = this.isHasty = false;
     const begun = performance.now();
-    this.load().catch((error) => this.fail(error)).finally(() => setTimeout(() => {
-      this.isBusy = false;
-      if (this.isWanted) { this.isWanted = false; this.want(); }
-    }, Math.max(isForced ? 0 : PAUSE, SHARE * (performance.now() - begun))));
+    this.load().catch((error) => this.fail(error)).finally(() => {
+      this.isLoading = false;
+      const pause = this.isHasty ? 0 : Math.max(PAUSE, SHARE * (performance.now() - begun));
+      this.pause = setTimeout(() => { this.pause = 0; if (this.isWanted) this.want(); }, pause);
+    });
   }
 
   /** Says why there is no new picture, unless the banner says it. */
@@ -90,8 +144,15 @@ export class Card {
     this.rows.hidden = true;
   }
 
+  /** What is wanted beside columns and position: the range of time, the lines and the number of points. */
+  wish() { return [view.zoom, view.span, this.keys && this.keys.join(";"), this.cells()].join("|"); }
+
+  /** A cell for each two pixels, in steps, so that pages of nearly one width share a picture. */
+  cells() { return Math.max(1, Math.round(this.plot.clientWidth / 200)) * 100; }
+
   query() {
-    const query = new URLSearchParams({ column: this.column, points: String(Math.max(100, Math.floor(this.plot.clientWidth / 2))) });
+    // The same picture is enough for all pages that ask within a moment. It says as of which position it is.
+    const query = new URLSearchParams({ recent: "1", points: String(this.cells()) });
     if (this.keys) query.set("keys", this.keys.join(";"));
     if (view.zoom) {
       // The bucket that the range begins in is shown too.
@@ -103,14 +164,20 @@ export class Card {
     return query.toString();
   }
 
+  /** Loads the chosen columns, or only those that are missing beside the others of the same position and range. */
   async load() {
-    const query = this.query(), at = view.position();
-    const picture = await ask(`pictures/${this.about.name}?${query}`);
-    if (query !== this.query()) { this.isWanted = true; return; }
-    this.position = Math.max(at, picture.position);
-    this.picture = picture;
-    const times = picture.lines.flatMap((line) => line.points.length ? [line.points[line.points.length - 1][0]] : []);
+    const wish = this.wish(), isMore = this.picture && this.range === wish && this.position >= view.position();
+    const columns = isMore ? this.missing() : this.columns, hasEnd = this.end !== undefined;
+    const picture = await ask(`pictures/${this.about.name}?columns=${columns.join()}&${this.query()}`);
+    if (wish !== this.wish()) { this.isWanted = this.isHasty = true; return; }
+    if (isMore && !canJoin(this.picture, picture)) { this.range = null; this.isWanted = this.isHasty = true; return; }
+    this.picture = isMore ? joined(this.picture, picture) : picture;
+    this.position = picture.position;
+    // The last so many seconds aren't known before the last time is.
+    this.range = view.span && !hasEnd ? null : wish;
+    const times = picture.lines.flatMap((line) => line.points.flatMap((points) => points.slice(-1).map((point) => point[0])));
     if (!view.zoom && times.length) this.end = Math.max(this.end ?? -Infinity, Math.max(...times) + this.about.width);
+    if (!this.isCurrent()) this.isWanted = true;
     this.show();
   }
 
@@ -140,10 +207,21 @@ export class Card {
   draw() {
     const { picture } = this;
     if (!picture || !this.plot.clientWidth) return;
-    const hasFocus = this.plot.contains(document.activeElement);
-    if (this.shown().length) this.plot.replaceChildren(chart(this, view.zoom, (ends) => view.choose(null, ends)));
-    else this.drawNothing();
-    if (hasFocus && this.plot.firstChild) this.plot.firstChild.focus();
+    if (this.isHeld) { this.isLate = true; return; }
+    const focused = [...this.plot.querySelectorAll("svg[tabindex]")].indexOf(document.activeElement);
+    if (!this.shown().length || !this.drawn().length) { this.drawNothing(); return; }
+    // What was pointed at stays so, whatever the new rows are.
+    const { pointed } = this, pointers = charts(this, view.zoom, (ends) => view.choose(null, ends));
+    this.plot.replaceChildren(...pointers.map(({ root }) => root));
+    if (focused >= 0) pointers[Math.min(focused, pointers.length - 1)].svg.focus({ preventScroll: true });
+    const pointer = pointed && pointers.find(({ panel }) => panel.column === pointed.column);
+    if (pointer) pointer.show(pointed.at);
+  }
+
+  /** A range is no longer being chosen. */
+  release() {
+    this.isHeld = false;
+    if (this.isLate) { this.isLate = false; this.draw(); }
   }
 
   drawNothing() {
@@ -216,4 +294,16 @@ export class Card {
     this.summary.textContent = rows.length < this.picture.count ? `The last ${rows.length} of ${counted(this.picture.count, "row")}, latest first` : `${counted(rows.length, "row")}, latest first`;
     this.scroll.replaceChildren(tableOf(names, rows.slice().reverse(), this.about.keys));
   }
+}
+
+/** Whether two pictures have the same lines at the same position. */
+function canJoin(picture, more) {
+  const keys = ({ lines }) => lines.map((line) => line.keys.join()).join(";");
+  return picture.position === more.position && picture.cell === more.cell && keys(picture) === keys(more);
+}
+
+/** A picture with the columns of another one of the same position, range and lines. */
+function joined(picture, more) {
+  const lines = picture.lines.map((line, number) => ({ ...line, points: [...line.points, ...more.lines[number].points] }));
+  return { ...picture, lines, columns: [...picture.columns, ...more.columns] };
 }

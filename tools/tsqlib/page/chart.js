@@ -9,23 +9,42 @@ const MOST_IN_TIP = 12;
 const MOST_NAMED = 6;
 const WIDE = 700;
 const LINE_HEIGHT = 13;
+const MOST_LETTERS = 24;
+const NARROW = 560;
 
 /** The class of a line: eight colors, and dashes after the eighth. */
 export const lineClass = (number) => `line s${number % COLORS} d${Math.floor(number / COLORS) % 3}`;
 
 // ---- ranges and ticks
 
-/** The least and the greatest time and value of the lines that are shown. */
-function extents(card, zoom) {
-  const { picture, about } = card, points = card.shown().flatMap(([line]) => line.points);
-  const times = points.map((point) => point[0]), values = points.map((point) => point[1]);
+/** The range of the axis of times: that of the points that are shown, and of what is marked. */
+function timeRange(card, zoom) {
+  const { picture, about } = card;
+  if (zoom) return { low: Number(zoom[0]), high: Number(zoom[1]) };
+  const times = card.shown().flatMap(([line]) => line.points.flat().map((point) => point[0]));
   let low = times.reduce((a, b) => Math.min(a, b)), high = times.reduce((a, b) => Math.max(a, b)) + about.width;
   const marked = [...picture.stale, ...picture.dropped];
-  if (zoom) [low, high] = zoom.map(Number);
-  else for (const [start, end] of marked) { if (start !== "min") low = Math.min(low, Number(start)); high = Math.max(high, Number(end)); }
-  if (!zoom && picture.watermark !== null) high = Math.max(high, Number(picture.watermark));
-  if (!zoom && marked.some(([start, end]) => start === "min" && Number(end) <= low)) low -= Math.max(about.width, (high - low) / 25);
-  return { low, high, ...valueRange(values.reduce((a, b) => Math.min(a, b)), values.reduce((a, b) => Math.max(a, b))) };
+  for (const [start, end] of marked) {
+    if (start !== "min") low = Math.min(low, Number(start));
+    high = Math.max(high, Number(end));
+  }
+  if (picture.watermark !== null) high = Math.max(high, Number(picture.watermark));
+  if (marked.some(([start, end]) => start === "min" && Number(end) <= low)) low -= Math.max(about.width, (high - low) / 25);
+  return { low, high };
+}
+
+/** A panel: its column, the lines that have values of it, the range of its axis, and the texts of its ticks. */
+function panelOf(card, column) {
+  const place = card.picture.columns.indexOf(column);
+  const lines = card.shown().map(([line, number]) => ({ line, number, points: line.points[place] }))
+    .filter(({ points }) => points.length);
+  const values = lines.flatMap(({ points }) => points.map((point) => point[1]));
+  const range = !values.length ? valueRange(0, 1)
+    : valueRange(values.reduce((a, b) => Math.min(a, b)), values.reduce((a, b) => Math.max(a, b)));
+  const isTime = card.about.times.includes(column);
+  const text = isTime ? (value) => timeText(Math.round(value), 1) : numberText;
+  const labels = range.ticks.map((tick) => (isTime ? text(tick) : tickText(tick, range.digits)));
+  return { column, lines, range, labels, text };
 }
 
 /** The range of the axis of values, and the ticks on it. It begins with 0 if that isn't far. */
@@ -83,52 +102,74 @@ function numberTicks(low, high, most) {
 
 // ---- the chart
 
-/** The chart of a card. */
-export function chart(card, zoom, onChoose) {
-  const { picture, about, plot } = card;
-  const wide = plot.clientWidth, tall = wide < 560 ? 230 : 280;
-  const range = extents(card, zoom);
-  const labels = range.ticks.map((tick) => tickText(tick, range.digits));
-  const ends = wide >= WIDE && about.keys.length && card.shown().length <= MOST_NAMED ? card.shown().map(([line]) => keyText(about, line)) : [];
-  const edge = { left: 14 + 6.6 * Math.max(...labels.map((text) => text.length)), right: 14 + (ends.length ? 4 : 0) + 7 * Math.max(0, ...ends.map((text) => Math.min(text.length, 24))), top: 40, bottom: 42 };
-  const x = (at) => edge.left + ((at - range.low) / (range.high - range.low)) * (wide - edge.left - edge.right);
-  const y = (value) => tall - edge.bottom - ((value - range.least) / (range.greatest - range.least)) * (tall - edge.top - edge.bottom);
-  const area = { ...edge, wide, tall, x, y, range, end: wide - edge.right, floor: tall - edge.bottom };
-  const name = `${about.name}: ${picture.column} over time, ${counted(picture.stale.length, "stale range")}. Arrow keys move along it, + and - change the range.`;
-  const svg = s("svg", { viewBox: `0 0 ${wide} ${tall}`, height: tall, role: "img", tabindex: "0", "aria-label": name }, definitions(about.name, area),
-    drawMarked(area, picture, about), drawAxes(area, picture, about, labels), drawLines(card, area), drawWatermark(area, picture),
-    nameMarked(area, picture.dropped, "dropped"), nameMarked(area, picture.stale, "stale"), nameLines(card, area, ends));
-  new Pointer(card, svg, area, onChoose);
-  return svg;
+/** The panels of a card, one below the other: one for each column, all over the same range of time. */
+export function charts(card, zoom, onChoose) {
+  const { about, plot } = card, wide = plot.clientWidth;
+  const panels = card.drawn().map((column) => panelOf(card, column));
+  const isNamed = about.keys.length > 0 && wide >= WIDE && card.shown().length <= MOST_NAMED;
+  const names = isNamed ? card.shown().map(([line]) => keyText(about, line)) : [];
+  const sides = {
+    ...timeRange(card, zoom), wide, hasNames: names.length > 0,
+    left: 14 + 6.6 * Math.max(...panels.flatMap(({ labels }) => labels.map((text) => text.length))),
+    right: 14 + (names.length ? 4 : 0) + 7 * Math.max(0, ...names.map((text) => Math.min(text.length, MOST_LETTERS))),
+  };
+  const pointers = [];
+  for (const [place, panel] of panels.entries()) {
+    const area = areaOf(sides, panel, { isFirst: !place, isLast: place === panels.length - 1, isAlone: panels.length === 1 });
+    pointers.push(new Pointer(card, panel, drawPanel(card, panel, area), area, onChoose, pointers));
+  }
+  return pointers;
+}
+
+/** Where the parts of a panel are. Only the first one names what is marked, and only the last one has the axis of times. */
+function areaOf(sides, panel, { isFirst, isLast, isAlone }) {
+  const { low, high, left, right, wide } = sides, { least, greatest } = panel.range, isNarrow = wide < NARROW;
+  const height = isAlone ? (isNarrow ? 148 : 198) : isNarrow ? 96 : 118;
+  const top = isFirst ? 40 : 28, floor = top + height, tall = floor + (isLast ? 42 : 9), end = wide - right;
+  const x = (at) => left + ((at - low) / (high - low)) * (end - left);
+  const y = (value) => floor - ((value - least) / (greatest - least)) * height;
+  return { ...sides, ...panel.range, top, floor, tall, end, height, isFirst, isLast, isAlone, x, y };
+}
+
+function drawPanel(card, panel, area) {
+  const { picture, about } = card, { wide, tall } = area, id = `${about.name}-${panel.column}`;
+  const name = `${about.name}: ${panel.column} over time, ${counted(picture.stale.length, "stale range")}. `
+    + "Arrow keys move along it, + and - change the range.";
+  const named = area.isFirst ? [nameMarked(area, picture.dropped, "dropped"), nameMarked(area, picture.stale, "stale")] : [];
+  const middle = { x: (area.left + area.end) / 2, y: (area.top + area.floor) / 2, "text-anchor": "middle" };
+  const nothing = panel.lines.length ? null : s("text", { class: "nothing", ...middle }, "no values in this range of time");
+  return s("svg", { viewBox: `0 0 ${wide} ${tall}`, height: tall, role: "img", tabindex: "0", "aria-label": name }, definitions(id, area),
+    drawMarked(area, picture, id), drawAxes(area, panel, about), drawLines(panel, picture, area, id), drawWatermark(area, picture),
+    named, nameLines(about, panel, area), nothing);
 }
 
 /** The hatching of ranges, and the part of the chart that lines stay in. */
 function definitions(name, area) {
   const pattern = (kind, angle, width) => s("pattern", { id: `${kind}-${name}`, width, height: width, patternUnits: "userSpaceOnUse", patternTransform: `rotate(${angle})` },
     s("path", { d: `M0 0V${width}`, class: `${kind}-hatch` }));
-  const inside = { x: area.left, y: area.top - 4, width: Math.max(0, area.end - area.left), height: area.floor - area.top + 8 };
+  const inside = { x: area.left, y: area.top - 4, width: Math.max(0, area.end - area.left), height: area.height + 8 };
   return s("defs", {}, pattern("stale", 45, 7), pattern("dropped", -45, 9), s("clipPath", { id: `inside-${name}` }, s("rect", inside)));
 }
 
-function drawAxes(area, picture, about, labels) {
-  const parts = area.range.ticks.map((tick, place) => s("g", {},
+function drawAxes(area, panel, about) {
+  const parts = area.ticks.map((tick, place) => s("g", {},
     s("path", { d: `M${area.left} ${area.y(tick).toFixed(1)}H${area.end}`, class: place ? "grid" : "axis" }),
-    s("text", { x: area.left - 8, y: area.y(tick) + 3.5, "text-anchor": "end" }, labels[place])));
+    s("text", { x: area.left - 8, y: area.y(tick) + 3.5, "text-anchor": "end" }, panel.labels[place])));
   const axis = unitOf() ? `${about.bucket}, UTC` : about.bucket;
   parts.push(drawTimes(area, about.width, area.end - axis.length * 6 - 12));
-  parts.push(s("text", { x: 2, y: 12, class: "name" }, picture.column));
-  parts.push(s("text", { x: area.end, y: area.floor + 31, "text-anchor": "end" }, axis));
+  parts.push(s("text", { x: 2, y: 12, class: "name" }, panel.column));
+  if (area.isLast) parts.push(s("text", { x: area.end, y: area.floor + 31, "text-anchor": "end" }, axis));
   return s("g", {}, parts);
 }
 
-/** The ticks of times. Texts of the second row end before the name of the axis. */
+/** The ticks of times, with texts in the last panel. Those of the second row end before the name of the axis. */
 function drawTimes(area, width, room) {
   const parts = [], free = { above: -Infinity, below: -Infinity };
-  for (const { at, text, below } of timeTicks(area.range.low, area.range.high, Math.max(2, Math.floor((area.end - area.left) / 86)), width)) {
+  for (const { at, text, below } of timeTicks(area.low, area.high, Math.max(2, Math.floor((area.end - area.left) / 86)), width)) {
     const place = area.x(at), half = text.length * 3, under = below.length * 3.4;
     if (place < area.left - 1 || place > area.end + 1) continue;
     parts.push(s("path", { d: `M${place.toFixed(1)} ${area.floor}v4`, class: "axis" }));
-    if (place + half > area.wide || place - half < free.above) continue;
+    if (!area.isLast || place + half > area.wide || place - half < free.above) continue;
     parts.push(s("text", { x: place, y: area.floor + 17, "text-anchor": "middle" }, text));
     free.above = place + half + 6;
     const middle = Math.max(place, under);
@@ -148,10 +189,10 @@ function boxes(area, ranges) {
 }
 
 /** Stale ranges, and what was dropped on purpose, at least three pixels wide. */
-function drawMarked(area, picture, about) {
+function drawMarked(area, picture, id) {
   const draw = (kind) => ({ range, from, to }) => {
-    const width = Math.max(to - from, 3), box = { x: Math.min(from, area.end - width), width, y: area.top, height: area.floor - area.top };
-    return [s("rect", { ...box, class: `${kind}-fill` }), s("rect", { ...box, fill: `url(#${kind}-${about.name})` }),
+    const width = Math.max(to - from, 3), box = { x: Math.min(from, area.end - width), width, y: area.top, height: area.height };
+    return [s("rect", { ...box, class: `${kind}-fill` }), s("rect", { ...box, fill: `url(#${kind}-${id})` }),
       s("rect", { ...box, y: area.top - 4, height: 4, class: `${kind}-bar` }, s("title", {}, `${kind} ${rangeText(range, picture.width)}`))];
   };
   return s("g", {}, boxes(area, picture.dropped).map(draw("dropped")), boxes(area, picture.stale).map(draw("stale")));
@@ -184,27 +225,32 @@ function pathOf(points, area, { width, cell }) {
   return parts.join("");
 }
 
-function drawLines(card, area) {
-  return s("g", { "clip-path": `url(#inside-${card.about.name})` },
-    card.shown().map(([line, number]) => s("path", { d: pathOf(line.points, area, card.picture), class: lineClass(number) })));
+function drawLines(panel, picture, area, id) {
+  return s("g", { "clip-path": `url(#inside-${id})` },
+    panel.lines.map(({ points, number }) => s("path", { d: pathOf(points, area, picture), class: lineClass(number) })));
 }
 
 /** The names of lines at their ends, one below the other if they would meet. */
-function nameLines(card, area, ends) {
-  const places = card.shown().slice(0, ends.length).map(([line, number], place) => ({ number, text: ends[place], y: area.y(line.points[line.points.length - 1][1]) }));
+function nameLines(about, panel, area) {
+  if (!area.hasNames) return s("g", {});
+  const places = panel.lines.map(({ line, number, points }) => (
+    { number, text: keyText(about, line), y: area.y(points[points.length - 1][1]) }));
   places.sort((a, b) => a.y - b.y);
   let free = area.top - 4;
   for (const place of places) { place.y = Math.max(place.y, free); free = place.y + LINE_HEIGHT; }
   const over = Math.max(0, free - LINE_HEIGHT - area.floor);
-  return s("g", {}, places.map(({ number, text, y }) => s("text", { x: area.end + 8, y: y - over + 3.5, class: `end s${number % COLORS}` }, text.length > 24 ? `${text.slice(0, 23)}…` : text)));
+  return s("g", {}, places.map(({ number, text, y }) => s("text", { x: area.end + 8, y: y - over + 3.5, class: `end s${number % COLORS}` },
+    text.length > MOST_LETTERS ? `${text.slice(0, MOST_LETTERS - 1)}…` : text)));
 }
 
 function drawWatermark(area, picture) {
   const place = picture.watermark === null ? NaN : area.x(Number(picture.watermark));
   if (!(place >= area.left && place <= area.end + 1)) return s("g", {});
-  const isLeft = place > area.wide / 2;
-  return s("g", {}, s("path", { d: `M${place.toFixed(1)} 18V${area.floor}`, class: "watermark" }),
-    s("text", { x: place, y: 12, class: "watermark-name", "text-anchor": isLeft ? "end" : "start" }, isLeft ? "watermark ▾" : "▾ watermark"));
+  const isLeft = place > area.wide / 2, top = area.isFirst ? 18 : area.top - 4;
+  const line = s("path", { d: `M${place.toFixed(1)} ${top}V${area.floor}`, class: "watermark" });
+  if (!area.isFirst) return line;
+  return s("g", {}, line, s("text", { x: place, y: 12, class: "watermark-name", "text-anchor": isLeft ? "end" : "start" },
+    isLeft ? "watermark ▾" : "▾ watermark"));
 }
 
 // ---- pointing at a chart
@@ -217,18 +263,20 @@ function pointAt(points, at, reach) {
   return found && at - found[0] < reach ? found : null;
 }
 
-/** Shows what is at the mouse, the finger or the cursor keys, and lets a range be chosen. */
+/** Shows what is at the mouse, the finger or the cursor keys of a panel, and lets a range be chosen. */
 class Pointer {
-  constructor(card, svg, area, onChoose) {
-    Object.assign(this, { card, svg, area, onChoose, from: null, at: null });
+  constructor(card, panel, svg, area, onChoose, all) {
+    Object.assign(this, { card, panel, svg, area, onChoose, all, from: null, at: null });
     this.cross = s("path", { class: "cross", d: "" });
-    this.chosen = s("rect", { class: "chosen", y: area.top, height: area.floor - area.top, width: 0 });
+    this.chosen = s("rect", { class: "chosen", y: area.top, height: area.height, width: 0 });
     this.dots = s("g", {});
     this.tip = h("div", { class: "tip", role: "status", hidden: true });
+    this.root = h("div", { class: "panel" }, svg, this.tip);
     svg.append(this.chosen, this.cross, this.dots);
     svg.addEventListener("pointermove", (event) => this.move(event));
     svg.addEventListener("pointerdown", (event) => this.down(event));
     svg.addEventListener("pointerup", (event) => this.up(event));
+    svg.addEventListener("pointercancel", () => this.drop());
     svg.addEventListener("pointerleave", () => this.hide());
     svg.addEventListener("dblclick", () => onChoose(null));
     svg.addEventListener("keydown", (event) => this.key(event));
@@ -236,14 +284,27 @@ class Pointer {
   }
 
   hide() {
+    this.card.pointed = null;
     this.tip.hidden = true;
-    this.cross.setAttribute("d", "");
-    this.dots.replaceChildren();
+    for (const pointer of this.all) pointer.mark(null);
+  }
+
+  /** Marks a time in this panel, and the values there; none if there is no time. Gives what it has marked. */
+  mark(at) {
+    const { area, panel } = this, { picture } = this.card, reach = Math.max(picture.cell, picture.width);
+    const lines = at === null ? [] : panel.lines;
+    const found = lines.map(({ line, number, points }) => ({ line, number, point: pointAt(points, at, reach) }))
+      .filter((it) => it.point);
+    const place = area.x(at);
+    this.cross.setAttribute("d", at === null ? "" : `M${place.toFixed(1)} ${area.top}V${area.floor}`);
+    this.dots.replaceChildren(...found.map(({ number, point }) => (
+      s("circle", { cx: place, cy: area.y(point[1]), r: 3, class: `dot s${number % COLORS}` }))));
+    return found;
   }
 
   timeAt(event) {
     const { area } = this, place = Math.min(Math.max(event.clientX - this.svg.getBoundingClientRect().left, area.left), area.end);
-    return area.range.low + ((place - area.left) / (area.end - area.left)) * (area.range.high - area.range.low);
+    return area.low + ((place - area.left) / (area.end - area.left)) * (area.high - area.low);
   }
 
   move(event) {
@@ -258,20 +319,27 @@ class Pointer {
     if (event.pointerType !== "mouse") return this.show(this.timeAt(event));
     if (event.button !== 0) return undefined;
     this.from = this.timeAt(event);
+    this.card.isHeld = true;
     return this.svg.setPointerCapture(event.pointerId);
   }
 
   up(event) {
     const ends = this.from === null ? null : [this.from, this.timeAt(event)].sort((a, b) => a - b);
+    this.drop();
+    if (ends && this.area.x(ends[1]) - this.area.x(ends[0]) > 6) this.choose(ends);
+  }
+
+  /** Ends the choice of a range. What came meanwhile is drawn now. */
+  drop() {
     this.from = null;
     this.chosen.setAttribute("width", 0);
-    if (ends && this.area.x(ends[1]) - this.area.x(ends[0]) > 6) this.choose(ends);
+    this.card.release();
   }
 
   choose([low, high]) { this.onChoose([String(Math.floor(low)), String(Math.ceil(high))]); }
 
   key(event) {
-    const { low, high } = this.area.range, step = Math.max(this.card.picture.cell, this.card.picture.width);
+    const { low, high } = this.area, step = Math.max(this.card.picture.cell, this.card.picture.width);
     const at = this.at ?? (low + high) / 2;
     const moves = { ArrowLeft: at - step, ArrowRight: at + step, Home: low, End: high - step / 2, PageUp: at - (high - low) / 10, PageDown: at + (high - low) / 10 };
     if (event.key in moves) this.show(Math.min(Math.max(moves[event.key], low), high - 1));
@@ -283,18 +351,17 @@ class Pointer {
     event.preventDefault();
   }
 
+  /** Shows a time in all panels, and its values beside the place in this one. */
   show(at) {
-    const { card, area, tip } = this, { picture, about } = card;
+    const { area, tip, panel } = this, { about } = this.card;
     this.at = at;
-    if (!tip.isConnected) card.plot.append(tip);
-    const reach = Math.max(picture.cell, picture.width);
-    const found = card.shown().map(([line, number]) => ({ line, number, point: pointAt(line.points, at, reach) })).filter((it) => it.point);
-    const place = area.x(at);
-    this.cross.setAttribute("d", `M${place.toFixed(1)} ${area.top}V${area.floor}`);
-    this.dots.replaceChildren(...found.map(({ number, point }) => s("circle", { cx: place, cy: area.y(point[1]), r: 3, class: `dot s${number % COLORS}` })));
+    this.card.pointed = { column: panel.column, at };
+    for (const pointer of this.all) if (pointer !== this) pointer.mark(at);
+    const found = this.mark(at), place = area.x(at);
     const start = found.length ? found[0].point[0] : at;
     const when = found.length ? rangeText([String(start), String(start + about.width)], about.width) : timeText(Math.round(at), about.width);
-    tip.replaceChildren(h("div", { class: "when" }, when), this.values(found), this.marks(at));
+    const head = h("div", { class: "when" }, area.isAlone ? null : h("b", {}, `${panel.column} `), when);
+    tip.replaceChildren(head, this.values(found), this.marks(at));
     tip.hidden = false;
     // The style of an element may be set here, though the page takes no styles within its text.
     tip.style.left = `${place > area.wide / 2 ? Math.max(0, place - tip.offsetWidth - 12) : Math.min(place + 12, area.wide - tip.offsetWidth)}px`;
@@ -302,11 +369,11 @@ class Pointer {
 
   /** The values at the pointer, greatest first. */
   values(found) {
-    const { about, picture } = this.card;
+    const { about } = this.card, { column, text } = this.panel;
     const rows = [...found].sort((a, b) => b.point[1] - a.point[1]).slice(0, MOST_IN_TIP);
     return h("table", {}, h("tbody", {}, rows.map(({ line, number, point }) => h("tr", {},
       h("td", {}, s("svg", { width: 16, height: 8, "aria-hidden": "true" }, s("path", { d: "M0 4H16", class: lineClass(number) }))),
-      h("td", {}, keyText(about, line) || picture.column), h("td", {}, numberText(point[1]))))),
+      h("td", {}, keyText(about, line) || column), h("td", {}, text(point[1]))))),
       found.length > rows.length ? h("caption", {}, `and ${found.length - rows.length} more`) : null);
   }
 

@@ -231,7 +231,9 @@ function replyOf(reply, text) {
     parts.push(h("div", { class: "scroll", tabindex: "0" }, tableOf(Object.keys(rows[0]), rows.map((row) => Object.values(row)))));
     if (rows.length < reply.count) parts.push(h("div", { class: "said" }, `the first ${rows.length} of ${reply.count.toLocaleString("en")} rows`));
   }
-  if (reply.stale && reply.stale.length) parts.push(h("div", {}, reply.stale.slice(0, MOST_NAMED).map((range) => h("div", {}, `stale ${range.from ?? "min"}..${range.to}`))));
+  for (const kind of ["dropped", "stale"]) {
+    parts.push(...(reply[kind] || []).slice(0, MOST_NAMED).map((range) => h("div", {}, `${kind} ${range.from ?? "min"}..${range.to}`)));
+  }
   return h("div", { class: "reply" }, parts);
 }
 

@@ -2,6 +2,8 @@
 
 const SILENT = 40000;
 const HIDDEN = 5000;
+// The server says something each 15 seconds, be it that there is nothing new.
+const QUIET = 20000;
 
 export const access = { token: null, session: null };
 
@@ -55,13 +57,15 @@ export class Events {
     this.onLost = onLost;
     this.pause = 500;
     document.addEventListener("visibilitychange", () => this.see());
+    // A browser that has stopped a page doesn't always give the rest of what it was reading.
+    document.addEventListener("resume", () => this.begin());
     this.begin();
   }
 
   see() {
     clearTimeout(this.leaving);
     if (document.hidden) this.leaving = setTimeout(() => this.leave(), HIDDEN);
-    else if (this.isAway) this.begin();
+    else if (this.isAway || Date.now() - this.heard > QUIET) this.begin();
   }
 
   leave() {
@@ -73,6 +77,7 @@ export class Events {
   begin() {
     clearTimeout(this.again);
     this.isAway = false;
+    this.heard = Date.now();
     if (this.control) this.control.abort();
     this.control = new AbortController();
     this.read(this.control).catch((error) => this.lost(error));
@@ -97,6 +102,7 @@ export class Events {
         timer = setTimeout(() => control.abort(), SILENT);
         const { done, value } = await reader.read();
         if (done) throw new Error("the connection has ended");
+        this.heard = Date.now();
         const parts = (held + value).split("\n\n");
         held = parts.pop();
         const latest = parts.map((part) => /^data: (.*)$/m.exec(part)).filter(Boolean).pop();

@@ -97,17 +97,20 @@ function datesOf(texts) {
   return (text) => String(text).replace(DATE, hasSeconds ? "$1 $2$3" : hasHours ? "$1 $2" : "$1");
 }
 
-/** A table of texts; a row whose last cell, under `stale`, is true is marked. */
+/** A table of texts; a row whose cell under `stale` or `dropped`, the last two, is true is marked. */
 export function tableOf(names, rows, texts = []) {
-  const hasMark = names[names.length - 1] === "stale", last = names.length - 1;
+  const last = names.length - 2, hasMark = names[last] === "stale" && names[last + 1] === "dropped";
+  const is = (row, place) => hasMark && String(row[place]) === "true";
+  const mark = (row) => is(row, last) ? "stale" : is(row, last + 1) ? "dropped" : "";
+  const shownNames = hasMark ? names.slice(0, last) : names;
   const dates = names.map((_, place) => datesOf(rows.map((row) => row[place])));
   const cell = (text, place) => {
-    if (hasMark && place === last) return h("td", { class: "mark" }, String(text) === "true" ? "stale" : "");
     const shown = text === null ? "null" : dates[place](text);
     return h("td", { class: shown === "null" ? "null" : texts.includes(names[place]) && "text" }, shown);
   };
-  const isStale = (row) => hasMark && String(row[last]) === "true";
-  const head = (name, place) => h("th", { scope: "col", class: texts.includes(name) && "text" }, hasMark && place === last ? "" : name);
-  return h("table", {}, h("thead", {}, h("tr", {}, names.map(head))),
-    h("tbody", {}, rows.map((row) => h("tr", { class: isStale(row) && "stale" }, row.map(cell)))));
+  const cells = (row) => [...row.slice(0, shownNames.length).map(cell), hasMark && h("td", { class: "mark" }, mark(row))];
+  const head = (name) => h("th", { scope: "col", class: texts.includes(name) && "text" }, name);
+  const heads = [...shownNames.map(head), hasMark && h("th", { scope: "col" }, "")];
+  return h("table", {}, h("thead", {}, h("tr", {}, heads.filter(Boolean))),
+    h("tbody", {}, rows.map((row) => h("tr", { class: mark(row) === "stale" && "stale" }, cells(row).filter(Boolean)))));
 }
