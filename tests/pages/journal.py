@@ -1,4 +1,4 @@
-"""Checks the worked bytes of docs/JOURNAL.md: the program writes the same journal, and reads those that the page has."""
+"""Checks the worked bytes of docs/JOURNAL.md: the program writes them, and reads those that the page has."""
 
 import re
 import subprocess

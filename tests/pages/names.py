@@ -66,7 +66,8 @@ def wrong_clauses(line: str) -> Iterator[str]:
         names = [code.rsplit("::", 1)[-1] for code in CODE.findall(functions)]
         known: set[str] = set().union(*(all_names().clauses.get(name, set()) for name in names))
         if known:
-            yield from (f"no clause {clause} of {', '.join(names)}" for clause in CODE.findall(clauses) if clause not in known)
+            unknown = (clause for clause in CODE.findall(clauses) if clause not in known)
+            yield from (f"no clause {clause} of {', '.join(names)}" for clause in unknown)
 
 
 def wrong_modules(text: str, crate: str) -> Iterator[str]:
