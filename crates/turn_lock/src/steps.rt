@@ -15,7 +15,7 @@ use std::sync::Wait;
 use std::thread;
 
 impl<V: Grown> TurnLock<V> {
-    // Takes the ticket, where it is still the next one.
+    // Takes the ticket if it is still the next one.
     fn try_draw(&self, seat: &mut TableSeat<V>, ticket: u64) -> bool
         requires seat { seat.old.table_id ≡ self.now.lock }
         requires idle { (seat.old.me.0.stage ≡ Idle) × (0 < seat.old.me.0.shares) }
