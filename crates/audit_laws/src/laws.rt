@@ -4,14 +4,14 @@ ghost use Rattle.audit_laws.specs.Laws.{AuditsSayYes, RunsAreExplained};
 use audit::laws::explained_is_yes;
 use transcript::text_law;
 
-/// The transcript of a parallel run is explained by the history that the run left, unless a line of it is a
-/// statement on policies, or the disk failed.
+/// States the law that the history that a parallel run left explains its transcript, unless a line of it is a statement
+/// on policies, or the disk failed.
 pub fn runs_are_explained()
     ensures { RunsAreExplained }
 {}
 
-/// An audit of the text of such a transcript, beside the history that the run left, answers YES with the
-/// number of its replies, unless memory runs out.
+/// States the law that an audit of the text of such a transcript, over the history that the run left, answers YES with
+/// the number of replies, unless memory runs out.
 pub fn audits_say_yes()
     ensures { AuditsSayYes }
 {
