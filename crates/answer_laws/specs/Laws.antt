@@ -113,8 +113,7 @@ RollUpsReply =
 
 -- ---- the calendar
 
--- the name of a row of an answer is the calendar bucket of the time of one of these rows, and that row matches the
--- tests
+-- a row of an answer is named by the calendar bucket of the time of one of these rows, which matches the tests
 pub record IsOfARow (cal : CalPlan) (found : List Row) (cells : List Datum) : Type 0 where
   pub place : ℕ
   pub row : Row

@@ -16,13 +16,13 @@ pub fn buckets_show()
     ensures { BucketsShow }
 {}
 
-/// States the law that the reply to a roll-up shows the composed fold of the table's rows in each wider bucket that it
+/// States the law of roll-ups. The reply shows the composed fold of the table's rows in each wider bucket that it
 /// doesn't name stale and shows whole.
 pub fn roll_ups_reply()
     ensures { RollUpsReply }
 {}
 
-/// States the law of queries by calendar buckets. The reply shows the rows of the table grouped by the buckets, and
+/// States the law of queries by calendar buckets. The reply shows the rows of the table grouped by the buckets. It
 /// names each row by the bucket of the time of one of its rows.
 pub fn calendars_reply()
     ensures { CalendarsReply }

@@ -17,8 +17,8 @@ TextsHaveOneAnswer =
     (all : History) (text : List ℕ) (audit other : Audit) → all_allowed all ≡ true → Answers all text audit
     → Answers all text other → (audit ≡ other) ⊎ (audit ≡ NoMemory) ⊎ (other ≡ NoMemory)
 
--- the answer is YES with the number of replies for a transcript that a history explains and that has no statement on
--- policies, unless memory runs out
+-- the answer is YES with the number of replies for an explained transcript without a statement on policies, unless
+-- memory runs out
 abbrev pub ExplainedIsYes : Type 0
 ExplainedIsYes =
     (all : History) (text : List ℕ) (t : Transcript) (audit : Audit) → all_allowed all ≡ true → IsReading text t
@@ -39,7 +39,7 @@ IsRejected NoMemory = ⊤
 IsRejected other = ⊥
 
 -- the answer is No or Lost if the replies of a transcript that may be judged leave out an event, name one twice or name
--- another, unless memory runs out
+-- another. Memory may also run out
 abbrev pub OthersAreRejected : Type 0
 OthersAreRejected =
     (all : History) (text : List ℕ) (t : Transcript) (audit : Audit) → all_allowed all ≡ true → IsReading text t

@@ -36,8 +36,8 @@ pub record Leads (all : History) (name : List ℕ) (at : ℕ) (p : Places) (exch
   pub back : (more : List Exchange) (found : List ℕ)
       → Names all at p name (exchanges ++ more) found → LeavesOthers all last q name more numbers found
 
--- one more reply leads a session on from a position and a state, with the numbers that it had named before, or it isn't
--- explained there
+-- one more reply leads a session on from a position and a state, with the numbers named before, or it isn't explained
+-- there
 abbrev pub Retells : History → List ℕ → Exchange → ℕ → Places → List ℕ → Bool → ℕ → Places → List ℕ → Type 0
 Retells all name e at p old true last q new =
     (from : ℕ) (first : Places) (before : List Exchange)

@@ -1,4 +1,4 @@
--- A session whose replies are being judged, after the replies until now.
+-- A session whose replies are being judged, after the replies so far.
 use Rattle.std.specs.Prelude.{◌≡◌, ◌≤◌, ℕ, List, ◌++◌, Bool, true, false}
 use Rattle.ts_model.specs.declared.snapshots.Shown.{Ghosts as Shown}
 use Rattle.ts_model.specs.History.{History, position}

@@ -11,15 +11,15 @@ pub fn texts_have_one_answer()
     text_law();
 }
 
-/// States the law that the answer is YES with the number of replies for an explained transcript without a statement on
-/// policies, unless memory runs out.
+/// States the law of explained transcripts without a statement on policies. Their answer is YES with the number of
+/// replies, unless memory runs out.
 pub fn explained_is_yes()
     ensures { ExplainedIsYes }
 {
     text_law();
 }
 
-/// States the law that the replies of a transcript with the answer YES name, by their texts, each event above its start
+/// States the law of transcripts with the answer YES. Their replies name, by their texts, each event above the start
 /// once, and no other.
 pub fn yes_names_each_once()
     ensures { YesNamesEachOnce }
@@ -27,9 +27,8 @@ pub fn yes_names_each_once()
     text_law();
 }
 
-/// States the law that the answer is No or Lost if the replies of a transcript leave out an event, name one twice or
-/// name another. The transcript has its start in the history and no statement on policies. The law doesn't apply if
-/// memory runs out.
+/// States the law of transcripts whose replies leave out an event, name one twice or name another. Their answer is No
+/// or Lost, unless memory runs out. They have their start in the history and no statement on policies.
 pub fn others_are_rejected()
     ensures { OthersAreRejected }
 {

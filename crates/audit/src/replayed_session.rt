@@ -23,7 +23,7 @@ use ts_sessions::Session;
 /// At most this many bytes of text are in the queue of a write block.
 const MOST_QUEUED: u64 = 67_108_864;
 
-/// A session whose replies are being judged, after the replies until now.
+/// A session whose replies are being judged, after the replies so far.
 #[derive(Drop)]
 pub(crate) struct ReplayedSession<T: Shown>
 where

@@ -37,7 +37,7 @@ RunsAreExplained =
     → InputRan opening input policies new out reads → stands_still new ≡ false
     → ExplainedUnlessPolicies new.history (transcript_in (position opening) out)
 
--- an audit of the text of such a transcript, over a history that explains it, answers YES with the number of replies,
+-- an audit of such a transcript's text, over the history that the run left, answers YES with the number of replies,
 -- unless memory runs out
 abbrev pub AuditsSayYes : Type 0
 AuditsSayYes =

@@ -120,8 +120,8 @@ abbrev pub NextStands : {T J : Type 0} → Shown T J → ℕ → History → ℕ
 NextStands shown bytes all at (nexts.Deed d) = AsksThere d (prefix all at)
 NextStands shown bytes all at (nexts.End t) = EndFits shown bytes t (state_of all)
 
--- a replay of a procedure, by these read positions from a position on, has each outcome of a replay of the rest from
--- the position after its first steps
+-- a replay of a procedure, by these read positions, has each outcome of a replay of the rest from the position after
+-- its first steps
 pub record TellsBy {A : Type 0} (all : History) (at : ℕ) (procedure : Procedure A) (ps : List ℕ) (to : ℕ)
     (left : Procedure A) (qs : List ℕ) : Type 0 where
   pub given : List (ℕ × Event) → List (ℕ × Event)

@@ -158,7 +158,7 @@ pub(crate) fn after_next(looks: &[u64]) -> &[u64]
     }
 }
 
-/// The position at which a store call is made: its read position, or `at` if it fills an aggregate.
+/// The position of a store call: its read position, or `at` if it fills an aggregate.
 fn place_of<P: Past>(past: &P, at: u64, looks: &[u64], deed: &Deed<P::Shot>) -> Option<u64>
 where
     <P::Shot as Shown>::Job: Drop,

@@ -28,8 +28,8 @@ use Rattle.demo_laws.proofs.TurnLaws.{definitions_read_nothing, inserts_read_not
 abbrev state_at : History → List (List ℕ × Places) → ScriptState Places
 state_at h sessions = record { history = h; sessions = sessions }
 
--- lines executed from a script state on have read this many rows, without a FAULT, and have left this history, with the
--- session outside a block
+-- lines executed from a script state on have read this many rows, without a FAULT, and have left this history. The
+-- session is outside a block
 record Reached (s : ScriptState Places) (n : ℕ) (lines : List (List ℕ)) (new : History) (read : ℕ) : Type 0 where
   pub reads : reads_in session_semantics s n lines ≡ read
   pub fault : is_refused session_semantics s n lines ≡ false

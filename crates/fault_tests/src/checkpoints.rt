@@ -38,8 +38,8 @@ fn checkpoint<R: Threads + Wait + Sync + AllocGlobal>(
     call(rt, "checkpoint", &input, ALL, (0, 0), disk)
 }
 
-/// Whether a journal with these bytes has the ten events or their image, answers the query after them, continues
-/// with the statements after that, and can be saved.
+/// Whether a journal with these bytes has the ten events or their image, and answers the query after them. It must also
+/// continue with the statements after that, and a checkpoint of it must succeed.
 fn goes_on<R: Threads + Wait + Sync + AllocGlobal>(rt: &R, bytes: &[u8]) -> Result<bool, Fail> {
     let check = call(
         rt,

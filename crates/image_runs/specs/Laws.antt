@@ -30,8 +30,8 @@ pub record WriteTheSame {P : Type 0} (semantics : Semantics P) (g h : History) (
   pub second_allowed : all_allowed (h ▸▸ events) ≡ true
   pub alike : Alike (g ▸▸ events) (h ▸▸ events)
 
--- the lines of an input write the same over an allowed history and over its image, and over both with the same events
--- after them, if these are allowed after the image
+-- the lines of an input write the same over an allowed history and over its image. The same is true with the same
+-- events after both, if these are allowed after the image
 abbrev pub ScriptsGoOn : {P : Type 0} → Semantics P → Type 0
 ScriptsGoOn semantics =
     (h : History) (i : Image) (es : List Event) (lines : List (List ℕ)) → all_allowed h ≡ true → IsImage h i

@@ -75,8 +75,8 @@ module _ {B : Type 0} (state : B → State) (store : Shared B) {X V W P A : Type
     pub explained : AllExplained lines_of AreReplies reply next all stop from to p sessions more answers
     pub makes : all_numbers answers ≡ made
 
-  -- what workers did by the end of their phase is answered over the history of a backend that ended with what the last
-  -- pass has seen
+  -- what workers did by the end of their phase is answered over the history of a backend. The last pass has seen this
+  -- history to its end
   pub outcomes_explained : (new : State) (start end last : Ticket B) (p : P) (olds news : List X) (made : List ℕ) → EndsAt state store new last → Knows last end → AllOutcomes state store (λ alone old s now t. Executed lines_of AreReplies does next Fits alone p (session_of old) s (replies_of now) t) start end olds news made → PhaseMade new.history (stop_of new) (position (history_of state store start)) (position (history_of state store end)) p (map session_of olds) (map replies_of news) made
   outcomes_explained new start end last p [] [] made ends knows os = record { answers = []; explained = tt; makes = sym os }
   outcomes_explained new start end last p [] (now ∷ news) made ends knows os = absurd os

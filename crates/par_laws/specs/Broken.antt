@@ -24,7 +24,7 @@ pub record Part : Type 0 where
 abbrev pub one_broke : List Part → Bool
 one_broke parts = list_any (λ part. part.broke) parts
 
--- the events that the sessions of several phases made, and the rows that they read
+-- the events that the sessions of several phases appended, and the rows that they read
 abbrev pub all_made : List (List Part) → List ℕ
 all_made phases = flat_map (λ parts. flat_map (λ part. part.made) parts) phases
 

@@ -16,8 +16,8 @@ use Rattle.ts_sessions.specs.Procedures.{Procedure}
 use Rattle.ts_sessions.specs.Script.{SessionScript}
 use Rattle.par_laws.specs.Parallel.{SessionReplies, SessionExecuted}
 
--- workers by what the lines of their sessions do, the states of these at their first lines, the sessions, their
--- replies, and whether they ran out of memory
+-- workers by what the lines of their sessions do, and the states of these at their first lines. Further parameters are
+-- the sessions, their replies, and whether they ran out of memory
 module _ {P : Type 0} (within : P → Block) (does : P → List ℕ → ℕ → Procedure (Turn P)) (p : P) {W : Type 0}
     (session_of : W → SessionScript) (replies_of : W → SessionReplies) (ran_out : W → Bool) where
   -- a worker executed all lines of its session, unless it ran out of memory
@@ -50,7 +50,7 @@ module _ {P : Type 0} (within : P → Block) (does : P → List ℕ → ℕ → 
       pub others_new : List W
       pub final_old : List W
       pub final_new : List W
-      -- the first pass has seen and made nothing
+      -- the first pass has seen and added nothing
       pub start_seen : seen_of start ≡ []
       pub start_made : made_of start ≡ []
       pub setup_ran : CrewRan start middle setup_old setup_new setup

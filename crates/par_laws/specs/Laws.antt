@@ -31,7 +31,7 @@ abbrev pub AreSteady : {P A : Type 0} → (P → List ℕ → ℕ → Procedure 
 AreSteady reply p base = (text : List ℕ) (skip : ℕ) → Steady false base (reply p text skip)
 
 -- lines walked in order, while others changed the store too, are answered by their replies over each longer history
--- that is allowed, even if the store stopped later
+-- that is allowed. The store may have stopped later
 abbrev pub WalkedLinesAreAnswered : (P A : Type 0) → Type 0
 WalkedLinesAreAnswered P A =
     (does reply : P → List ℕ → ℕ → Procedure A) (next : A → P) (alone : Bool) (all : History) (later : Option ℕ)

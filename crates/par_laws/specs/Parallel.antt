@@ -13,8 +13,8 @@ use Rattle.par_laws.specs.Named.{RepliesNameEvents}
 use Rattle.par_laws.specs.Phases.{ExecutedTo, Executed, Phase}
 use Rattle.par_laws.specs.Stopped.{RepliesStopAt}
 
--- the lines of a session and its replies: its name, each line with its reply, whether one of the replies is a FAULT,
--- and how many stored rows they read, a 64-bit count that saturates
+-- the lines of a session and its replies: its name, each line with its reply, and whether one of the replies is a
+-- FAULT. The count of stored rows that they read has 64 bits and saturates
 pub record SessionReplies : Type 0 where
   pub name : List ℕ
   pub exchanges : List Exchange

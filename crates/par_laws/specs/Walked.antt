@@ -16,7 +16,7 @@ module _ {P A : Type 0} (does : P → List ℕ → ℕ → Procedure A) (next : 
     pub failed : Bool
     pub walks : Walks alone failed s (does p line.text line.skip) mid y
 
-  -- the lines of a session with this state were walked in order from a store state on, each to its end, and left a
+  -- the lines of a session were walked in order from a store state and a session state on, each to its end. They left a
   -- store state and a session state
   abbrev pub Walked : Bool → State → P → List SessionLine → List A → State → P → Type 0
   Walked alone s p [] [] new q = (new ≡ s) × (q ≡ p)

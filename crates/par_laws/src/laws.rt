@@ -4,7 +4,7 @@ ghost use Rattle.par_laws.specs.Laws.{AnswersGiveEvents, LooksNeverFall, Paralle
 use ts_model::Backend;
 
 /// States the law that lines walked in order, while others changed the store too, are answered over each longer
-/// history, even if the store stopped later.
+/// history. The store may have stopped later.
 pub fn walked_lines_are_answered<P, A>()
     ensures { WalkedLinesAreAnswered P A }
 {}

@@ -47,8 +47,8 @@ module _ {A B G T J : Type 0} where
     pub at_once_are : All (IsReady actors) (workers_of crews.at_once.items)
     pub last_is : All (IsReady actors) (workers_of crews.last.items)
 
-  -- there is at most one worker before all others and one after them, and the others are at most as many as a script
-  -- may have
+  -- there is at most one worker before all others and one after them. The others are at most as many as the sessions of
+  -- a script
   pub record AreFew (crews : Crews A B G T J) : Type 0 where
     pub setup_is : length crews.setup.items ≤ 1
     pub at_once_are : length crews.at_once.items ≤ most_sessions

@@ -1,4 +1,4 @@
--- The replies of a session until now, and how it executes its next line.
+-- The replies of a session so far, and how it executes its next line.
 use Rattle.std.specs.Prelude.{◌≡◌, ℕ, Bool, ◌||◌, List, [], ◌∷◌, ◌++◌, Option, Some, None}
 use Rattle.ts_model.specs.States.{State}
 use Rattle.ts_sessions.specs.declared.replies.Reply.{Reply as ReplyMade}

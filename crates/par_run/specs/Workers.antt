@@ -17,7 +17,7 @@ nothing_said name = record { name = name; exchanges = []; fault = false; reads =
 
 module _ {A G : Type 0} where
   module _ (named : A → List ℕ) where
-    -- the lines and replies of a session until now
+    -- the lines and replies of a session so far
     abbrev pub said_by : Executor A G → SessionReplies
     said_by e = replies_said (named e.actor) e.replies e.steps
 
@@ -25,7 +25,7 @@ module _ {A G : Type 0} where
     abbrev pub worker_script : SessionWorker A G → SessionScript
     worker_script w = record { name = named w.executor.actor; lines = map (line_at w.input.now) w.lines.items }
 
-    -- its lines and replies until now
+    -- its lines and replies so far
     abbrev pub replies_of : SessionWorker A G → SessionReplies
     replies_of w = said_by w.executor
 

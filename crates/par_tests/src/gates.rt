@@ -118,7 +118,7 @@ impl Answered {
         }
     }
 
-    /// The numbers until now.
+    /// The numbers so far.
     pub(crate) fn numbers(&self) -> u64 {
         self.digits.load(Ordering::SeqCst)
     }

@@ -127,8 +127,8 @@ TicksMakeFewEvents =
     → Walks alone failed old (ticks step p now) new y
     → length (made_in y.said) ≤ 3 * length (due now p.policies)
 
--- after a tick on any store, whatever the outcome of its statements, another tick at the same time is only its line,
--- and the session stays as it is
+-- a second tick at the same time, on any store, is only its line, and the session stays as it is. The outcome of the
+-- first tick's statements doesn't matter
 abbrev pub SecondTicksAreIdle : Type 0 → Type 0
 SecondTicksAreIdle P =
     (does : P → List ℕ → ℕ → Procedure (Turn P)) (alone failed : Bool) (old : State) (p : PolicyPlaces P) (now : ℤ)
@@ -162,7 +162,7 @@ pub record IsTickLine (name : List ℕ) (now : ℤ) (line : List ℕ) : Type 0 w
 abbrev pub with_session : {P : Type 0} → ScriptState P → List ℕ → P → ScriptState P
 with_session s name p = record s { sessions = with_places name p s.sessions }
 
--- the result of a line is one line of text and then what a script writes, from a state on and from any line number on
+-- the result of a line is one line of text and then what a script writes, from a state on, with any line number
 pub record IsLineAndScript {P : Type 0} (semantics : Semantics P) (result : LineResult P) (first : List ℕ)
     (s : ScriptState P) (n : ℕ) (lines : List (List ℕ)) : Type 0 where
   pub text : result.text ≡ first ++ output semantics s n lines
@@ -174,8 +174,8 @@ pub record IsLineAndScript {P : Type 0} (semantics : Semantics P) (result : Line
 abbrev pub policy_sessions : Semantics (PolicyPlaces Places)
 policy_sessions = policy_semantics (λ p. p.block) session_semantics
 
--- a tick of a session outside a block is its line, and then a script that has each due statement as a line of that
--- session, with the due policies marked as run. Both have the same text, faults, reads, session states and history
+-- a tick of a session outside a block is its line, and then a script of the due statements as lines of that session.
+-- The due policies are marked as run. Both have the same text, faults, reads, session states and history
 abbrev pub TicksAreTheirLines : Type 0
 TicksAreTheirLines =
     (s : ScriptState (PolicyPlaces Places)) (n k : ℕ) (name line : List ℕ) (now : ℤ) (p : PolicyPlaces Places)

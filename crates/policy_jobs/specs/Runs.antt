@@ -20,7 +20,7 @@ pub record IsRunnable (text : List ℕ) : Type 0 where
   pub short : length text ≤ longest_line
   pub event : ReadsEvent (statement (stream text 0))
 
--- a run has reported a procedure until now, with an I/O error of its disk or without, or it ran out of memory
+-- a run has reported a procedure so far, with an I/O error of its disk or without, or it ran out of memory
 abbrev pub RunsTo :
     {P : Type 0} → Bool → State → Procedure (Turn P) → List ℕ → Result TickOutcome NoMemory → State → P → ℕ → ℕ → Type 0
 RunsTo alone old procedure name (Ok run) new places before after =

@@ -28,8 +28,8 @@ abbrev pub script_state_at : {P : Type 0} → State → List (List ℕ × P) →
 script_state_at s sessions = record { history = s.history; sessions = sessions }
 
 -- the first lines of a script over a history are done and the others are left. The next line has number n and finds
--- this state of the script. The replies to the lines done were written, the flag says whether one of them is a FAULT,
--- and the rows that these lines read were counted
+-- this state of the script. The replies to the lines done were written, and the flag says whether one of them is a
+-- FAULT. The rows that these lines read were counted
 pub record Progress {P : Type 0} (semantics : Semantics P) (h : History) (lines rest : List (List ℕ)) (left : Left) (sessions : List (List ℕ × P)) (n : ℕ) (refused : Bool) : Type 0 where
   pub done : List (List ℕ)
   pub split : lines ≡ done ++ rest

@@ -8,8 +8,7 @@ use Rattle.ts_io.specs.declared.limits.TheConstants.{INPUT_LIMIT, LINE_LIMIT}
 use Rattle.ts_io.specs.declared.line_reader.LineEnd.TheVariants.{Line, LineLong, End, InputLong}
 use Rattle.script_run.specs.Runs.{ReadWhole, executed_lines}
 
--- as many bytes are gone from the input as from its limit, and R is true of the lines to execute and of those that are
--- left
+-- as many bytes are gone from the input as from its limit. R is true of the lines to execute and of those that are left
 abbrev pub OfInput : Option (List ℕ) → ℕ → Option (List ℕ) → (List (List ℕ) → List (List ℕ) → Type 0) → Type 0
 OfInput None n now R = ⊤
 OfInput (Some input) n None R = ⊥

@@ -23,7 +23,7 @@ pub record AreReady {A T J : Type 0} (actors : Actor A T J) (alone : Bool) (s : 
   pub sessions : AreSessions actors s entries
   pub room : waiting_in actors.waiting entries + bytes ≤ most_queued
 
--- the sessions executed the line. It had its outcome, what they hold fits the state of their store, and the texts of
+-- the sessions executed the line, which had its outcome. What they hold fits the state of their store, and the texts of
 -- their queues grew by at most the bytes of the line
 pub record HaveTaken {A T J B U K : Type 0} (actors : Actor A T J) (backend : Backend B U K) (old : B)
     (entries : List (Vec ℕ × A)) (bytes : ℕ) (line_result : LineResult actors.Places) (end : StepEnd) (new : B)

@@ -39,8 +39,8 @@ impl<B: Backend> SharedStore<B> {
         self.lock.join(a, b)
     }
 
-    /// Returns the backend to the holder of all the shares. It holds what the pass has seen, and the pass
-    /// has made each event since the start once.
+    /// Returns the backend to the holder of all the shares. It holds what the pass has seen, and the pass has appended
+    /// each event since the start once.
     pub fn close(self, pass: Pass<B>) -> B
         requires pass { IsPassOf self pass }
         requires all { shares_of pass ≡ self.shares }

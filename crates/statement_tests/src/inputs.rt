@@ -75,8 +75,8 @@ fn a_text_is_written_up_to_the_failed_write(rt: HostRuntime) -> Result<(), Fail>
     Ok(())
 }
 
-/// A reader and writer of std that is interrupted a few times, then moves `most` bytes in all, and then fails to
-/// read and accepts no bytes.
+/// A reader and writer of std. It is interrupted a few times, then moves `most` bytes in all, and then fails to read
+/// and accepts no bytes.
 #[derive(Drop)]
 struct Pipe {
     most: usize,

@@ -86,8 +86,8 @@ put_fallen alone old (adds e n stop) mid a next new y (inr (inl w)) v = inr (inl
 put_fallen alone old (adds e n stop) mid a next new y (inr (inr w)) v = inr (inr (refl, record { mid = w.1.mid; first = w.1.first; rest = put_after alone false w.1.mid stop mid a next new y w.1.rest v }))
 put_fallen alone old (ends x) mid a next new y w v = absurd (true≢false w.0)
 
--- two walks in order, of a procedure and of the one that follows it, are one walk of both, even if the disk failed in
--- the first
+-- two walks in order, of a procedure and of the one that follows it, are one walk of both. The disk may have failed in
+-- either
 pub put_together : {A B : Type 0} (alone failed failed_then : Bool) (old : State) (first : Procedure A) (mid : State) (a : A) (next : A → Procedure B) (new : State) (y : B) → Walks alone failed old first mid a → Walks alone failed_then mid (next a) new y → Walks alone (failed || failed_then) old (followed_by first next) new y
 put_together alone false failed_then old first mid a next new y w v = put_after alone failed_then old first mid a next new y w v
 put_together alone true false old first mid a next new y w v = put_fallen alone old first mid a next new y w v

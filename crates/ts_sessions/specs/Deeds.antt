@@ -234,8 +234,8 @@ pub record IsAsked (h : History) (asked : RefreshRequest) : Type 0 where
   pub low : ForSome asked.lo (λ t. IsTrue (is_time t))
   pub high : ForSome asked.hi (λ t. IsTrue (is_time t))
 
--- what a store call needs of the state of the store. The aggregate of a refresh exists and its bounds are times, a job
--- is that of its refresh and snapshot, an event is sound, and an aggregate to be filled exists under its name
+-- what a store call needs of the state of the store. The aggregate of a refresh exists and its bounds are times. A job
+-- is that of its refresh and snapshot. An event is sound. An aggregate to be filled exists under its name
 abbrev pub DeedFits : {T J : Type 0} → Shown T J → Deed T J → State → Type 0
 DeedFits shown (deeds.Cut asked then) s = IsAsked s.history asked
 DeedFits shown (deeds.Finish job f) s = IsJobOf shown (cut_in f) (at_in f) s.history job

@@ -75,7 +75,7 @@ pub record GoesOn (old new : State) : Type 0 where
   pub begins : Begins old.history new.history
   pub still : IsTrue (stands_still old) → IsTrue (stands_still new)
 
--- the snapshot of a read block is that of the history at which the block began, and the queue of a write block can be
+-- the snapshot of a read block is that of the history at which the block began. The queue of a write block can be
 -- committed
 abbrev pub HoldsBlock : {T : Type 0} → (T → History → Type 0) → Open T → History → Type 0
 HoldsBlock stands Nothing h = ⊤

@@ -12,8 +12,8 @@ use Rattle.ts_sessions.specs.Walks.{Walks}
 
 -- ---- procedures in order
 
--- two walks in order, of a procedure and of the one that follows it, are one walk of both, even if the disk failed in
--- the first
+-- two walks in order, of a procedure and of the one that follows it, are one walk of both. The disk may have failed in
+-- either
 abbrev pub PutTogether : (A B : Type 0) → Type 0
 PutTogether A B =
     (alone failed failed_then : Bool) (old : State) (first : Procedure A) (mid : State) (a : A)
@@ -23,8 +23,8 @@ PutTogether A B =
 
 -- ---- over a whole history
 
--- if a procedure is steady from a history on and reads from there on, it gives the same over each longer history, even
--- if the store stopped later
+-- a procedure that is steady from a history on, and reads from there on, gives the same over each longer history. The
+-- store may have stopped later
 abbrev pub GivesOverLonger : (A : Type 0) → Type 0
 GivesOverLonger A =
     (fresh : Bool) (base all longer : History) (stop later : Option ℕ) (at : ℕ) (so_far : List (ℕ × Event))

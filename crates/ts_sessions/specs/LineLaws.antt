@@ -22,8 +22,8 @@ use Rattle.ts_sessions.specs.Steady.{Steady}
 use Rattle.ts_sessions.specs.Step.{acts, answers, kind_of, makes_event, on_hypertables, turn_of_names, passes_block, step}
 use Rattle.ts_sessions.specs.Walks.{Walks, history_after, end_of_walk}
 
--- if the names of a statement with an event passed the checks once, its action later does what the statement does with
--- its names resolved then
+-- the names of a statement with an event passed the checks once. Later its action does what the statement does with its
+-- names resolved then
 abbrev pub NamesStay : Type 0
 NamesStay =
     (p : Places) (bytes : ℕ) (stmt : Stmt) (g h : History) → Begins g h → all_allowed h ≡ true

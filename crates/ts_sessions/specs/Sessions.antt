@@ -54,7 +54,7 @@ abbrev pub Tries :
 Tries alone old procedure (Ok t) new = Walks alone (has_failed t) old procedure new (result_of t)
 Tries alone old procedure (Err e) new = Breaks alone old procedure new
 
--- the outcome of a snapshot for a refresh that read so many rows
+-- the outcome of a snapshot for a refresh that read this many rows
 abbrev pub taken_as : {J : Type 0} → ℕ → SnapOutcome J → Result Taken Refusal
 taken_as read (snapped.Taken at job) = Ok (record { at = at; reads = read })
 taken_as read (snapped.Refused r) = Err r

@@ -412,8 +412,8 @@ is_on_hypertable r (Delete t tests) = is_some (hyper_of r t)
 abbrev pub on_hypertables : Roster → List Op → Bool
 on_hypertables r ops = list_all (is_on_hypertable r) ops
 
--- in a write block with these operations, the reply prints the read position if names are refused, or the operations
--- take effect, or a query reads. A query reads only if all operations are on hypertables
+-- whether the reply prints the read position in a write block with these operations. It does if names are refused, the
+-- operations take effect, or a query reads. A query reads only if all operations are on hypertables
 abbrev pub prints_writing : List Op → StatementKind → Roster → Option Refusal → Bool
 prints_writing ops kinds.Changes r refused = is_some refused
 prints_writing ops kinds.Asks r refused = on_hypertables r ops

@@ -55,7 +55,7 @@ pub enum CallOutcome<T> {
     },
 }
 
-/// A store call that was made.
+/// The outcome of a store call that was performed.
 #[derive(Drop)]
 pub(crate) struct Meeting<T> {
     /// Its outcome.
@@ -64,7 +64,7 @@ pub(crate) struct Meeting<T> {
     pub failed: bool,
 }
 
-/// Makes a store call.
+/// Performs a store call.
 pub(crate) fn call<B: Backend, G: Gate>(
     backend: &mut B,
     gate: &G,

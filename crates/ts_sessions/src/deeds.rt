@@ -30,7 +30,7 @@ pub struct CutRefresh {
     pub min: i64,
 }
 
-/// Where the job of a finish comes from.
+/// The source of the job of a finish.
 #[derive(Drop)]
 pub enum FinishSource {
     /// The statement cut it, and took its snapshot at a position.
@@ -219,7 +219,7 @@ where
     }
 }
 
-/// Makes one store call, and returns what follows it.
+/// Performs one store call, and returns what follows it.
 fn advance<R: Threads + Sync, B: Backend, G: Gate, L>(
     rt: &R,
     alloc: Global,

@@ -67,8 +67,7 @@ pub fn lines_make_at_most_three_events()
     ensures { LinesMakeFewEvents }
 {}
 
-/// States the law that a query in a write block shows the same as directly after a commit of the queue, and reads as
-/// many rows.
+/// States the law that a query in a write block shows and reads the same as directly after a commit of the queue.
 pub fn queries_show_the_queue()
     ensures { QueriesShowTheQueue }
 {}

@@ -86,8 +86,8 @@ AuditTo status unprinted unasked o = OfWholeText o (λ text. AuditsBeside status
 
 -- ---- printing
 
--- the line of an answer was printed over a history that ends at a position, or a part of it, and the call ended like
--- this. If memory ran out, nothing was printed
+-- the line of an answer was printed, or a part of it, over a history that ends at a position. The call ended like this.
+-- If memory ran out, nothing was printed
 abbrev pub PrintsAudit : Audit → ℕ → Status → Type 0 → Option (List ℕ) → Option (List ℕ) → Type 0
 PrintsAudit audits.NoMemory end status unprinted before written = (status ≡ NoMemory) × unprinted
 PrintsAudit audit end status unprinted before written =

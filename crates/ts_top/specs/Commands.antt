@@ -1,4 +1,4 @@
--- What the words of the command line ask for.
+-- The commands that the words of the command line name.
 use Rattle.std.specs.Prelude.{ℕ, Bool, true, false, ◌+◌, ◌*◌, ◌-◌, ◌&&◌, nat_eq, nat_lt, nat_le, List, [], ◌∷◌, Option, Some, None, option_map, codes, bytes_eq, if◌then◌else◌}
 use Rattle.ts_top.specs.declared.commands.Command.{Command}
 use Rattle.ts_top.specs.declared.commands.Command.TheVariants.{Run, Par, ParJson, Demo, Print, Checkpoint, Audit}

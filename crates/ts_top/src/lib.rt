@@ -1,5 +1,5 @@
-//! The top call: from the words of the command line, the bytes of a script and a journal to the bytes of the replies
-//! and the journal with what was acknowledged.
+//! The top call. It takes the words of the command line, the bytes of a script and a journal. It gives the bytes of the
+//! replies, and the journal with all acknowledged events.
 //!
 //! - `commands`: the commands that words name.
 //! - `run`: the top call.

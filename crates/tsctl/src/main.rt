@@ -1,4 +1,4 @@
-//! The program. It passes standard input, standard output and the journal's file to the top call, and reports the
+//! The program. It passes standard input, standard output and the journal's file to the top call. It reports the
 //! outcome by the exit status and a line on standard error.
 #![tactic(auto)]
 
@@ -40,9 +40,9 @@ fn message(status: Status) -> Option<&'static str> {
     }
 }
 
-/// Makes the C library keep freed memory for the next statement. The library returns the end of its heap to the
-/// system if more than a threshold is free there, and raises the threshold to twice the size of a large block that
-/// is released. This function allocates such a block and releases it untouched.
+/// Makes the C library keep freed memory for the next statement. The library returns the end of its heap to the system
+/// if more than a threshold is free there. It raises the threshold to twice the size of a large block that is released.
+/// This function allocates such a block and releases it untouched.
 fn keep_freed_memory(alloc: Global) {
     let _block: Result<Vec<u8>, _> = Vec::with_capacity(alloc, KEPT_MEMORY);
 }

@@ -78,10 +78,9 @@ module _ {V B E : Type 0} (base : V → B) (events : V → List E) (closed : V �
   Stands root log shut away (some (Some v)) = IsValue root log shut v
 
 module _ {V B E : Type 0} (base : V → B) (first : B → ℕ) (events : V → List E) (closed : V → Option E) where
-  -- the rule, by the next ticket and the one that is served, the holder of each ticket, what slot 0 has, the events
-  -- until now and what closed them, and the index of a view that has seen them all. Each ticket that was drawn and
-  -- isn't past has a holder. Each view is in place and fits the events. The value is at home, or away with the view
-  -- that has the turn. There are as many shares as at first. Each position added since then was added once
+  -- the rule at a state of the lock. Each ticket that was drawn and isn't past has a holder. Each view is in place and
+  -- fits the events. The value is at home, or away with the view that has the turn. There are as many shares as at
+  -- first. Each position added since then was added once. `last` is the index of a view that has seen all events
   pub record Kept (key : Opening V) (s : State (Option V) (PassState B E)) : Type 0 where
     pub next : ℕ
     pub serving : ℕ

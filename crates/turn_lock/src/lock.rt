@@ -7,8 +7,7 @@ use atomic_table::Table;
 use std::alloc::Global;
 use std::marker::Model;
 
-// The index of the word with the next ticket to draw, of the word with the ticket served, and of the word with the
-// position at which the events end.
+// The indexes of the words: the next ticket to draw, the ticket served, and the position at which the events end.
 pub(crate) const NEXT: usize = 0;
 
 pub(crate) const SERVING: usize = 1;

@@ -10,7 +10,7 @@ use crate::pass::{Pass, TableSeat};
 use std::marker::Brand;
 
 impl<V: Grown> TurnLock<V> {
-    // Moves shares to a new seat. `C` tells the proof how many.
+    // Moves shares to a new seat. `C` says for the proof how many.
     fn cut<C: Cutting>(&self, seat: &mut TableSeat<V>, shares: u32) -> TableSeat<V>
         requires lock { seat.old.table_id ≡ self.now.lock }
         requires count { shares ≡ C.count }

@@ -106,7 +106,7 @@ impl<V: Grown> TurnLock<V> {
         }
     }
 
-    // Puts the value back, publishes where its events end, and serves the next ticket.
+    // Puts the value back, publishes the position at which its events end, and serves the next ticket.
     pub(crate) fn publish(&self, seat: &mut TableSeat<V>, value: V, ticket: u64, position: u64)
         requires seat { seat.old.table_id ≡ self.now.lock }
         requires turn { IsInTurn ticket seat.old.me }

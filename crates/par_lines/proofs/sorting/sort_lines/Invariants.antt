@@ -1,4 +1,4 @@
--- The lines sorted until now, and then those that are left, are the whole input sorted.
+-- The lines sorted so far, and then those that are left, are the whole input sorted.
 use Rattle.std.proofs.Common.{◌≡◌, ◌+◌, ◌-◌, ◌≤◌, length, drop}
 use Rattle.std.specs.List.{All}
 use Rattle.ts_io.specs.Lines.{lines_of}
