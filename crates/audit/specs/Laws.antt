@@ -38,7 +38,7 @@ IsRejected (Lost p) = ⊤
 IsRejected NoMemory = ⊤
 IsRejected other = ⊥
 
--- the answer is No or Lost if the replies of a transcript that may be judged leave out an event, name one twice or name
+-- the answer is No or Lost if the replies of a transcript that may be judged leave out an event, name one twice or
 -- another. Memory may also run out
 abbrev pub OthersAreRejected : Type 0
 OthersAreRejected =

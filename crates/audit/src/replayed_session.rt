@@ -20,7 +20,7 @@ use ts_model::Shown;
 use ts_schema::{Name, NoMemory, Steps};
 use ts_sessions::Session;
 
-/// At most this many bytes of text are in the queue of a write block.
+/// The greatest number of bytes that the texts of a write block's queue have.
 const MOST_QUEUED: u64 = 67_108_864;
 
 /// A session whose replies are being judged, after the replies so far.

@@ -33,9 +33,9 @@ use ts_sessions::Actor;
 /// `final` alone. It returns the store on each ending, and may wait, as the workers take turns at the store.
 ///
 /// The replies and the store are as if each line had been answered over one history: the one that the store holds in
-/// the end. The actors report by their replies. Positions never fall from one line of a session to its next. After a
-/// disk fault the store has stopped, and the sessions continue. If a line runs out of memory, its session ends there,
-/// and no later phase begins.
+/// the end. What a line does there is what the actor's `replies` say. Positions never fall from one line of a session
+/// to its next. After a disk fault the store has stopped, and the sessions continue. If a line runs out of memory, its
+/// session ends there, and no later phase begins.
 pub fn par<A, B, R, G>(rt: &R, alloc: Global, backend: B, input: &[u8], gate: &G) -> ParEnd<B>
 where
     A: Actor<Shot = B::Shot> + Drop + Send,

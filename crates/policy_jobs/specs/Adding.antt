@@ -14,7 +14,7 @@ use Rattle.policy_jobs.specs.declared.jobs.Job.{Job}
 use Rattle.policy_jobs.specs.declared.jobs.Job.TheVariants as jobs
 use Rattle.policy_jobs.specs.declared.policies.Policy.{Policy}
 
--- at most this many policies are in a session
+-- the greatest number of policies in a session
 abbrev pub most_policies : ℕ
 most_policies = 64
 

@@ -8,7 +8,7 @@ use crate::jobs::Job;
 use ts_catalog::{Found, find};
 use ts_model::{Refusal, Roster, ViewDef, codes};
 
-/// At most this many policies are in a session.
+/// The greatest number of policies in a session.
 pub(crate) const MOST_POLICIES: usize = 64;
 
 /// The greatest offset and the greatest interval, 2 ^ 50.

@@ -134,7 +134,7 @@ impl<A: Actor> PolicySession<A> {
         ensures reply { IfOk result (λ r. IsReply (A.named self.old.actor)
             (PolicyLine (suc (length self.old.policies)) pos ∷ []) r) }
         ensures policies { OnOk result (self.new.policies ≡ self.old.policies ++ policy ∷ []) }
-        // Out of memory, it adds no policy, since the reply doesn't report one.
+        // If it runs out of memory, it adds no policy, since no reply reports one.
         ensures kept { OnErr result (self.new.policies ≡ self.old.policies) }
         ensures actor { self.new.actor ≡ self.old.actor }
     {
@@ -281,7 +281,7 @@ fn barrier(block: Block) -> Option<Refusal>
     }
 }
 
-/// The refusal of a text that can't be read, with its byte.
+/// The refusal of a text that can't be read, with the place of its first fault.
 pub(crate) fn misread(fault: Fault) -> Refusal
     ensures { result ≡ misread_as fault }
 {

@@ -30,8 +30,8 @@ pub(crate) fn send_escaped<K: Sink>(
     Ok(())
 }
 
-/// Sends the front of a text that isn't empty: bytes without an escape, or one escape. Returns how many bytes these
-/// were.
+/// Sends the front of a text that isn't empty: bytes without an escape, or one escape. Returns how many bytes of the
+/// text these were.
 fn send_front<K: Sink>(text: &[u8], page: &mut Page, sink: &mut K) -> Result<usize, WriteFault>
     requires some { 0 < length text.now }
     ensures sent { MatchResult result

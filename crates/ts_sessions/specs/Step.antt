@@ -59,11 +59,11 @@ use Rattle.ts_sessions.specs.Places.{Block, none, writing, reading, Places, queu
 abbrev pub bare : ℕ → Refusal
 bare code = record { code = code; pos = 0; mark = 0 }
 
--- a refusal of the text at a byte of the line
+-- a refusal of the text at a place in the line
 abbrev pub text_refusal_of : ℕ → ℕ → Refusal
 text_refusal_of code place = record { code = code; pos = 0; mark = place }
 
--- the refusal of a text that can't be read, at its byte
+-- the refusal of a text that can't be read, at the place of its first fault
 abbrev pub misread : Fault → Refusal
 misread (faults.NoToken place) = text_refusal_of no_token place
 misread (faults.Syntax place) = text_refusal_of syntax place

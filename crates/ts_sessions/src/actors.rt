@@ -30,8 +30,8 @@ pub trait Actor {
     // The meaning of its lines.
     ghost semantics: { Semantics Self.Places };
 
-    // Lines of the reply to a line, by the session state, the bytes of the line, and how many of them precede its
-    // statement.
+    // What the reply to a line says, as a procedure. It depends on the session state, the bytes of the line, and how
+    // many of them precede its statement.
     ghost replies: { Self.Places → List ℕ → ℕ → Procedure (Turn Self.Places) };
 
     ghost places: { Self → Self.Places };

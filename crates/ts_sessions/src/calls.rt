@@ -55,7 +55,7 @@ pub enum CallOutcome<T> {
     },
 }
 
-/// The outcome of a store call that was performed.
+/// A store call that was performed.
 #[derive(Drop)]
 pub(crate) struct Meeting<T> {
     /// Its outcome.

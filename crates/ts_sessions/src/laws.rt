@@ -12,7 +12,7 @@ pub fn procedures_are_put_together<A, B>()
     ensures { PutTogether A B }
 {}
 
-/// States the law that a procedure ends with the same over each longer history, even if the store stopped later.
+/// States the law that a steady procedure gives the same over each longer history, even if the store stopped later.
 pub fn procedures_give_the_same_over_longer_histories<A>()
     ensures { GivesOverLonger A }
 {}

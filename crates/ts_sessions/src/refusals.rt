@@ -19,7 +19,7 @@ pub fn bare(code: u8) -> Refusal
     }
 }
 
-/// Returns a refusal of the text, with a byte of the line.
+/// Returns a refusal of the text, with a place in the line.
 pub fn text_refusal(code: u8, place: u32) -> Refusal
     ensures { result ≡ placed_refusal code place }
 {

@@ -32,8 +32,7 @@ pub record StandsBetween (from to : History) (file : List ℕ) : Type 0 where
   pub began : Begins from history
   pub within : Begins history to
 
--- what a crash since the call began might have left of the new disk, if all bytes that reads of the old disk gave were
--- on it
+-- what a crash since the call began might have left of the new disk, if all bytes that the old disk gave were on it
 abbrev pub LeftAfter :
     {D : Type 0} → (D → Option (List ℕ)) → (D → List ℕ → Type 0) → (D → ℕ) → (D → ℕ → List ℕ → Type 0) → D → D
     → List ℕ → Type 0
