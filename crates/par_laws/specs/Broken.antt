@@ -133,7 +133,7 @@ module _ {P : Type 0} (within : P → Block) (does : P → List ℕ → ℕ → 
     abbrev pub Broke : Bool → W → State → W → State → Type 0
     Broke alone old s new t = ran_out new ≡ true → BrokeOff alone (session_of old) s (replies_of new).reads t
 
-    -- otherwise it executed all its lines
+    -- a worker's session broke off if the worker ran out of memory, and otherwise executed all its lines
     abbrev pub WorkedOrBroke : Bool → W → State → W → State → Type 0
     WorkedOrBroke alone old s new t =
         Worked within does p session_of replies_of ran_out alone old s new t × Broke alone old s new t

@@ -12,7 +12,7 @@ use Rattle.ts_sessions.specs.Sessions.{IfAnswered}
 use Rattle.script_run.specs.LineEnds.{LineExecuted}
 use Rattle.script_run.specs.Sessions.{AreSessions, script_over, waiting_in}
 
--- sessions can execute a line of this many bytes. Nobody else uses their store, which hasn't stopped, their queues can
+-- sessions can execute a line of this many bytes. Nobody else uses their store, which hasn't stopped. Their queues can
 -- hold the operations, and this many rows were read before
 pub record AreReady {A T J : Type 0} (actors : Actor A T J) (alone : Bool) (s : State) (entries : List (Vec ℕ × A))
     (bytes read : ℕ) : Type 0 where
