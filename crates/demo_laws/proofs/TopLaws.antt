@@ -73,8 +73,8 @@ end_within fold span b row width whole e = by_cases (in_span span (bucket_of fol
         grind (arith, ints)
     by_cases false held below = absurd (true≢false (sym below))
 
--- if the last bucket of the span has a row that matches, exactly the numbers below the span's end are below the top of
--- the span
+-- if the last bucket of the span has a row that matches, a number is below the top exactly if it is below the span's
+-- end
 pub is_below-full : (fold : Fold) (span : Span) (b : ℤ) (rows : List Row) → IsWidth fold.width → is_bucket fold.width span.hi ≡ true → (int_lt b span.hi ≡ true → list_any (λ row. is_below b (end_of_row fold span row)) rows ≡ true) → is_below b (top_in fold span rows) ≡ int_lt b span.hi
 is_below-full fold span b rows width whole reached = is_below-top fold span b rows ∙ by_cases (list_any (λ row. is_below b (end_of_row fold span row)) rows) (int_lt b span.hi) refl refl
   where
