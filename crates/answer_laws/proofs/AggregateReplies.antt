@@ -1,4 +1,4 @@
--- What the answer of an aggregate shows of a bucket that is up to date.
+-- What the answer of an aggregate shows of one bucket.
 use Rattle.std.proofs.Common.{◌≡◌, ℕ, Bool, true, false, ◌&&◌, List, [], Option, None, Some, ℤ, int_le, cond, sym, refl, ap, ◌∙◌, subst}
 use Rattle.std.specs.Ordering.{int_eq}
 use Rattle.std.proofs.lemmas.Bool.{and_parts}
@@ -29,14 +29,14 @@ use Rattle.hier_agg.proofs.Fresh.{group_starts, shown_outside, stood_start}
 use Rattle.answer_laws.specs.Laws.{AsksFor, BucketsShow, ShowsAs}
 use Rattle.answer_laws.proofs.OneBucket.{all_within_own, holds_itself, holds_no_other, one_part, within_each}
 
--- a bucket that is asked for is one
+-- what a query asks for is a bucket
 asked_bucket : (def : ViewDef) (starts : Span) (b : ℤ) → is_asked def.fold.width starts b ≡ true → is_bucket def.fold.width b ≡ true
 asked_bucket def starts b e =
     (and_parts (is_bucket def.fold.width b) (int_le (first_of def.fold.width) b) (and_parts (in_span starts b) (is_bucket def.fold.width b && int_le (first_of def.fold.width) b) e).1).0
 
--- ---- what is shown of it
+-- ---- what the aggregate shows of it
 
--- a bucket that isn't stale shows the aggregation from scratch, where it does so at or above the watermark
+-- a bucket that isn't stale shows the aggregation from scratch, if it does so at or above the watermark
 shown_fresh : (n : ℕ) (def : ViewDef) (h : History) (b : ℤ) → stale n def h b ≡ false → (is_below b (watermark n def h) ≡ false → cond def.only [] (scratch def h b) ≡ scratch def h b) → shown n def h b ≡ scratch def h b
 shown_fresh n def h b e above =
     by_test (is_below b (watermark n def h))
@@ -49,7 +49,7 @@ not_stale n def h b s e f =
     let valid : invalid n def h b ≡ false = ap (is_invalid n def h b) e ∙ f in
     by_test (is_below b (watermark n def h)) (λ t. rw t valid) (λ t. rw t refl)
 
--- at or above the watermark it had no row at that refresh, and so it has none
+-- a bucket at or above the watermark had no row at that refresh, and so has none
 nothing_there : (n : ℕ) (def : ViewDef) (h : History) (b : ℤ) (s : ℕ) → all_consistent h ≡ true → view_of (roster h) n ≡ Some def → is_bucket def.fold.width b ≡ true → last n h b ≡ Some s → touched n def h b s ≡ false → is_below b (watermark n def h) ≡ false → cond def.only [] (scratch def h b) ≡ scratch def h b
 nothing_there n def h b s ok there bucket e f mark =
     let none : scratch def h b ≡ [] = untouched_keeps n def h b s f ∙ nothing_above_watermark n def h b s ok there bucket e mark in
@@ -71,7 +71,7 @@ module _ (n : ℕ) (def : ViewDef) (h : History) (starts : Span) (b : ℤ) (asks
   others : (x : ℤ) → is_bucket def.fold.width x ≡ true → int_eq b x ≡ false → rows_within def.fold.width b (shown n def h x) ≡ []
   others x at apart = shown_outside n def h def.fold.width b x (holds_no_other def.fold.width b x wide bucket at apart)
 
-  -- its own rows all are
+  -- the rows of this bucket all are
   scratch_within : rows_within def.fold.width b (scratch def h b) ≡ scratch def h b
   scratch_within =
       let found = bucket_rows def.fold b (rows def.table h) in
@@ -87,7 +87,7 @@ module _ (n : ℕ) (def : ViewDef) (h : History) (starts : Span) (b : ℤ) (asks
   answered : answer (Aggregate n starts) h ≡ answer_of_view n h starts (Some def)
   answered = ap (answer_of_view n h starts) asks.there
 
-  -- so the answer shows of it what is shown of it alone
+  -- so the answer shows of this bucket what the aggregate shows of it
   pub shows : (found : List (List Datum)) (named : Bool) → shown n def h b ≡ found → rows_within def.fold.width b found ≡ found → stale n def h b ≡ named → ShowsAs n def h starts b found named
   shows found named is within e = record {
     rows =

@@ -1,4 +1,4 @@
--- The reply to a query by buckets of the calendar.
+-- The reply to a query by calendar buckets.
 use Rattle.std.proofs.Common.{◌≡◌, ℕ, zero, suc, ◌≤◌, ◌<◌, Bool, true, false, ◌&&◌, List, [], ◌∷◌, map, length, ℤ, Option, Some, None, sym, refl, ap, ◌∙◌, subst, arith}
 use Rattle.std.specs.Prelude.{nat_lt, option_and_then, option_map, slice_get, unwrap_or}
 use Rattle.std.specs.List.{AllByRecursion, filter, flat_map, list_all}
@@ -42,9 +42,9 @@ use Rattle.ts_sessions.specs.Step.{acts, answers, calendar_plan, in_form, named_
 use Rattle.answer_laws.specs.Laws.{CalendarsReply, IsOfARow}
 use Rattle.answer_laws.proofs.RollUpReplies.{same_roster}
 
--- ---- tests that were passed
+-- ---- rows that match tests
 
--- what is left of some rows by a stronger test is what is left of all
+-- filtering by a weaker test first changes nothing
 filter_again : (strong weak : Row → Bool) → ((row : Row) → strong row ≡ true → weak row ≡ true) → (xs : List Row) → filter strong (filter weak xs) ≡ filter strong xs
 filter_again strong weak weaker [] = refl
 filter_again strong weak weaker (x ∷ xs) =
@@ -61,7 +61,7 @@ everywhere : {X : Type 0} (P : X → Type 0) → ((x : X) → P x) → (xs : Lis
 everywhere P h [] = tt
 everywhere P h (x ∷ xs) = (h x, everywhere P h xs)
 
--- rows that pass the tests are grouped as all are
+-- rows that match the tests are grouped like all rows
 grouped_again : (name : ℤ → ℤ) (fold : Fold) (xs : List Row) → named_rows name fold (filter (λ row. passes_all row fold.tests) xs) ≡ named_rows name fold xs
 grouped_again name fold xs =
     let passes : Row → Bool = λ row. passes_all row fold.tests in
@@ -102,7 +102,7 @@ table_grouped g t cal (Some info) ok e p f =
 
 -- ---- names
 
--- a row of these
+-- one of these rows
 abbrev IsAmong : List Row → Row → Type 0
 IsAmong found row = (k : ℕ) × (slice_get found k ≡ Some row)
 
@@ -110,7 +110,7 @@ all_among : (found : List Row) → AllByRecursion (IsAmong found) found
 all_among [] = tt
 all_among (x ∷ xs) = ((0, refl), all_weaker (IsAmong xs) (IsAmong (x ∷ xs)) (λ row is. (suc is.0, is.1)) xs (all_among xs))
 
--- the name of the bucket of the time of one of these rows that passes the tests
+-- the name of the bucket of the time of one of these rows that matches the tests
 record IsNameOfARow (cal : CalPlan) (found : List Row) (b : ℤ) : Type 0 where
   place : ℕ
   row : Row

@@ -1,4 +1,4 @@
--- What an answer shows of one bucket among those that are asked for.
+-- What an answer shows of one bucket among those that a query asks for.
 use Rattle.std.proofs.Common.{◌≡◌, ℕ, Bool, true, false, ◌||◌, List, [], ◌∷◌, ◌++◌, map, ℤ, pos, ◌+ℤ◌, ◌≤ℤ◌, ◌<ℤ◌, sym, refl, ap, ◌∙◌, subst, arith}
 use Rattle.std.specs.List.{AllByRecursion, filter, flat_map, list_any}
 use Rattle.std.specs.Ordering.{int_eq}
@@ -18,7 +18,7 @@ use Rattle.ts_model.specs.Groups.{cells_of}
 use Rattle.ts_model.proofs.RangeLaws.{RisingBuckets, among}
 use Rattle.hier_agg.specs.Upper.{row_of, rows_within}
 
--- of rows that come bucket by bucket, those of one bucket come bucket by bucket
+-- the rows within a bucket, of several parts, are those of each part in order
 pub within_each : (w : Width) (b : ℤ) (shows : ℤ → List (List Datum)) (bs : List ℤ) → rows_within w b (flat_map shows bs) ≡ flat_map (λ x. rows_within w b (shows x)) bs
 within_each w b shows [] = refl
 within_each w b shows (x ∷ bs) =
@@ -29,12 +29,12 @@ within_each w b shows (x ∷ bs) =
 pub holds_no_other : (w : Width) (b x : ℤ) → IsWidth w → is_bucket w b ≡ true → is_bucket w x ≡ true → int_eq b x ≡ false → holds w b x ≡ false
 holds_no_other w b x wide at other apart = holds-is w b x wide at ∙ ap (int_eq b) (bucket_of-bucket w x wide other) ∙ apart
 
--- it holds its own
+-- a bucket holds its own start
 pub holds_itself : (w : Width) (b : ℤ) → IsWidth w → is_bucket w b ≡ true → holds w b b ≡ true
 holds_itself w b wide at = holds-is w b b wide at ∙ ap (int_eq b) (bucket_of-bucket w b wide at) ∙ (Decides-int_eq b b).1 refl
 
 module _ {X : Type 0} (w : Width) (b : ℤ) (part : ℤ → List X) (others : (x : ℤ) → is_bucket w x ≡ true → int_eq b x ≡ false → part x ≡ []) where
-  -- none of buckets that all start later is it
+  -- buckets that all start later don't include it
   none_later : (low : ℤ) (bs : List ℤ) → b <ℤ low → RisingBuckets w low bs → flat_map part bs ≡ []
   none_later low [] later rising = refl
   none_later low (x ∷ bs) later rising =
@@ -46,7 +46,7 @@ module _ {X : Type 0} (w : Width) (b : ℤ) (part : ℤ → List X) (others : (x
       let after : b <ℤ (x +ℤ pos 1) = omega (arith, ints, later, above) in
       ap (λ xs. xs ++ flat_map part bs) (others x rising.1 apart) ∙ none_later (x +ℤ pos 1) bs after rising.2
 
-  -- of rising buckets among which it is, it alone has a part
+  -- of rising buckets that include it, only this one has a part
   pub one_part : (low : ℤ) (bs : List ℤ) → RisingBuckets w low bs → among b bs ≡ true → flat_map part bs ≡ part b
   one_part low [] rising there = absurd (cc there)
   one_part low (x ∷ bs) rising there =

@@ -41,7 +41,7 @@ use Rattle.ts_sessions.specs.Step.{acts, shown_in, turn_of_names, unit_of}
 
 -- ---- replies
 
--- what is left of a statement is its end, with one reply: this answer, at the position of this history
+-- the rest of a statement is its end, with a reply of one line: this answer, at the position of this history
 pub record RepliesWith (procedure : Procedure (Turn Places)) (h : History) (shown : Answer) : Type 0 where
   pub turn : Turn Places
   pub ends_so : procedure ≡ ends turn
@@ -51,48 +51,48 @@ pub record RepliesWith (procedure : Procedure (Turn Places)) (h : History) (show
 
 -- ---- aggregates
 
--- a query of an aggregate is answered with what the aggregate shows, in a write block with the queue on top
+-- the answer to a query of an aggregate is what the aggregate shows, in a write block with the queue on top
 abbrev pub AggregatesReply : Type 0
 AggregatesReply =
     (p : Places) (bytes n : ℕ) (starts : Span) (h : History)
     → RepliesWith (acts p bytes h (actions.Ask (Aggregate n starts))) h (answer (Aggregate n starts) (shown_in p.block h))
 
--- a bucket of an aggregate of a consistent history is asked for
+-- a query of an aggregate asks for a bucket, at a consistent history
 pub record AsksFor (n : ℕ) (def : ViewDef) (h : History) (starts : Span) (b : ℤ) : Type 0 where
   pub consistent : all_consistent h ≡ true
   pub there : view_of (roster h) n ≡ Some def
   pub asked : is_asked def.fold.width starts b ≡ true
 
--- the answer shows these rows of a bucket, and names it stale or doesn't
+-- the answer shows these rows of a bucket; the flag says whether it names the bucket stale
 pub record ShowsAs (n : ℕ) (def : ViewDef) (h : History) (starts : Span) (b : ℤ) (shown : List (List Datum))
     (named : Bool) : Type 0 where
   pub rows : rows_within def.fold.width b (answer (Aggregate n starts) h).rows ≡ shown
   pub stale : lies_in (answer (Aggregate n starts) h).stale b ≡ named
 
--- each bucket that is asked for shows the aggregation from scratch, or what its last refresh left and is named stale, or
--- nothing
+-- each bucket that a query asks for shows the aggregation from scratch, or what its last refresh left and is named
+-- stale, or nothing
 pub record BucketsShow : Type 0 where
-  -- from scratch where it was refreshed and no commit touched it since, in either mode
+  -- from scratch if it was refreshed and no commit touched it since, in either mode
   pub refreshed :
       (n : ℕ) (def : ViewDef) (h : History) (starts : Span) (b : ℤ) (s : ℕ) → AsksFor n def h starts b
       → last n h b ≡ Some s → touched n def h b s ≡ false → ShowsAs n def h starts b (scratch def h b) false
-  -- and where it is at or above the watermark of a real-time aggregate
+  -- from scratch if it is at or above the watermark of a real-time aggregate
   pub real_time :
       (n : ℕ) (def : ViewDef) (h : History) (starts : Span) (b : ℤ) → AsksFor n def h starts b
       → def.only ≡ false → is_below b (watermark n def h) ≡ false → ShowsAs n def h starts b (scratch def h b) false
-  -- any other one below the watermark shows what its last refresh left, or no row, and is named
+  -- any other one below the watermark shows what its last refresh left, or no row, and is named stale
   pub stale :
       (n : ℕ) (def : ViewDef) (h : History) (starts : Span) (b : ℤ) → AsksFor n def h starts b
       → is_below b (watermark n def h) ≡ true → invalid n def h b ≡ true
       → ShowsAs n def h starts b (left_by n def h b (last n h b)) true
-  -- and nothing is shown at or above the watermark of one that shows materialized rows only
+  -- nothing at or above the watermark of an aggregate that shows only materialized groups
   pub nothing :
       (n : ℕ) (def : ViewDef) (h : History) (starts : Span) (b : ℤ) → AsksFor n def h starts b
       → def.only ≡ true → is_below b (watermark n def h) ≡ false → ShowsAs n def h starts b [] false
 
 -- ---- roll-ups
 
--- a roll-up is answered, and each wider bucket that isn't named stale and is shown whole shows the composed fold of the
+-- a roll-up has an answer. Each wider bucket that it doesn't name stale and shows whole shows the composed fold of the
 -- table's rows
 pub record RollUpReply (p : Places) (bytes : ℕ) (stmt : Stmt) (h : History) (plan : UpperPlan)
     (def : ViewDef) : Type 0 where
@@ -104,7 +104,7 @@ pub record RollUpReply (p : Places) (bytes : ℕ) (stmt : Stmt) (h : History) (p
       → rows_within plan.width b shown.rows
       ≡ scratch_of (composed_fold def.fold plan) b (rows def.table (shown_in p.block h))
 
--- so it is for each statement that is a roll-up and isn't refused
+-- the same for each statement that is a roll-up and isn't refused
 abbrev pub RollUpsReply : Type 0
 RollUpsReply =
     (p : Places) (bytes : ℕ) (stmt : Stmt) (h : History) (plan : UpperPlan) (def : ViewDef)
@@ -113,7 +113,7 @@ RollUpsReply =
 
 -- ---- the calendar
 
--- a row of an answer is of the calendar's bucket of the time of one of these rows, and that row passes the tests
+-- a row of an answer is named by the calendar bucket of the time of one of these rows, which matches the tests
 pub record IsOfARow (cal : CalPlan) (found : List Row) (cells : List Datum) : Type 0 where
   pub place : ℕ
   pub row : Row
@@ -123,7 +123,7 @@ pub record IsOfARow (cal : CalPlan) (found : List Row) (cells : List Datum) : Ty
   pub named : slice_get cells 0 ≡ Some (Int start)
   pub bucket : IsCalendarBucket cal.unit cal.number row.at start
 
--- a query by buckets of the calendar is answered: it shows the table's rows grouped by them, and names none stale
+-- a query by calendar buckets has an answer: it shows the table's rows grouped by the buckets, and names none stale
 pub record CalendarReply (p : Places) (bytes : ℕ) (stmt : Stmt) (h : History) (t : ℕ) (cal : CalPlan) : Type 0 where
   pub shown : Answer
   pub replies : RepliesWith (turn_of_names p bytes stmt h) h shown
@@ -131,7 +131,7 @@ pub record CalendarReply (p : Places) (bytes : ℕ) (stmt : Stmt) (h : History) 
   pub named : AllByRecursion (IsOfARow cal (rows t (shown_in p.block h))) shown.rows
   pub fresh : shown.stale ≡ []
 
--- so it is for each statement of that kind that isn't refused
+-- the same for each statement of that kind that isn't refused
 abbrev pub CalendarsReply : Type 0
 CalendarsReply =
     (p : Places) (bytes : ℕ) (stmt : Stmt) (h : History) (t number at : ℕ) (unit : List ℕ) (fold : Fold)

@@ -1,4 +1,4 @@
--- What calls come to at positions of a history.
+-- The outcomes of calls at positions of a history.
 use Rattle.std.proofs.Common.{◌≡◌, ℕ, suc, Bool, true, false, cond, ◌==◌, Option, Some, None, sym, refl, ap, ◌∙◌, subst, arith, ne_eqb}
 use Rattle.std.specs.Prelude.{length, nat_lt, is_some, unwrap_or}
 use Rattle.std.proofs.lemmas.Bool.{cond-false, cond-true}
@@ -25,9 +25,9 @@ use Rattle.audit_past.specs.declared.history_view.PastOutcome.{PastOutcome}
 use Rattle.audit_past.specs.declared.history_view.PastOutcome.TheVariants.{Made, Returned, Refused, Otherwise}
 use Rattle.audit.specs.Calls.{came_as, numbered_only}
 
--- ---- refusals have numbers
+-- ---- refusals have codes
 
--- a refusal, if there is one, has a number
+-- a refusal, if there is one, has a code other than 0
 abbrev HasNumber : Option Refusal → Type 0
 HasNumber None = Unit {0}
 HasNumber (Some r) = r.code ≡ 0 → ⊥
@@ -65,7 +65,7 @@ by_call : (h : History) (o : Option Refusal) → HasNumber o → numbered_only (
 by_call h None has = refl
 by_call h (Some r) has = cond-false (r.code == 0) None (Some r) (ne_eqb r.code 0 has)
 
--- without its number an event is refused as its call is, and else where it isn't sound
+-- without the code 0, the refusal of an event is that of its call
 pub only_calls : (h : History) (e : Event) → numbered_only (event_refusal h e) ≡ call_refusal h e
 only_calls h e =
     elim (allowed h e) as (λ t. allowed h e ≡ t → numbered_only (cond t None (Some (unwrap_or (call_refusal h e) (refusal no_number h 0)))) ≡ call_refusal h e) [
@@ -73,7 +73,7 @@ only_calls h e =
       | false ↦ λ _. by_call h (call_refusal h e) (call_numbered h e)
     ] refl
 
--- ---- events that are made
+-- ---- events that are appended
 
 act_free : (h : History) (e : Event) → call_refusal h e ≡ None → making_event e h ≡ makes e (effect_of h e)
 act_free h e free =
@@ -89,7 +89,7 @@ came_otherwise h e next free other = subst (λ act. CameTo act next Otherwise) (
 pub came_refused : (h : History) (e : Event) (next : Option Event) (r : Refusal) → call_refusal h e ≡ Some r → CameTo (making_event e h) next (Refused r)
 came_refused h e next r is = subst (λ act. CameTo act next (Refused r)) (sym (ap (λ o. unless o (act_of_event h e (effect_of h e))) is)) refl
 
--- ---- with something else returned
+-- ---- other results
 
 pub came_with : {A B : Type 0} (f : A → B) (act : Act A) (next : Option Event) (came : PastOutcome A) → CameTo act next came → CameTo (with_answer f act) next (came_as f came)
 came_with f (refuses r) next came is = ap (came_as f) is
@@ -99,7 +99,7 @@ came_with f (makes e a) next (Returned b) is = absurd is
 came_with f (makes e a) next (Refused r) is = absurd is
 came_with f (makes e a) next Otherwise is = is
 
--- a call whose act is that of an event, with something else returned
+-- a call with the act of an event, and a function of its result
 pub came_to : {A B : Type 0} (f : A → B) (act : Act A) (whole : Act B) (next : Option Event) (came : PastOutcome A) (result : PastOutcome B) → whole ≡ with_answer f act → result ≡ came_as f came → CameTo act next came → CameTo whole next result
 came_to f act whole next came result act_is is c =
     subst (λ r. CameTo whole next r) (sym is) (subst (λ a. CameTo a next (came_as f came)) (sym act_is) (came_with f act next came c))

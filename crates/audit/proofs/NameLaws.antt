@@ -1,4 +1,4 @@
--- Names of sessions, and lines that aren't too long.
+-- Names of sessions, and lines within the limit.
 use Rattle.std.proofs.Common.{◌≡◌, ◌≤◌, ℕ, zero, suc, true, false, ◌&&◌, List, [], ◌∷◌, length, refl, ◌∙◌, arith}
 use Rattle.std.specs.Prelude.{nat_le, ◌||◌}
 use Rattle.std.specs.List.{list_all, list_any}

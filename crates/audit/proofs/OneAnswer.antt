@@ -33,7 +33,7 @@ use Rattle.audit.proofs.TellerLaws.{Laws, texts_tell}
 not_below : (m n : ℕ) → (m < n → ⊥) → n ≤ m
 not_below m n h = elim (nat_le n m) as (λ t. nat_le n m ≡ t → n ≤ m) [ true ↦ λ e. leb-true n m e | false ↦ λ e. absurd (h (leb-false n m e)) ] refl
 
--- ---- the first replies of what is explained
+-- ---- the first replies of explained ones
 
 first_explained : (all : History) (at : ℕ) (p : Places) (name : List ℕ) (es : List Exchange) (answers : List Came) (n : ℕ) → IsExplained all at p name es answers → IsExplained all at p name (take n es) (take n answers)
 first_explained all at p name es answers zero x = record { answered = tt; replies = refl }
@@ -52,7 +52,7 @@ fewer all start name es n h = record { answers = take n h.answers; explained = f
 fewer_of : (all : History) (start : ℕ) (name : List ℕ) (es : List Exchange) (m n : ℕ) → m ≤ n → HasExplanation all start name (take n es) → HasExplanation all start name (take m es)
 fewer_of all start name es m n le h = subst (λ xs. HasExplanation all start name xs) (take-take m n es le) (fewer all start name (take n es) m h)
 
--- ---- the first that isn't explained
+-- ---- the first reply that isn't explained
 
 all_explained : (all : History) (start : ℕ) (talks : List SessionTranscript) (i j : ℕ) (answers : List (List Came)) → FirstUnexplained all start talks i j → AreExplained all start talks answers → ⊥
 all_explained all start [] i j answers f x = f
@@ -108,7 +108,7 @@ all_names_once laws all allowed start low (talk ∷ talks) (a ∷ cs) (b ∷ bs)
     let rest = all_names_once laws all allowed start low talks cs bs parts.1 x.1 y.1 in
     λ i. one i ++ rest i
 
--- ---- the least position that is lost
+-- ---- the lowest position that is lost
 
 lost_once : (numbers : List ℕ) (start end p q : ℕ) → IsLost numbers start end p → IsLost numbers start end q → p ≡ q
 lost_once numbers start end p q l k =
@@ -133,7 +133,7 @@ module _ (laws : Laws) (all : History) (allowed : all_allowed all ≡ true) (t :
       let same = numbers_once k.answers l.answers within k.explained l.explained in
       lost_once (named_by_all l.answers) t.start (position all) p q l.lost (subst (λ ns. IsLost ns t.start (position all) q) same k.lost)
 
-  -- what is answered where all is explained
+  -- the answer if all is explained
   pub explained_yes : (audit : Audit) → first_policy t.sessions ≡ None → Explained all t → Judges all t audit → (audit ≡ Yes (reply_count t)) ⊎ (audit ≡ NoMemory)
   explained_yes BadText none x j = absurd j
   explained_yes (Early p) none x j = absurd (j.0 x.within)
@@ -143,7 +143,7 @@ module _ (laws : Laws) (all : History) (allowed : all_allowed all ≡ true) (t :
   explained_yes (Yes n) none x j = inl (ap Yes j.holds.1)
   explained_yes NoMemory none x j = inr refl
 
-  -- a refusal to answer apart, two answers for it are one
+  -- two answers for a transcript are equal, or one of them is NoMemory
   pub one_answer : (a b : Audit) → Judges all t a → Judges all t b → (a ≡ b) ⊎ (a ≡ NoMemory) ⊎ (b ≡ NoMemory)
   one_answer BadText b j k = absurd j
   one_answer NoMemory b j k = inr (inl refl)
@@ -190,7 +190,7 @@ module _ (laws : Laws) (all : History) (allowed : all_allowed all ≡ true) (t :
 
 -- ---- one answer for a text
 
--- a text is of no transcript, or there was no memory, or it is read as one for which this is answered
+-- a text isn't a transcript, or memory ran out, or it is read as a transcript with this answer
 answered_as : (all : History) (text : List ℕ) (a : Audit) → Answers all text a → ((a ≡ BadText) × ((t : Transcript) → IsReading text t → ⊥)) ⊎ (a ≡ NoMemory) ⊎ ReadsAs all text a
 answered_as all text BadText x = inl (refl, x)
 answered_as all text NoMemory x = inr (inl refl)

@@ -1,4 +1,4 @@
--- The first line that asks for policies.
+-- The first line that begins as a statement on policies.
 use Rattle.std.proofs.Common.{◌≡◌, ◌<◌, ℕ, zero, suc, ◌+◌, Bool, true, false, cond, List, [], ◌∷◌, length, get_or, Some, None, refl, sym, ap, ◌∙◌, arith}
 use Rattle.std.specs.Prelude.{nat_lt, not, position}
 use Rattle.std.specs.List.{position_or_len}
@@ -22,7 +22,7 @@ module _ {X : Type 0} (p : X → Bool) where
       ap (λ t. cond (not t) (1 + position_or_len p xs) 0) (none 0 y (omega arith))
       ∙ (let later = no_place xs (λ k d l. none (suc k) d (omega arith)) in omega (arith, later))
 
-  -- the first that passes stands where none before it does
+  -- an element that passes is the first if none before it passes
   pub found_at : (xs : List X) (i : ℕ) (x : X) → ((k : ℕ) (d : X) → k < i → p (get_or xs k d) ≡ false) → i < length xs → x ≡ get_or xs i x → p x ≡ true → position p xs ≡ Some i
   found_at xs i x none within at passes =
       let is = place_found xs i x none within at passes in

@@ -1,4 +1,4 @@
--- The texts of explained replies name the events that their answers name, each once.
+-- The texts of explained replies name the events that their results name, each once.
 use Rattle.std.proofs.Common.{◌≡◌, ◌≤◌, ◌<◌, ◌^◌, ℕ, zero, suc, ◌+◌, true, false, List, [], ◌∷◌, ◌++◌, map, length, refl, sym, ap, ◌∙◌, subst, arith}
 use Rattle.std.specs.Prelude.{IsPermutation, All, ◌-◌, sum_by}
 use Rattle.std.specs.List.{AllByRecursion, flat_map, list_all, list_any}
@@ -36,7 +36,7 @@ use Rattle.audit.proofs.NameLaws.{names_of_one_line}
 abbrev Fit : List ℕ → Type 0
 Fit numbers = AllByRecursion (λ n. n < 2 ^ 64) numbers
 
--- of one session
+-- the numbers of one session
 session_read : (name : List ℕ) → list_any is_line_end name ≡ false → (es : List Exchange) (answers : List Came) → texts_of name answers ≡ map (λ e. e.reply) es → Fit (named_by answers) → flat_map (λ e. numbers_in name e.reply) es ≡ named_by answers
 session_read name one_line [] [] same fit = refl
 session_read name one_line [] (a ∷ answers) same fit = absurd cc
@@ -49,7 +49,7 @@ session_read name one_line (e ∷ es) (a ∷ answers) same fit =
     let rest = session_read name one_line es answers tail parts.1 in
     λ i. here i ++ rest i
 
--- of all sessions
+-- the numbers of all sessions
 all_read : (all : History) (start : ℕ) (talks : List SessionTranscript) (answers : List (List Came)) → list_all is_sound_talk talks ≡ true → AreExplained all start talks answers → Fit (named_by_all answers) → flat_map numbers_of talks ≡ named_by_all answers
 all_read all start [] [] sound x fit = refl
 all_read all start [] (a ∷ answers) sound x fit = absurd x
@@ -72,7 +72,7 @@ positions_low p zero end le k d within = absurd (omega (arith, within))
 positions_low p (suc n) end le zero d within = omega (arith, le)
 positions_low p (suc n) end le (suc k) d within = positions_low (p + 1) n end (omega (arith, le)) k d (omega (arith, within))
 
--- numbers that are the positions up to the last one at most have 64 bits
+-- numbers that are positions up to the last possible one have 64 bits
 positions_fit : (numbers : List ℕ) (start end : ℕ) → start ≤ end → end ≤ last_position → IsPermutation numbers (positions_between start end) → Fit numbers
 positions_fit numbers start end order few moved =
     let positions : List ℕ = positions_between start end in
@@ -80,7 +80,7 @@ positions_fit numbers start end order few moved =
     let named : All (λ q. q ≤ end) numbers = All-permutation (λ q. q ≤ end) positions numbers (IsPermutation-sym numbers positions moved) low in
     by_items (λ n. n < 2 ^ 64) numbers (λ k d within. let le = named k d within in omega (arith, le, few))
 
--- how many there are
+-- the number of elements
 ones : (ns : List ℕ) → sum_by (λ n. 1) ns ≡ length ns
 ones [] = refl
 ones (n ∷ ns) = let more = ones ns in let first = sum_by-cons (λ (k : ℕ). 1) n ns in omega (arith, more, first)
@@ -104,14 +104,14 @@ names_each_once all allowed t sound x =
     let read : numbers_read t ≡ named_by_all x.answers = all_read all t.start t.sessions x.answers (and_parts (list_all is_sound_talk t.sessions) _ sound).0 x.explained fit in
     subst (λ ns. IsPermutation ns (positions_between t.start (position all))) (sym read) x.numbers
 
--- what is answered for a text is answered for its transcript
+-- the answer for a text is the answer for its transcript
 judged : (all : History) (text : List ℕ) (t : Transcript) (a : Audit) → ReadsAsOne → IsReading text t → ReadsAs all text a → Judges all t a
 judged all text t a once reading r = subst (λ u. Judges all u a) (once text r.transcript t r.reading reading) r.judges
 
 pub yes_names : ReadsAsOne → YesNamesEachOnce
 yes_names once all text t n allowed reading x = names_each_once all allowed t reading.sound (judged all text t (Yes n) once reading x).holds.0
 
--- whatever follows from YES and doesn't hold, that is rejected
+-- if P follows from YES and is false, the answer is No or Lost
 rejected : (all : History) (text : List ℕ) (t : Transcript) (P : Type 0) (a : Audit) → ReadsAsOne → IsReading text t → MayBeJudged all t (P → ⊥) → ((n : ℕ) → Answers all text (Yes n) → P) → Answers all text a → IsRejected a
 rejected all text t P BadText once reading may follows x = absurd (x t reading)
 rejected all text t P (Early p) once reading may follows x = absurd ((judged all text t (Early p) once reading x).0 may.within)

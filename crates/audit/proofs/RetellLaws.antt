@@ -46,7 +46,7 @@ events_lie all at last (x ∷ es) e =
     let on = rest.0 in
     (omega (arith, up, on), All-cons (λ n. (at < n) × (n ≤ last)) x.0 (numbers es) (up, on) (lie_wider x.0 last at last (numbers es) (omega (arith, up)) (omega arith) rest.1))
 
--- the numbers that a replayed line names lie after the position where its replay began
+-- the numbers that a replayed line names are after the position at which its replay began
 told_lie : (all : History) (at : ℕ) (p : Places) (line : SessionLine) (looks : List ℕ) (name : List ℕ) (q : Places) (told : ReplayedLine) → base_position all ≤ at → IsToldLine all at (reply_to p line.text line.skip) looks name q told → LieBetween at told.last told.reply.events
 told_lie all at p line looks name q told low l =
     let end : Turn Places = record { places = q; said = l.said; reads = l.read } in
@@ -112,7 +112,7 @@ module _ {T J : Type 0} (shown : Shown T J) (all : History) (start : ℕ) (name 
       subst (λ es. Leads all name start no_places es new.at (places_in new.session) new.named.items) more
       (subst (λ n. Leads all n start no_places (take i exchanges ++ e ∷ []) new.at (places_in new.session) new.named.items) at.named (r start no_places (take i exchanges) own))
 
-  -- and moved its position on
+  -- it moved the session's position on
   pub at_next : (old new : ReplayedSession T J) → IsAt shown all start name old → (IsAt shown all start old.session.name old → IsAt shown all start old.session.name new) → IsAt shown all start name new
   at_next old new at goes =
       let own = goes (record { named = refl; holds = at.holds; low = at.low; high = at.high; lie = at.lie }) in

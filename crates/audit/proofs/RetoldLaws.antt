@@ -21,7 +21,7 @@ use Rattle.audit.specs.ReplayedReplies.{Leads, Names, StopsAt}
 abbrev pub GivesHere : History → ℕ → Places → Exchange → Came → Type 0
 GivesHere all at p e a = Gives all None at [] (reply_to p (line_of e).text (line_of e).skip) a.looks a.last a.given a.end
 
--- the answer to the first line, and those to the lines after it
+-- the result of the first line, and those of the later lines
 pub record Uncons (all : History) (at : ℕ) (p : Places) (name : List ℕ) (e : Exchange) (es : List Exchange)
     (answers : List Came) : Type 0 where
   pub first : Came
@@ -52,7 +52,7 @@ cons all at p name e es a answers gives text x = record {
   replies = λ i. text i ∷ x.replies i;
 }
 
--- ---- whatever replies follow
+-- ---- further replies
 
 pub leads_none : (all : History) (name : List ℕ) (at : ℕ) (p : Places) → Leads all name at p [] at p []
 leads_none all name at p = record {

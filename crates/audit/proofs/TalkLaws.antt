@@ -1,4 +1,4 @@
--- Sessions that are judged one after the other.
+-- Sessions that are judged in order.
 use Rattle.std.proofs.Common.{◌≡◌, ℕ, suc, ◌+◌, List, [], ◌∷◌, ◌++◌, refl, sym, subst, append_assoc, arith}
 use Rattle.std.proofs.lemmas.List.{append-nil}
 use Rattle.ts_model.specs.History.{History}
@@ -29,13 +29,13 @@ passes_more all start talks i talk left ns ms p one = record {
       }));
 }
 
--- the next one isn't
+-- the next session isn't explained
 pub stopped_here : (all : History) (start : ℕ) (talks : List SessionTranscript) (i : ℕ) (talk : SessionTranscript) (left : List SessionTranscript) (ns : List ℕ) (j : ℕ) → Passes all start talks i (talk ∷ left) ns → StopsAt all start talk j → FirstUnexplained all start talks i j
 stopped_here all start talks i talk left ns j p s =
     let same : i + 0 ≡ i = omega arith in
     subst (λ n. FirstUnexplained all start talks n j) same (p.stops 0 j (s.before, s.fails))
 
--- all are
+-- all sessions are explained
 pub all_named : (all : History) (start : ℕ) (talks : List SessionTranscript) (i : ℕ) (ns : List ℕ) → Passes all start talks i [] ns → NamesAll all start talks ns
 all_named all start talks i ns p =
     subst (λ ks. NamesAll all start talks ks) (append-nil ns)

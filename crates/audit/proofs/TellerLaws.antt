@@ -24,7 +24,7 @@ use Rattle.audit.specs.Lines.{line_of}
 use Rattle.audit.specs.ReplayedReplies.{Leads, Names, Retells}
 use Rattle.audit.proofs.RetoldLaws.{TextsTellReplies, leads_more, leads_one, uncons}
 
--- the laws that these proofs rely on
+-- the laws on which these proofs rely
 pub record Laws : Type 0 where
   pub given : ToldIsGiven (Turn Places)
   pub once : ToldOnce (Turn Places)
@@ -35,7 +35,7 @@ pub record Laws : Type 0 where
 abbrev telling : ℕ → List (ℕ × Event) → Turn Places → Told (Turn Places)
 telling last given end = record { last = last; given = given; end = end }
 
--- the line of an exchange, for a session that had these places
+-- the line of an exchange, for a session with this state
 abbrev pub procedure_of : Places → Exchange → Procedure (Turn Places)
 procedure_of p e = reply_to p (line_of e).text (line_of e).skip
 
@@ -44,11 +44,11 @@ few_enough n [] few all = tt
 few_enough n (p ∷ ps) few all = let le = all.0 in (omega (arith, le, few), few_enough n ps few all.1)
 
 module _ (laws : Laws) (all : History) (allowed : all_allowed all ≡ true) (name : List ℕ) (one_line : list_any is_line_end name ≡ false) where
-  -- the positions that are read from the text of a reply are those that the reply prints
+  -- the positions read from the text of a reply are those that the reply prints
   looks_read : (at : ℕ) (procedure : Procedure (Turn Places)) (last : ℕ) (given : List (ℕ × Event)) (y : Turn Places) → IsToldByReply all at procedure last given y → looks_in name (text_of name y.said) ≡ looks_told y.said
   looks_read at procedure last given y t = laws.texts name y.said one_line (few_enough (position all) (looks_told y.said) (allowed_fits all allowed) t.within)
 
-  -- the outcome of a line by the positions that are read from its text
+  -- the outcome of a line by the positions read from its text
   read_told : (at : ℕ) (procedure : Procedure (Turn Places)) (last : ℕ) (given : List (ℕ × Event)) (y : Turn Places) (reply : List ℕ) (t : IsToldByReply all at procedure last given y) → text_of name y.said ≡ reply → Tells all at [] procedure (looks_in name reply) (Some (record { last = last; given = given; end = t.end }))
   read_told at procedure last given y reply t text =
       subst (λ ls. Tells all at [] procedure ls (Some (record { last = last; given = given; end = t.end })))
@@ -69,7 +69,7 @@ module _ (laws : Laws) (all : History) (allowed : all_allowed all ≡ true) (nam
 
   -- ---- one reply
 
-  -- a line had this outcome, whose text is the reply
+  -- a line had this outcome, and its text is the reply
   pub retold : (e : Exchange) (at : ℕ) (p : Places) (old : List ℕ) (last : ℕ) (given : List (ℕ × Event)) (said : List Said) (read : ℕ) (q : Places) (looks new : List ℕ) → base_position all ≤ at → Tells all at [] (procedure_of p e) looks (Some (record { last = last; given = given; end = record { places = q; said = said; reads = read } })) → text_of name said ≡ e.reply → new ≡ old ++ made_in said → Retells all name e at p old true last q new
   retold e at p old last given said read q looks new low tells text new_is from first before l =
       let told : Told (Turn Places) = record { last = last; given = given; end = record { places = q; said = said; reads = read } } in
@@ -86,7 +86,7 @@ module _ (laws : Laws) (all : History) (allowed : all_allowed all ≡ true) (nam
       let by_text = read_told at (procedure_of p e) u.first.last u.first.given u.first.end e.reply t u.text in
       none-some _ (laws.once all at [] (procedure_of p e) (looks_in name e.reply) _ _ (subst (λ ls. Tells all at [] (procedure_of p e) ls None) read tells) by_text)
 
-  -- nor if its text is another
+  -- the same if its text differs
   pub otherwise : (e : Exchange) (at : ℕ) (p : Places) (looks : List ℕ) (last : ℕ) (given : List (ℕ × Event)) (said : List Said) (read : ℕ) (q : Places) → base_position all ≤ at → looks ≡ looks_in name e.reply → Tells all at [] (procedure_of p e) looks (Some (record { last = last; given = given; end = record { places = q; said = said; reads = read } })) → (text_of name said ≡ e.reply → ⊥) → (found : List ℕ) → Names all at p name (e ∷ []) found → ⊥
   otherwise e at p looks last given said read q low is tells other found n =
       let u = uncons all at p name e [] n.answers n.explained in

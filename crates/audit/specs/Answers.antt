@@ -1,4 +1,4 @@
--- What an audit answers, exactly where.
+-- The answers of an audit, and exactly when each applies.
 use Rattle.std.specs.Prelude.{◌≡◌, ◌≤◌, ◌<◌, ℕ, zero, suc, List, [], ◌∷◌, length, sum_by, take, Some, None, ⊤}
 use Rattle.ts_model.specs.History.{History, position}
 use Rattle.turn_lock.specs.Positions.{times}
@@ -17,8 +17,8 @@ pub record HasExplanation (all : History) (start : ℕ) (name : List ℕ) (excha
   pub answers : List Came
   pub explained : IsExplained all start no_places name exchanges answers
 
--- the first reply that isn't explained, in the order of the text, is number j of session i: the sessions before are
--- explained, and of this one the first j replies are, and one more aren't
+-- the first reply that isn't explained, in the order of the text, is number j of session i. The sessions before are
+-- explained. Of this one the first j replies are explained, and the first j + 1 aren't
 abbrev pub FirstUnexplained : History → ℕ → List SessionTranscript → ℕ → ℕ → Type 0
 FirstUnexplained all start [] i j = ⊥
 FirstUnexplained all start (talk ∷ talks) zero j =
@@ -27,30 +27,30 @@ FirstUnexplained all start (talk ∷ talks) zero j =
 FirstUnexplained all start (talk ∷ talks) (suc i) j =
     HasExplanation all start talk.name talk.replies × FirstUnexplained all start talks i j
 
--- the least position above one and up to another that isn't named once
+-- the lowest position above one and up to another that isn't named exactly once
 pub record IsLost (numbers : List ℕ) (start end p : ℕ) : Type 0 where
   pub above : start < p
   pub within : p ≤ end
   pub lost : times p numbers ≡ 1 → ⊥
   pub least : (q : ℕ) → start < q → q < p → times q numbers ≡ 1
 
--- all replies are explained, and this is the least position above the start that they don't name once
+-- all replies are explained, and this is the lowest position above the start that they don't name exactly once
 pub record HasLost (all : History) (t : Transcript) (p : ℕ) : Type 0 where
   pub answers : List (List Came)
   pub explained : AreExplained all t.start t.sessions answers
   pub lost : IsLost (named_by_all answers) t.start (position all) p
 
--- how many replies a transcript has
+-- the number of replies of a transcript
 abbrev pub reply_count : Transcript → ℕ
 reply_count t = sum_by (λ talk. length talk.replies) t.sessions
 
--- its start is a position of the history, no line is a statement on policies, and this holds
+-- its start is a position of the history, no line is a statement on policies, and P is true
 pub record MayBeJudged (all : History) (t : Transcript) (P : Type 0) : Type 0 where
   pub within : IsWithin all t.start
   pub no_policy : first_policy t.sessions ≡ None
   pub holds : P
 
--- what is answered for a transcript. The rows go in this order: each holds where none before it does
+-- the answer for a transcript
 abbrev pub Judges : History → Transcript → Audit → Type 0
 Judges all t BadText = ⊥
 Judges all t (Early p) = (IsWithin all t.start → ⊥) × (p ≡ position all)
@@ -60,13 +60,13 @@ Judges all t (Lost p) = MayBeJudged all t (HasLost all t p)
 Judges all t (Yes n) = MayBeJudged all t (Explained all t × (n ≡ reply_count t))
 Judges all t NoMemory = ⊤
 
--- a text is read as a transcript for which this is answered
+-- a text is read as a transcript with this answer
 pub record ReadsAs (all : History) (text : List ℕ) (audit : Audit) : Type 0 where
   pub transcript : Transcript
   pub reading : IsReading text transcript
   pub judges : Judges all transcript audit
 
--- what is answered for a text: where it is read as a transcript, that of the transcript
+-- the answer for a text: that of its transcript, if it is read as one
 abbrev pub Answers : History → List ℕ → Audit → Type 0
 Answers all text BadText = (t : Transcript) → IsReading text t → ⊥
 Answers all text NoMemory = ⊤

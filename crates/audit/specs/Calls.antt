@@ -4,7 +4,7 @@ use Rattle.ts_model.specs.declared.outcomes.Refusal.{Refusal}
 use Rattle.audit_past.specs.declared.history_view.PastOutcome.{PastOutcome}
 use Rattle.audit_past.specs.declared.history_view.PastOutcome.TheVariants.{Made, Returned, Refused, Otherwise}
 
--- a refusal that has a number
+-- a refusal whose code isn't 0
 abbrev pub numbered_only : Option Refusal → Option Refusal
 numbered_only None = None
 numbered_only (Some r) = cond (r.code == 0) None (Some r)

@@ -1,4 +1,4 @@
--- When one history explains what the sessions of a transcript were replied.
+-- When one history explains the replies in a transcript.
 use Rattle.std.specs.Prelude.{◌≡◌, ◌≤◌, ℕ, List, [], ◌∷◌, ◌++◌, map, None, IsPermutation}
 use Rattle.ts_model.specs.History.{History, base_position, position}
 use Rattle.turn_lock.specs.Positions.{positions_between}
@@ -13,7 +13,7 @@ use Rattle.transcript.specs.declared.transcripts.SessionTranscript.{SessionTrans
 use Rattle.transcript.specs.declared.transcripts.Transcript.{Transcript}
 use Rattle.audit.specs.Lines.{lines_of}
 
--- the outcome of a line: its read positions, its events, its reply, and the places of its session after it
+-- the outcome of a line: its read positions, its events, its reply, and the state of its session after it
 abbrev pub Came : Type 0
 Came = LineAnswer (Turn Places)
 
@@ -30,10 +30,10 @@ abbrev pub named_by_all : List (List Came) → List ℕ
 named_by_all [] = []
 named_by_all (answers ∷ others) = named_by answers ++ named_by_all others
 
--- over a whole history whose store never stopped, the lines of the session with a name get these answers, and their
--- texts are the replies. Before its first line the session had last read at `at`, and it had these places. From there
--- on its read positions never fall, and each of its events is that of the history with its number. A query in a write
--- block reads where all operations of its queue are on hypertables
+-- over a whole history whose store never stopped, the lines of the session with a name have these results, and their
+-- texts are the replies. Before its first line the session had last read at `at`, and it had this state. From there on
+-- its read positions never fall, and each of its events is that of the history with its number. A query in a write
+-- block reads at a position at which all operations of its queue are on hypertables
 pub record IsExplained (all : History) (at : ℕ) (p : Places) (name : List ℕ) (exchanges : List Exchange)
     (answers : List Came) : Type 0 where
   pub answered : Answered reply_to places_after all None at p (lines_of exchanges) answers
@@ -51,8 +51,8 @@ AreExplained all start (talk ∷ talks) (answers ∷ others) =
 abbrev pub IsWithin : History → ℕ → Type 0
 IsWithin all start = (base_position all ≤ start) × (start ≤ position all)
 
--- a history explains a transcript: it explains the replies of each session from the start on, which is a position of
--- the history; and the numbers that all replies name are the positions above it, each once
+-- a history explains a transcript. The start is a position of the history, and the history explains the replies of each
+-- session from there on. The numbers that all replies name are the positions above the start, each once
 pub record Explained (all : History) (t : Transcript) : Type 0 where
   pub within : IsWithin all t.start
   pub answers : List (List Came)

@@ -17,7 +17,7 @@ pub record AreNamedBy (all : History) (start : ℕ) (talks : List SessionTranscr
   pub names : NamesAll all start talks numbers
   pub lie : LieBetween start (position all) numbers
 
--- they are explained and name these numbers, or this is the first that isn't explained
+-- the replies are explained and name these numbers, or this is the first that isn't explained
 abbrev pub JudgesTalks : History → ℕ → List SessionTranscript → JudgedSessions → Type 0
 JudgesTalks all start talks (of_talks.Explained numbers) = AreNamedBy all start talks numbers
 JudgesTalks all start talks (of_talks.Unexplained place) = FirstUnexplained all start talks place.session place.reply

@@ -11,21 +11,21 @@ use Rattle.audit.specs.Texts.{NamesEachOnce, numbers_read}
 use Rattle.audit.specs.declared.answers.Audit.{Audit}
 use Rattle.audit.specs.declared.answers.Audit.TheVariants.{Yes, No, Lost, NoMemory}
 
--- over one history a text has one answer, unless memory runs out
+-- an audit of one text over one history has one answer, unless memory runs out
 abbrev pub TextsHaveOneAnswer : Type 0
 TextsHaveOneAnswer =
     (all : History) (text : List ℕ) (audit other : Audit) → all_allowed all ≡ true → Answers all text audit
     → Answers all text other → (audit ≡ other) ⊎ (audit ≡ NoMemory) ⊎ (other ≡ NoMemory)
 
--- a transcript that a history explains, of which no line is a statement on policies, is answered YES with the number of
--- its replies, unless memory runs out
+-- the answer is YES with the number of replies for an explained transcript without a statement on policies, unless
+-- memory runs out
 abbrev pub ExplainedIsYes : Type 0
 ExplainedIsYes =
     (all : History) (text : List ℕ) (t : Transcript) (audit : Audit) → all_allowed all ≡ true → IsReading text t
     → first_policy t.sessions ≡ None → Explained all t → Answers all text audit
     → (audit ≡ Yes (reply_count t)) ⊎ (audit ≡ NoMemory)
 
--- the replies of a transcript that is answered YES name, by their texts, each event above its start once, and no other
+-- the replies of a transcript with the answer YES name, by their texts, each event above its start once, and no other
 abbrev pub YesNamesEachOnce : Type 0
 YesNamesEachOnce =
     (all : History) (text : List ℕ) (t : Transcript) (n : ℕ) → all_allowed all ≡ true → IsReading text t
@@ -38,14 +38,14 @@ IsRejected (Lost p) = ⊤
 IsRejected NoMemory = ⊤
 IsRejected other = ⊥
 
--- a transcript that may be judged, whose replies leave an event out, name one twice or name another, is answered No or
--- Lost, unless memory runs out
+-- the answer is No or Lost if the replies of a transcript that may be judged leave out an event, name one twice or
+-- another. Memory may also run out
 abbrev pub OthersAreRejected : Type 0
 OthersAreRejected =
     (all : History) (text : List ℕ) (t : Transcript) (audit : Audit) → all_allowed all ≡ true → IsReading text t
     → MayBeJudged all t (NamesEachOnce all t → ⊥) → Answers all text audit → IsRejected audit
 
--- so is one whose replies name more events than the history has above its start, or fewer
+-- the same if the replies name more events than the history has above the start, or fewer
 abbrev pub MoreOrFewerAreRejected : Type 0
 MoreOrFewerAreRejected =
     (all : History) (text : List ℕ) (t : Transcript) (audit : Audit) → all_allowed all ≡ true → IsReading text t

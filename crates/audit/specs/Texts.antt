@@ -7,11 +7,11 @@ use Rattle.audit_looks.specs.Replies.{numbers_in}
 use Rattle.transcript.specs.declared.transcripts.SessionTranscript.{SessionTranscript}
 use Rattle.transcript.specs.declared.transcripts.Transcript.{Transcript}
 
--- those that the replies of one session name, in order
+-- the numbers that the replies of one session name, in order
 abbrev pub numbers_of : SessionTranscript → List ℕ
 numbers_of talk = flat_map (λ exchange. numbers_in talk.name exchange.reply) talk.replies
 
--- and those of all sessions
+-- the numbers that the replies of all sessions name
 abbrev pub numbers_read : Transcript → List ℕ
 numbers_read t = flat_map numbers_of t.sessions
 

@@ -22,10 +22,10 @@ use transcript::{ReadTranscript, SessionTranscript, Transcript, read_transcript}
 use ts_model::{Event, Image};
 use ts_schema::{NoMemory, Steps};
 
-/// Answers whether a history explains the transcript in `text`, and if not, where it fails. The history begins
-/// with an image, if one is given, and continues with these events. Each event is allowed after those before it.
-/// The call never frees the transcript and the states of the history: an audit is the last thing that a program
-/// does, and freeing them would take a sixth of its time.
+/// Answers whether a history explains the transcript in `text`, and if not, where it fails. The history begins with an
+/// image, if one is given, and continues with these events. Each event is allowed after those before it. The call never
+/// frees the transcript and the states of the history. An audit is the last thing that a program does, and freeing them
+/// would take a sixth of its time.
 pub fn audit<R: Threads + Sync>(
     rt: &R,
     alloc: Global,
@@ -117,7 +117,7 @@ fn judge_replies<R: Threads + Sync>(
     }
 }
 
-/// How many replies there are.
+/// The number of replies.
 fn reply_count(talks: &[SessionTranscript]) -> Result<u64, NoMemory>
     ensures count { IfOk result (λ count. count ≡ sum_by (λ talk. length talk.replies) talks.now) }
 {

@@ -17,8 +17,8 @@ use transcript::SessionTranscript;
 use ts_model::Shown;
 use ts_schema::{NoMemory, Seq, Steps};
 
-/// How many positions one session is judged for before the next one follows. The states of nearby positions lie
-/// close together in memory, and share most of their parts.
+/// How many positions one session is judged for before the next one follows. The states of nearby positions are close
+/// together in memory, and share most of their parts.
 const STRIDE: u64 = 64;
 
 /// The verdict on the replies of all sessions.

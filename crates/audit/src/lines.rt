@@ -16,16 +16,16 @@ use ts_schema::NoMemory;
 pub(crate) struct Line<'a> {
     /// The bytes before the comment.
     pub text: &'a [u8],
-    /// How many bytes stand before the statement.
+    /// How many bytes precede the statement.
     pub skip: u32,
 }
 
-/// Where a line stands in a transcript.
+/// The place of a line in a transcript.
 #[derive(Clone, Copy, Debug, PartialEq, Eq)]
 pub struct Place {
-    /// The place of its session, from 0.
+    /// The index of its session, from 0.
     pub session: u64,
-    /// Its place among the lines of the session, from 0.
+    /// Its index among the lines of the session, from 0.
     pub reply: u64,
 }
 
@@ -49,7 +49,7 @@ pub(crate) fn line_of(exchange: &Exchange) -> Line<'_>
     }
 }
 
-/// Whether the line of an exchange begins as a statement on policies does.
+/// Whether the line of an exchange begins as a statement on policies.
 fn asks_policies(alloc: Global, exchange: &Exchange) -> Result<bool, NoMemory>
     requires short { length exchange.now.line ≤ longest_line }
     ensures asks { IfOk result (λ asks. asks ≡ asks_policies (line_said exchange.now)) }
@@ -63,7 +63,7 @@ fn asks_policies(alloc: Global, exchange: &Exchange) -> Result<bool, NoMemory>
     }
 }
 
-/// The place of the first line of a session that begins as a statement on policies does.
+/// The index of the first line of a session that begins as a statement on policies.
 fn policy_among(alloc: Global, exchanges: &[Exchange]) -> Result<Option<u64>, NoMemory>
     requires short { AreShort exchanges.now }
     ensures first { IfOk result (λ first. first ≡ policy_among exchanges.now) }
@@ -76,7 +76,7 @@ fn policy_among(alloc: Global, exchanges: &[Exchange]) -> Result<Option<u64>, No
     Ok(None)
 }
 
-/// The first line of all sessions that begins as a statement on policies does.
+/// The first line of all sessions that begins as a statement on policies.
 pub(crate) fn first_policy(
     alloc: Global,
     talks: &[SessionTranscript],

@@ -7,8 +7,8 @@ ghost use Rattle.audit.specs.ReplayedReplies.{LieBetween};
 
 use ts_schema::Seq;
 
-/// The lowest position after `start` and up to `end` that isn't among these numbers exactly once. All of the
-/// numbers lie in that range.
+/// The lowest position after `start` and up to `end` that isn't among these numbers exactly once. All of the numbers
+/// are in that range.
 pub(crate) fn first_lost(numbers: Seq<u64>, start: u64, end: u64) -> Option<u64>
     requires order { start ≤ end }
     requires lie { LieBetween start end numbers }

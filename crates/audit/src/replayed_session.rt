@@ -20,10 +20,10 @@ use ts_model::Shown;
 use ts_schema::{Name, NoMemory, Steps};
 use ts_sessions::Session;
 
-/// The most bytes of text whose operations a write block may queue.
+/// The greatest number of bytes that the texts of a write block's queue have.
 const MOST_QUEUED: u64 = 67_108_864;
 
-/// A session whose replies are being judged, as it is after the replies so far.
+/// A session whose replies are being judged, after the replies so far.
 #[derive(Drop)]
 pub(crate) struct ReplayedSession<T: Shown>
 where

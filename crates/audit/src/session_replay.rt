@@ -20,7 +20,7 @@ pub(crate) struct SessionReplay<'a, T: Shown>
 where
     T::Job: Drop,
 {
-    /// What the session said.
+    /// The lines and replies of the session.
     pub talk: &'a SessionTranscript,
     /// The session after the explained replies. After a reply that isn't explained it may be in any state.
     pub teller: ReplayedSession<T>,

@@ -1,4 +1,4 @@
--- The replies to lines of which none is on policies are those of a session without any.
+-- The replies to lines without a statement on policies are those of a session without policies.
 use Rattle.std.proofs.Common.{◌≡◌, ℕ, ◌≤◌, false, cond, List, [], ◌∷◌, ◌++◌, map, None, refl, sym, ap, ◌∙◌, subst}
 use Rattle.std.specs.List.{AllByRecursion}
 use Rattle.ts_model.specs.History.{History, position}
@@ -29,22 +29,22 @@ use Rattle.audit_laws.proofs.ShiftLaws.{GivenBefore, given_before}
 abbrev pub policy_replies : PolicyPlaces Places → List ℕ → ℕ → Procedure (Turn (PolicyPlaces Places))
 policy_replies = policy_does reply_to (λ p. p.block)
 
--- what a line of a session with policies came to
+-- the result of a line of a session with policies
 abbrev pub Heard : Type 0
 Heard = LineAnswer (Turn (PolicyPlaces Places))
 
--- the same was said
+-- the same lines are in the replies
 abbrev pub SaidAlike : List Heard → List Came → Type 0
 SaidAlike [] [] = Unit {0}
 SaidAlike [] (a ∷ answers) = ⊥
 SaidAlike (x ∷ xs) [] = ⊥
 SaidAlike (x ∷ xs) (a ∷ answers) = (x.end.said ≡ a.end.said) × SaidAlike xs answers
 
--- a line isn't on policies
+-- a line isn't a statement on policies
 abbrev pub IsPlain : SessionLine → Type 0
 IsPlain line = asks_policies line ≡ false
 
--- lines are answered without policies from a position on, and the same is said
+-- lines are answered without policies from a position on, with the same replies
 pub record Plainly (all : History) (from : ℕ) (p : Places) (lines : List SessionLine) (xs : List Heard) : Type 0 where
   pub answers : List Came
   pub answered : Answered reply_to places_after all None from p lines answers
@@ -71,9 +71,9 @@ module _ (all : History) where
       let first : Came = record { looks = x.looks; last = b.end; given = x.given; end = g.end } in
       record { answers = first ∷ rest.answers; answered = (b.gives, rest.answered); alike = (ap (λ y. y.said) g.is, rest.alike) }
 
--- ---- what is made of the same
+-- ---- equal replies
 
--- the numbers that are named
+-- the numbers in the replies
 pub named_alike : (xs : List Heard) (answers : List Came) → SaidAlike xs answers → AllByRecursion NamesEvents xs → named_by answers ≡ numbers_of xs
 named_alike [] [] s n = refl
 named_alike [] (a ∷ answers) s n = absurd s

@@ -34,7 +34,7 @@ use Rattle.audit.specs.Lines.{asks_policies, first_policy, found_first, line_of,
 use Rattle.audit_laws.specs.Laws.{AuditsSayYes, RunsAreExplained}
 use Rattle.audit_laws.proofs.PlainLaws.{Heard, IsPlain, Plainly, lines_same, named_alike, plainly, policy_replies, texts_alike}
 
--- ---- no line is on policies
+-- ---- no line is a statement on policies
 
 none_found : (place : Option ℕ) (later : Option Place) → found_first place later ≡ None → (place ≡ None) × (later ≡ None)
 none_found (Some n) later e = absurd cc
@@ -56,7 +56,7 @@ plain_exchanges exchanges e = all_mapped exchanges (none_passes (λ x. asks_poli
     all_mapped [] a = tt
     all_mapped (x ∷ es) a = (a.0, all_mapped es a.1)
 
--- the lines of sessions of which none is on policies
+-- the lines of sessions without a statement on policies
 abbrev ArePlain : List SessionTranscript → Type 0
 ArePlain talks = AllByRecursion (λ t. AllByRecursion IsPlain (lines_of t.replies)) talks
 
@@ -76,11 +76,11 @@ all_second P (x ∷ xs) ys a = all_second P xs ys a.1
 
 -- ---- one session
 
--- the places of a session with these policies at its first line
+-- the state of a session with these policies at its first line
 abbrev places_with : List Policy → PolicyPlaces Places
 places_with policies = record { inner = no_places; policies = policies }
 
--- it is explained from a position on, and the numbers that its replies name are those of its events
+-- a session is explained from a position on, and the numbers that its replies name are those of its events
 record TalkExplained (all : History) (start : ℕ) (talk : SessionTranscript) (numbers : List ℕ) : Type 0 where
   answers : List Came
   explained : IsExplained all start no_places talk.name talk.replies answers
@@ -103,7 +103,7 @@ module _ (policies : List Policy) (all : History) (start from to : ℕ) (earlier
         named = named_alike xs p.answers p.alike named;
       }
 
-  -- ---- those of a phase
+  -- ---- the sessions of a phase
 
   record TalksExplained (talks : List SessionTranscript) (numbers : List ℕ) : Type 0 where
     all_answers : List (List Came)
@@ -126,7 +126,7 @@ module _ (policies : List Policy) (all : History) (start from to : ℕ) (earlier
         named = λ i. one.named i ++ rest.named i;
       }
 
--- ---- phases one after the other
+-- ---- phases in order
 
 explained_both : (all : History) (start : ℕ) (ts us : List SessionTranscript) (cs bs : List (List Came)) → AreExplained all start ts cs → AreExplained all start us bs → AreExplained all start (ts ++ us) (cs ++ bs)
 explained_both all start [] us [] bs a b = b
@@ -138,7 +138,7 @@ named_both : (cs bs : List (List Came)) → named_by_all (cs ++ bs) ≡ named_by
 named_both [] bs = refl
 named_both (x ∷ cs) bs = ap (λ l. named_by x ++ l) (named_both cs bs) ∙ sym (append_assoc (named_by x) (named_by_all cs) (named_by_all bs))
 
--- a phase with what its sessions said
+-- a phase with the lines and replies of its sessions
 phase_explained : (policies : List Policy) (all : History) (stop : Option ℕ) (start from to : ℕ) → stop ≡ None → (earlier : start ≤ from) → (ss : List SessionScript) (rs : List SessionReplies) → AllByRecursion IsSoundScript ss → ArePlain (map talk_of rs)
     → (r : SessionsRan policy_replies (places_with policies) all stop from to ss rs) → TalksExplained policies all start from to earlier (map talk_of rs) (all_numbers r.phase.answers)
 phase_explained policies all stop start from to none_stopped earlier ss rs sound plain r =
@@ -183,7 +183,7 @@ runs_explained opening input policies new out reads ran still plain =
       numbers = subst (λ ps. IsPermutation (named_by_all answers) ps) (sym positions) (subst (λ ns. IsPermutation ns ((positions_between start r.first ++ positions_between r.first r.second) ++ positions_between r.second (position all))) (sym named) numbers);
     }
 
--- its text is read back as it, so that an audit says YES
+-- its text is read back as the transcript, so an audit answers YES
 pub audits_yes : AsciiReadsBack → ExplainedIsYes → AuditsSayYes
 audits_yes back says opening input policies new out reads audit ran still allowed ascii small plain answers =
     let t = transcript_in (position opening) out in

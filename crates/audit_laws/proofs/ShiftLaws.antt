@@ -20,7 +20,7 @@ module _ {A : Type 0} (all : History) (at from : ℕ) (earlier : from ≤ at) (s
   ended_before (ends a) [] last given y i g = record { end = from; before = omega (arith, earlier, g.0); gives = (refl, g.1, g.2) }
   ended_before (ends a) (p ∷ ps) last given y i g = absurd g
 
-  -- a procedure that is steady at the end of the history makes no event before its first printed look
+  -- a procedure that is steady at the end of the history appends no event before its first printed read
   pub given_before : (procedure : Procedure A) (looks : List (Option ℕ)) (last : ℕ) (given : List (ℕ × Event)) (y : A) → Steady false all procedure → Gives all None at so_far procedure looks last given y → GivenBefore all from so_far procedure looks last given y
   given_before (sees shown f) [] last given y s g = absurd g
   given_before (sees shown f) (None ∷ ps) last given y s g =

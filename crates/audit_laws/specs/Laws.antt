@@ -1,4 +1,4 @@
--- What a parallel run left, and an audit of it.
+-- What a parallel run leaves, and its audit.
 use Rattle.std.specs.Prelude.{◌≡◌, ◌⊎◌, ◌<◌, ◌^◌, ℕ, true, false, List, None, IsTrue}
 use Rattle.ts_model.specs.Allowed.{all_allowed}
 use Rattle.ts_model.specs.History.{History, position}
@@ -19,8 +19,8 @@ use Rattle.audit.specs.Lines.{first_policy}
 use Rattle.audit.specs.declared.answers.Audit.{Audit}
 use Rattle.audit.specs.declared.answers.Audit.TheVariants.{Yes, NoMemory}
 
--- over an opening history an input was run by a worker for each session, each of which began with these policies. They
--- left a state and an output, and looked at so many stored rows
+-- over an opening history a worker for each session ran the lines of an input. Each session began with these policies.
+-- They left a state and an output, and read this many stored rows
 abbrev pub InputRan : History → List ℕ → List Policy → State → Output → ℕ → Type 0
 InputRan opening input policies new out reads =
     LinesRan (policy_does reply_to (λ p. p.block)) (record { inner = no_places; policies = policies }) opening
@@ -30,15 +30,15 @@ InputRan opening input policies new out reads =
 abbrev pub ExplainedUnlessPolicies : History → Transcript → Type 0
 ExplainedUnlessPolicies all t = first_policy t.sessions ≡ None → Explained all t
 
--- the transcript of a run is explained by the history that the run left, where the store didn't stop
+-- the history that a run left explains its transcript, if the store didn't stop
 abbrev pub RunsAreExplained : Type 0
 RunsAreExplained =
     (opening : History) (input : List ℕ) (policies : List Policy) (new : State) (out : Output) (reads : ℕ)
     → InputRan opening input policies new out reads → stands_still new ≡ false
     → ExplainedUnlessPolicies new.history (transcript_in (position opening) out)
 
--- an audit of the text of such a transcript, beside a history that explains it, answers YES with the number of its
--- replies, unless memory runs out
+-- an audit of such a transcript's text, over the history that the run left, answers YES with the number of replies,
+-- unless memory runs out
 abbrev pub AuditsSayYes : Type 0
 AuditsSayYes =
     (opening : History) (input : List ℕ) (policies : List Policy) (new : State) (out : Output) (reads : ℕ)

@@ -4,14 +4,14 @@ ghost use Rattle.audit_laws.specs.Laws.{AuditsSayYes, RunsAreExplained};
 use audit::laws::explained_is_yes;
 use transcript::text_law;
 
-/// The transcript of a parallel run is explained by the history that the run left, unless a line of it is a
+/// States the law that a parallel run leaves a history that explains its transcript. This is true unless a line is a
 /// statement on policies, or the disk failed.
 pub fn runs_are_explained()
     ensures { RunsAreExplained }
 {}
 
-/// An audit of the text of such a transcript, beside the history that the run left, answers YES with the
-/// number of its replies, unless memory runs out.
+/// States the law of audits of such a transcript's text over the history that the run left. They answer YES with the
+/// number of replies, unless memory runs out.
 pub fn audits_say_yes()
     ensures { AuditsSayYes }
 {

@@ -1,5 +1,5 @@
-//! What a parallel run left, and an audit of it: its transcript is explained by its history. These are laws on
-//! definitions; no code runs.
+//! What a parallel run leaves, and its audit: the history explains the transcript. These are laws on definitions; no
+//! code runs.
 #![tactic(auto)]
 
 pub mod laws;

@@ -1,4 +1,4 @@
--- Bytes that texts of numbers don't have, and what stands behind the first such byte.
+-- Bytes that texts of numbers don't have, and the text after the first such byte.
 use Rattle.std.proofs.Common.{◌≡◌, ℕ, zero, suc, ◌+◌, ◌≤◌, ◌<◌, Bool, true, false, cond, List, [], ◌∷◌, ◌++◌, length, take, drop, Some, None, ◌⊎◌, inl, inr, refl, sym, ap, ◌∙◌, arith}
 use Rattle.std.specs.Prelude.{◌/◌, ◌%◌, ◌==◌, ◌||◌, ℤ, pos, negsuc, not, nat_lt, decimal}
 use Rattle.std.specs.Fmt.{digits, digits_onto, digit_glyph, signed_decimal}
@@ -9,7 +9,7 @@ use Rattle.std.proofs.lemmas.List.{drop_all, take_all}
 use Rattle.std.proofs.lemmas.List.Splits.{slice_split-cons_no, slice_split-cons_yes}
 use Rattle.audit_looks.specs.Lines.{ahead, behind}
 
--- ---- bytes that aren't there
+-- ---- missing bytes
 
 -- no byte of a text passes
 abbrev pub Lacks : (ℕ → Bool) → List ℕ → Type 0
@@ -29,14 +29,14 @@ lacks_drop p zero text l = l
 lacks_drop p (suc n) [] l = refl
 lacks_drop p (suc n) (x ∷ text) l = lacks_drop p n text (or_parts (p x) (list_any p text) l).1
 
--- nor does one that a weaker test lets pass
+-- no byte passes a test that is true of fewer bytes
 pub lacks_too : (p q : ℕ → Bool) → ((b : ℕ) → p b ≡ false → q b ≡ false) → (text : List ℕ) → Lacks p text → Lacks q text
 lacks_too p q fails [] l = refl
 lacks_too p q fails (x ∷ text) l =
     let parts = or_parts (p x) (list_any p text) l in
     or_from (q x) (list_any q text) (fails x parts.0) (lacks_too p q fails text parts.1)
 
--- what holds of each of two lists in a row holds of each of both
+-- what is true of each element of two lists in order is true of those of each list
 pub all_parts : (P : ℕ → Type 0) (xs ys : List ℕ) → AllByRecursion P (xs ++ ys) → AllByRecursion P xs × AllByRecursion P ys
 all_parts P [] ys a = (tt, a)
 all_parts P (x ∷ xs) ys a = let parts = all_parts P xs ys a.1 in ((a.0, parts.0), parts.1)
@@ -70,7 +70,7 @@ pub digits_lack : (p : ℕ → Bool) (ds : List ℕ) → ((b : ℕ) → IsDigit 
 digits_lack p [] lacks a = refl
 digits_lack p (d ∷ ds) lacks a = or_from (p d) (list_any p ds) (lacks d a.0) (digits_lack p ds lacks a.1)
 
--- a byte that is no digit
+-- a byte other than a digit
 abbrev pub IsMark : ℕ → Type 0
 IsMark byte = (b : ℕ) → IsDigit b → (b == byte) ≡ false
 
@@ -90,7 +90,7 @@ signed_fails p (negsuc n) lacks minus = or_from (p 45) (list_any p (decimal (suc
 pub signed_lacks : (byte : ℕ) (z : ℤ) → IsMark byte → (45 == byte) ≡ false → Lacks (λ b. b == byte) (signed_decimal z)
 signed_lacks byte z mark minus = signed_fails (λ b. b == byte) z mark minus
 
--- ---- behind
+-- ---- after a byte
 
 pub behind_over : (byte : ℕ) (a b : List ℕ) → Lacks (λ x. x == byte) a → behind byte (a ++ b) ≡ behind byte b
 behind_over byte [] b l = refl
@@ -110,7 +110,7 @@ first_line p (x ∷ line) end text l ends =
     let parts = or_parts (p x) (list_any p line) l in
     onto_line p x line (slice_split p text) (line ++ end ∷ text) parts.0 (first_line p line end text parts.1 ends)
 
--- the first part of a text that is split at a byte, and what is split then
+-- the first part of a text that is split at a byte, and then the parts of the rest
 split_parts : (byte : ℕ) (text : List ℕ) → (slice_split (λ b. b == byte) text ≡ ahead byte text ∷ slice_split (λ b. b == byte) (behind byte text)) ⊎ ((slice_split (λ b. b == byte) text ≡ ahead byte text ∷ []) × (behind byte text ≡ []))
 split_parts byte [] = inr (refl, refl)
 split_parts byte (b ∷ text) = by (b == byte) refl (split_parts byte text)
@@ -123,7 +123,8 @@ split_parts byte (b ∷ text) = by (b == byte) refl (split_parts byte text)
     by false e (inl is) = inl (ap (onto_first b) is)
     by false e (inr is) = inr (ap (onto_first b) is.0, is.1)
 
--- a text is split at a byte into what stands ahead of the first one and what is split behind it; where there is none, nothing stands behind
+-- a text is split at a byte into the text before the first one and the parts after it. If the text doesn't have the
+-- byte, nothing comes after
 pub split_first : {X : Type 0} (byte : ℕ) (text : List ℕ) (of : List (List ℕ) → X) (line : List ℕ → X → X) → ((l : List ℕ) (ls : List (List ℕ)) → of (l ∷ ls) ≡ line l (of ls)) → of [] ≡ of ([] ∷ []) → of (slice_split (λ b. b == byte) text) ≡ line (ahead byte text) (of (slice_split (λ b. b == byte) (behind byte text)))
 split_first byte text of line goes empty = by (split_parts byte text)
   where
@@ -134,7 +135,7 @@ split_first byte text of line goes empty = by (split_parts byte text)
     by (inl is) = ap of is ∙ goes (ahead byte text) (slice_split p (behind byte text))
     by (inr is) = ap of is.0 ∙ goes (ahead byte text) [] ∙ ap (line (ahead byte text)) (empty ∙ ap (λ t. of (slice_split p t)) (sym is.1))
 
--- what stands behind is shorter
+-- the text after a byte is shorter
 pub behind_shorter : (byte : ℕ) (text : List ℕ) → 0 < length text → length (behind byte text) < length text
 behind_shorter byte [] some = absurd (omega (arith, some))
 behind_shorter byte (b ∷ text) some = by (b == byte)
@@ -171,7 +172,7 @@ behind_is byte (b ∷ text) =
       | false ↦ behind_is byte text ∙ ap (λ k. drop k (b ∷ text)) (sym up)
     ]
 
--- where the first byte is found, it is found there
+-- the index at which the first such byte is found
 pub record IsPlace (byte : ℕ) (text : List ℕ) (at : ℕ) : Type 0 where
   pub within : at < length text
   pub ahead : take at text ≡ ahead byte text
@@ -193,7 +194,7 @@ place_is byte text at e = by (nat_lt n (length text)) refl e
         }
     by false l s = absurd cc
 
--- and where there is none
+-- no such byte is found
 pub record HasNone (byte : ℕ) (text : List ℕ) : Type 0 where
   pub ahead : text ≡ ahead byte text
   pub behind : [] ≡ behind byte text

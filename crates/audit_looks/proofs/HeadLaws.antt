@@ -31,7 +31,7 @@ use Rattle.audit_looks.proofs.WordLaws.{word_lacks}
 abbrev pub LooksFit : List ℕ → Type 0
 LooksFit ps = AllByRecursion (λ p. suc p < 2 ^ 64) ps
 
--- so have events with these numbers
+-- events with these numbers have numbers of 64 bits
 abbrev pub NumbersFit : List ℕ → Type 0
 NumbersFit ns = AllByRecursion (λ n. n < 2 ^ 64) ns
 
@@ -67,7 +67,7 @@ clear_signed z text clear = lacks_append is_line_end (signed_decimal z) text (si
 clear_last : (n : ℕ) → Lacks is_line_end (decimal n)
 clear_last n = decimal_lacks 10 n end_mark
 
--- nor does it mark a position
+-- a number marks no position
 at_over : (n : ℕ) (text : List ℕ) → has_position (decimal n ++ text) ≡ has_position text
 at_over n text = any_over is_at (decimal n) text (decimal_lacks 64 n at_mark)
 
@@ -85,7 +85,7 @@ less_one (suc n) = omega arith
 event_told : (n pos : ℕ) → n ≡ pos → (n - 1) ∷ [] ≡ before pos ∷ []
 event_told n pos e = ap (λ k. (k - 1) ∷ []) e ∙ ap (λ k. k ∷ []) (less_one pos)
 
--- a read position, or the number of an event, is printed as it is
+-- a read position, or the number of an event, is printed unchanged
 number_told : (n pos : ℕ) → n ≡ pos → n ∷ [] ≡ pos ∷ []
 number_told n pos e = ap (λ k. k ∷ []) e
 
@@ -96,7 +96,7 @@ event_fits (suc p) b = b
 look_fits : (p : ℕ) → suc p < 2 ^ 64 → p < 2 ^ 64
 look_fits p b = omega (arith, b)
 
--- ---- lines of words alone
+-- ---- lines of words only
 
 pub queued_line : ReadsLine (said_text said.Queued) [] heads.Quiet [] []
 queued_line = record { line = codes "QUEUED"; is = refl; clear = refl; head_is = refl; told = λ b. refl; named = λ b. refl }
@@ -380,7 +380,7 @@ start_lacks_at code =
     lacks_append is_at (number_text code ++ codes " ") (entry_of code).word (lacks_append is_at (number_text code) (codes " ") (number_lacks 64 code at_mark) refl)
     (word_lacks is_at refl refl code)
 
--- the head of a refusal that has its position, or hasn't
+-- the head of a refusal, with its position or without
 abbrev pub fault_head : Bool → Head
 fault_head shown = cond (not shown) heads.Quiet heads.Fault
 

@@ -27,7 +27,7 @@ rises n (d ∷ ds) = let more = rises (n * 10 + (d - 48)) ds in omega (arith, mo
 is_digit : (b : ℕ) → IsDigit b → is_ascii_digit b ≡ true
 is_digit b d = let low = d.0 in let high = d.1 in grind (arith, nat_tests)
 
--- digits are read one after the other, where the number that they are has 64 bits
+-- digits are read in order, if their number has 64 bits
 reads_digits : (n : ℕ) (ds text : List ℕ) → AllByRecursion IsDigit ds → read_from n ds < 2 ^ 64 → number_from n (ds ++ text) ≡ number_from (read_from n ds) text
 reads_digits n [] text a small = refl
 reads_digits n (d ∷ ds) text a small =
@@ -44,10 +44,10 @@ decimal_reads n text small =
     let value : read_from 0 (decimal n) ≡ n = digits_value-decimal own n small in
     reads_digits 0 (decimal n) text (decimal_digits n) (omega (arith, value, small)) ∙ ap (λ k. number_from k text) value
 
--- the number, and then a byte that is no digit
+-- a number is read before a byte other than a digit
 pub number_then : (n c : ℕ) (text : List ℕ) → n < 2 ^ 64 → is_ascii_digit c ≡ false → number_in (decimal n ++ c ∷ text) ≡ n
 number_then n c text small e = decimal_reads n (c ∷ text) small ∙ stops n c text e
 
--- or the end
+-- or before the end
 pub number_last : (n : ℕ) → n < 2 ^ 64 → number_in (decimal n) ≡ n
 number_last n small = ap number_in (sym (append-nil (decimal n))) ∙ decimal_reads n [] small

@@ -1,4 +1,4 @@
--- The lines behind the head of an answer name no event.
+-- The lines after the head of an answer name no event.
 use Rattle.std.proofs.Common.{◌≡◌, ℕ, ◌==◌, ◌&&◌, ◌||◌, Bool, true, false, cond, not, List, [], ◌∷◌, ◌++◌, drop, length, take, refl, sym, ap, ◌∙◌, arith, ne_eqb}
 use Rattle.std.specs.Prelude.{ℤ, codes, decimal, nat_eq, nat_le}
 use Rattle.std.specs.Fmt.{signed_decimal}
@@ -29,7 +29,7 @@ is_loud b = is_line_end b || (nat_le 64 b && nat_le b 90)
 abbrev IsQuiet : List ℕ → Type 0
 IsQuiet text = Lacks is_loud text
 
--- a byte that isn't loud is another than one that is
+-- a byte that isn't loud differs from one that is
 other : (k b : ℕ) → is_loud k ≡ true → is_loud b ≡ false → (k == b) ≡ false
 other k b loud quiet = ne_eqb k b (λ e. absurd (true≢false (sym loud ∙ ap is_loud e ∙ quiet)))
 
@@ -55,7 +55,7 @@ quiet_head (b ∷ line) quiet =
     by_tests (begins (b ∷ line) (codes "CUT ")) (begins (b ∷ line) (codes "REFRESH ")) (has_position (b ∷ line)) _ (begins_other 67 b (codes "UT ") line refl first)
     (begins_other 82 b (codes "EFRESH ") line refl first) (no_position (b ∷ line) quiet)
 
--- such a line names no event, and what follows it is read on
+-- such a line names no event, and reading continues after it
 quiet_line : (skip : ℕ) (line rest more : List ℕ) → IsQuiet line → numbers_past skip (((line ++ codes "\n") ++ rest) ++ more) ≡ numbers_past skip (rest ++ more)
 quiet_line skip line rest more quiet =
     let said = drop skip line in
@@ -64,7 +64,7 @@ quiet_line skip line rest more quiet =
     ∙ ap (flat_map (λ l. numbers_named (drop skip l))) (first_line is_line_end line 10 (rest ++ more) (ends_none line quiet) refl)
     ∙ ap (λ ns. ns ++ numbers_past skip (rest ++ more)) none
 
--- ---- what stands in them
+-- ---- the text of the lines
 
 digit_quiet : (b : ℕ) → IsDigit b → is_loud b ≡ false
 digit_quiet b d = let low = d.0 in let high = d.1 in grind (arith, nat_tests)

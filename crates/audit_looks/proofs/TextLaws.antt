@@ -1,4 +1,4 @@
--- What is read of the text of a reply are the looks that it tells, and the events that it names.
+-- What is read from the text of a reply: the read positions that it prints, and the events that it names.
 use Rattle.std.proofs.Common.{◌≡◌, ℕ, suc, ◌+◌, ◌^◌, ◌<◌, Bool, true, false, cond, List, [], ◌∷◌, ◌++◌, length, drop, refl, sym, ap, ◌∙◌, subst, arith}
 use Rattle.std.specs.Prelude.{codes}
 use Rattle.std.specs.List.{flat_map, slice_split}
@@ -22,7 +22,7 @@ use Rattle.audit_looks.proofs.QuietLaws.{answer_quiet}
 
 -- ---- one line
 
--- how the text of a line is read: what its first line tells and names, and that no line behind that one names more
+-- how the text of a line is read: what its first line prints and names, and that no later line names more
 record Reads (s : Said) : Type 0 where
   rest : List ℕ
   head : Head
@@ -34,7 +34,7 @@ record Reads (s : Said) : Type 0 where
   named : numbers ≡ made_by s
   quiet : (skip : ℕ) (text : List ℕ) → numbers_past skip (rest ++ text) ≡ numbers_past skip text
 
--- where lines follow
+-- if lines follow
 plain : (s : Said) (head : Head) (looks numbers : List ℕ) → ReadsLine (said_text s) [] head looks numbers → is_last head ≡ false → ((more : List ℕ) → looks ++ more ≡ told_before s more) → numbers ≡ made_by s → Reads s
 plain s head looks numbers r follows told named = record {
   rest = [];
@@ -96,7 +96,7 @@ module _ (name : List ℕ) (clear : Lacks is_line_end name) where
   abbrev skip : ℕ
   skip = length name + 2
 
-  -- what stands before what a line says
+  -- the bytes before the text of a line
   abbrev start : List ℕ
   start = name ++ codes ": "
 
@@ -106,7 +106,7 @@ module _ (name : List ℕ) (clear : Lacks is_line_end name) where
   regroups : (line rest more : List ℕ) → (start ++ (line ++ 10 ∷ rest)) ++ more ≡ (start ++ line) ++ 10 ∷ (rest ++ more)
   regroups line rest more = ap (λ t. t ++ more) (sym (append_assoc start line (10 ∷ rest))) ∙ append_assoc (start ++ line) (10 ∷ rest) more
 
-  -- the first line, and then those behind it
+  -- the first line, and then the later ones
   split_line : (s : Said) (lines : List Said) (r : Reads s) → slice_split is_line_end (text_of name (s ∷ lines)) ≡ (start ++ r.reads.line) ∷ slice_split is_line_end (r.rest ++ text_of name lines)
   split_line s lines r =
       let line : List ℕ = r.reads.line in
@@ -116,7 +116,7 @@ module _ (name : List ℕ) (clear : Lacks is_line_end name) where
       ∙ ap (slice_split is_line_end) (regroups line r.rest more)
       ∙ first_line is_line_end (start ++ line) 10 (r.rest ++ more) line_clear refl
 
-  -- the looks behind a line
+  -- the read positions after a line
   looks_behind : (head : Head) (rest : List ℕ) (lines : List Said) → (is_last head ≡ false → rest ≡ []) → LooksFit (cond (is_last head) [] (looks_told lines))
       → (LooksFit (looks_told lines) → looks_in name (text_of name lines) ≡ looks_told lines)
       → cond (is_last head) [] (looks_in_lines skip (slice_split is_line_end (rest ++ text_of name lines))) ≡ cond (is_last head) [] (looks_told lines)
@@ -163,9 +163,9 @@ texts_tell name lines clear small = tells name clear lines small
 pub texts_name : TextsTellNumbers
 texts_name name lines clear small = names name clear lines small
 
--- ---- one line after the other
+-- ---- lines in order
 
--- the looks of a line, and then those of others
+-- the read positions of a line, and then those of others
 abbrev with_line : ℕ → List ℕ → List ℕ → List ℕ
 with_line skip line others = told_in (head_of (drop skip line)) (drop skip line) ++ cond (is_last (head_of (drop skip line))) [] others
 
@@ -175,7 +175,7 @@ no_lines skip = sym (ap (λ line. told_in (head_of line) line ++ cond (is_last (
 pub lines_step : (skip : ℕ) (text : List ℕ) → looks_in_lines skip (slice_split is_line_end text) ≡ with_line skip (ahead 10 text) (looks_in_lines skip (slice_split is_line_end (behind 10 text)))
 lines_step skip text = split_first 10 text (looks_in_lines skip) (with_line skip) (λ l ls. refl) (no_lines skip)
 
--- what was told so far, and a line more
+-- the read positions before, and those of one more line
 pub goes_on : (skip : ℕ) (text told all : List ℕ) (said : List ℕ) → said ≡ drop skip (ahead 10 text) → told ++ looks_in_lines skip (slice_split is_line_end text) ≡ all → is_last (head_of said) ≡ false → (told ++ told_in (head_of said) said) ++ looks_in_lines skip (slice_split is_line_end (behind 10 text)) ≡ all
 goes_on skip text told all said is so_far more =
     let others = looks_in_lines skip (slice_split is_line_end (behind 10 text)) in
@@ -186,7 +186,7 @@ goes_on skip text told all said is so_far more =
     ∙ ap (λ ps. told ++ ps) (sym (lines_step skip text))
     ∙ so_far
 
--- and the last one
+-- the same for the last line
 pub ends_there : (skip : ℕ) (text told all : List ℕ) (said : List ℕ) → said ≡ drop skip (ahead 10 text) → told ++ looks_in_lines skip (slice_split is_line_end text) ≡ all → is_last (head_of said) ≡ true → told ++ told_in (head_of said) said ≡ all
 ends_there skip text told all said is so_far last =
     let others = looks_in_lines skip (slice_split is_line_end (behind 10 text)) in

@@ -7,11 +7,11 @@ use Rattle.audit_looks.specs.declared.lines.Head.TheVariants as heads
 
 -- ---- numbers
 
--- a number with one more digit behind it, or the greatest number of 64 bits
+-- a number with one more digit after it, or the greatest number of 64 bits
 abbrev pub with_digit : ℕ → ℕ → ℕ
 with_digit n digit = min (n * 10 + (digit - 48)) (2 ^ 64 - 1)
 
--- a number that digits were read of, and the digits behind it
+-- a number, continued by the digits of a text
 abbrev pub number_from : ℕ → List ℕ → ℕ
 number_from n [] = n
 number_from n (b ∷ text) = if is_ascii_digit b then number_from (with_digit n b) text else n
@@ -66,7 +66,7 @@ position_in line = number_in (behind 64 line)
 abbrev pub cut_in : List ℕ → ℕ
 cut_in line = number_in (behind 32 line)
 
--- the snapshot of a refresh: the number behind the second blank after the @
+-- the snapshot of a refresh: the number after the second blank after the @
 abbrev pub snapshot_in : List ℕ → ℕ
 snapshot_in line = number_in (behind 32 (behind 32 (behind 64 line)))
 

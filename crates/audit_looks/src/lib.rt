@@ -3,7 +3,7 @@
 //! - `numbers`: the numbers that a text begins with.
 //! - `lines`: the read positions of one line, by its head.
 //! - `replies`: the read positions of a reply.
-//! - `laws`: what is read of a text is what its reply tells.
+//! - `laws`: what is read from a text is what its reply prints.
 #![tactic(auto)]
 
 mod laws;

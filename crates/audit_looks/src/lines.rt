@@ -15,13 +15,13 @@ pub enum Head {
     Cut,
     /// A refresh was cut, its snapshot taken, and it was finished.
     Refresh,
-    /// The read position is printed as it is.
+    /// The line prints the read position itself.
     Look,
     /// The statement was refused at the read position.
     Fault,
     /// The read position of an answer. No line follows it.
     Answer,
-    /// No read position is printed.
+    /// The line prints no read position.
     Quiet,
 }
 

@@ -4,7 +4,7 @@ ghost use Rattle.std.specs.Char.{is_ascii_digit};
 ghost use Rattle.std.specs.List.{position};
 ghost use Rattle.audit_looks.specs.Lines.{ahead, behind, number_in, with_digit};
 
-/// The place of the first such byte.
+/// The index of the first such byte.
 fn place_of(byte: u8, text: &[u8]) -> Option<usize>
     ensures { result ≡ position (λ b. b == byte) text.now }
 {

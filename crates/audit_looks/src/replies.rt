@@ -18,9 +18,9 @@ fn behind_name<'a>(name: &[u8], line: &'a [u8]) -> &'a [u8]
     }
 }
 
-/// The read positions that a reply of the session with this name prints, in order, up to an answer. The position
-/// of a refusal comes twice: a refresh that was cut may have been refused at its snapshot or at its finish, and
-/// the reply doesn't say which.
+/// The read positions that a reply of the session with this name prints, in order, up to an answer. The position of a
+/// refusal comes twice. A refresh that was cut may have been refused at its snapshot or at its finish, and the reply
+/// doesn't say which.
 pub fn looks_of_reply(alloc: Global, name: &[u8], reply: &[u8]) -> Result<Vec<u64>, NoMemory>
     ensures { IfOk result (λ looks. looks.items ≡ looks_in name.now reply.now) }
 {

@@ -1,4 +1,4 @@
--- Where a queue is on hypertables, it fits them.
+-- A queue fits a history if it is on hypertables there.
 use Rattle.std.proofs.Common.{◌≡◌, Bool, ℕ, true, false, List, [], ◌∷◌, length, Option, Some, None, sym, refl, ap, ◌∙◌, subst}
 use Rattle.std.specs.Prelude.{is_some, option_and_then}
 use Rattle.std.specs.List.{list_all}
@@ -39,7 +39,7 @@ module _ (g h : History) (on : Begins g h) where
   op_fits_there (Insert t new) fits there = sym (same_test (λ def hyper. rows_fit def hyper new) t there) ∙ fits
   op_fits_there (Delete t tests) fits there = sym (same_test (λ def hyper. list_all (test_fits (length def.cols)) tests) t there) ∙ fits
 
-  -- operations that fit the tables of a history fit those of its beginning where they are on hypertables there
+  -- operations that fit the tables of a history fit those of an earlier history if they are on hypertables there
   pub fits_there : (ops : List Op) → list_all (op_fits (roster h)) ops ≡ true → on_hypertables (roster g) ops ≡ true → list_all (op_fits (roster g)) ops ≡ true
   fits_there [] fits there = refl
   fits_there (op ∷ ops) fits there =
@@ -47,7 +47,7 @@ module _ (g h : History) (on : Begins g h) where
       let tables = and_parts (is_on_hypertable (roster g) op) (on_hypertables (roster g) ops) there in
       and_from _ _ (op_fits_there op each.0 tables.0) (fits_there ops each.1 tables.1)
 
-  -- whether they fit there is whether they are on hypertables there
+  -- they fit there exactly if they are on hypertables there
   pub fits_if_there : (ops : List Op) → list_all (op_fits (roster h)) ops ≡ true → on_hypertables (roster g) ops ≡ list_all (op_fits (roster g)) ops
   fits_if_there ops fits =
       elim (on_hypertables (roster g) ops) as (λ b. on_hypertables (roster g) ops ≡ b → b ≡ list_all (op_fits (roster g)) ops) [

@@ -72,7 +72,7 @@ Within all ps = AllByRecursion (λ p. p ≤ position all) ps
 abbrev telling : {A : Type 0} → ℕ → List (ℕ × Event) → A → Option (Told A)
 telling last given a = Some (record { last = last; given = given; end = a })
 
--- what a procedure gave, if so many of the printed read positions were taken before it: a replay by the rest of them
+-- what a procedure gave, after these read positions of the reply were taken: a replay by the rest of the positions
 -- yields it
 record Comes (all : History) (at : ℕ) (so_far : List (ℕ × Event)) (before_it : List ℕ) (procedure : Procedure (Turn Places)) (last : ℕ) (given : List (ℕ × Event)) (y : Turn Places) : Type 0 where
   rest : List ℕ
@@ -83,7 +83,7 @@ record Comes (all : History) (at : ℕ) (so_far : List (ℕ × Event)) (before_i
   places : end.places ≡ y.places
   tells : Tells all at so_far procedure rest (telling last given end)
 
--- so is all that such a procedure gives
+-- the same for all that the procedure gives
 abbrev TellsLooks : List ℕ → Procedure (Turn Places) → Type 0
 TellsLooks before_it procedure =
     (all : History) (at : ℕ) (so_far : List (ℕ × Event)) (looks : List (Option ℕ)) (last : ℕ) (given : List (ℕ × Event)) (y : Turn Places)
@@ -110,7 +110,7 @@ tells_end before_it rest t is within all at so_far [] last given y low b g = rec
 }
 tells_end before_it rest t is within all at so_far (p ∷ ps) last given y low b g = absurd g
 
--- an end all of whose printed read positions were taken
+-- an end whose printed read positions were all taken
 tells_all : (before_it : List ℕ) (t : Turn Places) → looks_told t.said ≡ before_it ++ [] → TellsLooks before_it (ends t)
 tells_all before_it t is = tells_end before_it [] t is (λ all w. tt)
 
@@ -145,7 +145,7 @@ tells_event before_it e next stop n all at so_far ps last given y low b (inr g) 
     let c = n all (suc at) (so_far ++ (suc at, e) ∷ []) ps last given y (omega (arith, low)) b g.1 in
     record { rest = c.rest; told = c.told; within = c.within; end = c.end; said = c.said; places = c.places; tells = inl (g.0, c.tells) }
 
--- a line that is replied earlier
+-- an earlier line of the reply
 tells_after : (k : ℕ) (before_it : List ℕ) (procedure : Procedure (Turn Places)) → TellsLooks before_it procedure → TellsLooks (before k ∷ before_it) (ending_as (after_line (said.View k)) procedure)
 tells_after k before_it procedure n all at so_far ps last given y low b g =
     let line : Turn Places → Turn Places = after_line (said.View k) in
@@ -175,7 +175,8 @@ ended_tells P all at so_far (ends a) [] last given y t g = record {
 }
 ended_tells P all at so_far (ends a) (p ∷ ps) last given y t g = absurd g
 
--- a read that isn't printed ends its statement: the reply prints none, or no read was printed until then
+-- a read that isn't printed ends its statement. Either the reply prints no position, or the read isn't printed at any
+-- earlier history
 abbrev Hidden : (History → Bool) → History → Procedure (Turn Places) → Type 0
 Hidden shown h procedure = EndsSo (λ y. looks_told y.said ≡ []) procedure ⊎ (((g : History) → Begins g h → shown g ≡ false) × EndsSo (λ y. Within h (looks_told y.said)) procedure)
 
@@ -213,7 +214,7 @@ tells_bare p r e = tells_all [] (refuses p r) (ap (λ b. cond b (r.pos ∷ r.pos
 
 -- ---- calls
 
--- a call reports the position at which it read
+-- a call returns the position at which it read
 abbrev Finds : {A : Type 0} → (A → ℕ) → History → Act A → Type 0
 Finds of h (is_refused r) = IsLooked (position h) r
 Finds of h (returns a) = of a ≡ position h
@@ -226,7 +227,7 @@ abbrev of_cut : CutDone → ℕ
 of_cut (CutMade c span) = before c
 of_cut (NothingDone at) = at
 
--- an event that is made, or refused at the end of a history
+-- an event that is appended, or refused at the end of a history
 made_finds : {A : Type 0} (of : A → ℕ) (h : History) (e : Event) (a : A) → of a ≡ position h → Finds of h (act_of_event h e a)
 made_finds of h e a is = elim (has_room h) as (λ t. Finds of h (cond t (makes e a) (is_refused (refusal history_full h 0)))) [ true ↦ is | false ↦ looked (position h) history_full 0 refl ]
 
@@ -273,7 +274,7 @@ tells_said of h act p turn finds refused answered =
 
 -- a finish is refused with a snapshot of the same position, or its snapshot is refused
 module _ (p : Places) (c : ℕ) (span : Span) (min : ℤ) (all : History) (at q : ℕ) (so_far : List (ℕ × Event)) (last : ℕ) (given : List (ℕ × Event)) (low : at ≤ q) (high : q ≤ position all) (ended : (last ≡ q) × (given ≡ so_far)) where
-  -- the turn that is come to so
+  -- the turn with such a reply
   record Again (procedure : Procedure (Turn Places)) (r : Refusal) : Type 0 where
     reads : ℕ
     tells : Tells all at so_far procedure (q ∷ q ∷ []) (telling last given (cut_refused p c span min r reads))
@@ -298,7 +299,7 @@ module _ (p : Places) (c : ℕ) (span : Span) (min : ℤ) (all : History) (at q 
       subst (λ a. Tells all q so_far (ending_as (turn_of_refresh p c span min t) (tries_at h a)) [] told) (sym finish_is) (same_end last q given so_far end ended.0 ended.1) in
       inl (may_from all at (λ h. true) q low high refl, subst (λ x. Tells all q so_far (after_snapshot p c span min x) (q ∷ []) told) (sym taken_is) (inl (may_from all q (λ h. true) q (omega arith) high refl, finished)))
 
--- a cut that was followed by a refusal at a position
+-- a cut and then a refusal at a position
 cut_told : (p : Places) (c : ℕ) (span : Span) (min : ℤ) (pos q reads : ℕ) (r : Refusal) → before c ≡ pos → IsLooked q r → looks_told (cut_refused p c span min r reads).said ≡ pos ∷ q ∷ q ∷ []
 cut_told p c span min pos q reads r is l = ap (λ k. k ∷ refusal_told r []) is ∙ ap (λ ps. pos ∷ ps) (fault_told q r l)
 
@@ -341,7 +342,7 @@ module _ (p : Places) (c : ℕ) (span : Span) (min : ℤ) (pos : ℕ) (is : befo
   ended_so a at_last [] g = g
   ended_so a at_last (q ∷ qs) g = absurd g
 
-  -- and of one that was refused
+  -- the outcome of a finish that was refused, after its snapshot
   module _ (s q : ℕ) (qs : List (Option ℕ)) (t : Taken) (low : at ≤ s) (le : s ≤ q) (high : q ≤ position all) (there_s : position (prefix all s) ≡ s) (there_q : position (prefix all q) ≡ q) (taken_is : snapshot_taken c (prefix all s) ≡ Ok t) (t_at : t.at ≡ position (prefix all s)) (base : base_position all ≤ at) (w : Within all (pos ∷ [])) (g : Gives all None q so_far (ending_as (turn_of_refresh p c span min t) (tries_at (prefix all q) (act_of_finish c t.at (prefix all q)))) qs last given y) where
     refused_so : (r : Refusal) → act_of_finish c t.at (prefix all q) ≡ is_refused r → (last ≡ q) × (given ≡ so_far) × (y ≡ cut_refused p c span min r t.reads)
     refused_so r act_is =
@@ -477,7 +478,7 @@ tells_query p bytes h actions.Rollback asks = absurd asks
 tells_query p bytes h (actions.Calendar table number unit at fold) asks = tells_answer p h (calendar_plan table (record { number = number; unit = unit_of unit; at = at; fold = fold }))
 tells_query p bytes h (actions.Ask q) asks = tells_answer p h (plan_of (roster h) q)
 
--- a statement that resolves names at a printed read, if what it does prints that position
+-- a statement that resolves names at a printed read, if its action prints that position
 tells_named : (h : History) (p : Places) (bytes : ℕ) (stmt : Stmt) → (refusal_of (position h) (roster h) stmt ≡ None → TellsLooks (position h ∷ []) (acts p bytes h (action_of (roster h) stmt))) → TellsLooks (position h ∷ []) (turn_of_names p bytes stmt h)
 tells_named h p bytes stmt passed =
     named_holds (TellsLooks (position h ∷ [])) p bytes h stmt (λ r e. tells_fault h p r (rolled_looked (position h) (roster h) stmt r e)) (λ plan. tells_answer p h plan)
@@ -486,7 +487,7 @@ tells_named h p bytes stmt passed =
 
 -- ---- outside a block
 
--- what doesn't begin or end a block
+-- an action that doesn't begin or end a block
 abbrev Looks : Action → Type 0
 Looks actions.Begin = ⊥
 Looks actions.Commit = ⊥
@@ -560,7 +561,7 @@ tells_queue p bytes stmt ops n op kind is =
     let here : turn_of_names q bytes stmt h ≡ ends y = event_named q bytes h stmt (ap makes_event kind) ∙ ap (λ o. unless q o (acts q bytes h (action_of (roster h) stmt))) passes ∙ ap (acts q bytes h) (is (roster h)) in
     inl (subst (EndsSo (λ x. looks_told x.said ≡ [])) (sym here) refl))
 
--- what isn't on hypertables yet wasn't on hypertables before
+-- operations that aren't on hypertables yet weren't on hypertables before
 missing_before : (g h : History) (ops : List Op) → Begins g h → on_hypertables (roster h) ops ≡ false → on_hypertables (roster g) ops ≡ false
 missing_before g h ops on missing =
     elim (on_hypertables (roster g) ops) as (λ b. on_hypertables (roster g) ops ≡ b → b ≡ false) [

@@ -59,7 +59,7 @@ told_given all at so_far (ends a) ps told t =
 pub told_is_given : {A : Type 0} → ToldIsGiven A
 told_is_given all at procedure ps told t = let so = told_given all at [] procedure ps told t in record { looks = so.looks; gives = so.gives }
 
--- ---- once
+-- ---- one outcome
 
 pub told_once : {A : Type 0} → ToldOnce A
 told_once all at so_far (sees shown f) [] r s (inl t) (inl u) = told_once all at so_far (f all) [] r s t.1 u.1

@@ -56,7 +56,7 @@ deed_asks all at look ps (deeds.Cut asked then) e k = asked_later all at look as
 deed_asks {T} {J} all at look ps (deeds.Fill new made) e k = subst (λ n. AsksThere {T = T} {J = J} (deeds.Fill new made) (prefix all n)) (ap (λ o. unwrap_or o at) e) k
 deed_asks all at look ps other e k = tt
 
--- of what comes next
+-- the same for what comes next
 pub next_asks : {T J : Type 0} (shown : Shown T J) (bytes : ℕ) (all : History) (at : ℕ) (next : Next T J) (d : Deed T J) → next ≡ nexts.Deed d → NextStands shown bytes all at next → AsksThere d (prefix all at)
 next_asks shown bytes all at next d e k = subst (NextStands shown bytes all at) e k
 
@@ -78,7 +78,7 @@ reaches_then shown bytes all a b first second ps qs p (Ok (Some r)) v le i = rea
 reaches_then shown bytes all a b first second ps qs p (Ok None) v le n = nothing_then all a b first second ps qs v n
 reaches_then shown bytes all a b first second ps qs p (Err e) v le n = tt
 
--- with a line that was replied earlier before it
+-- the same after an earlier line of the reply
 pub led_reaches : {T J : Type 0} (shown : Shown T J) (bytes : ℕ) (line : Option Said) (all : History) (at : ℕ) (procedure : Procedure (Turn Places)) (ps : List ℕ) (p : Places) (o : Option (StatementOutcome T J)) (result : Result (Option (StatementOutcome T J)) NoMemory) → LedTo line o result → ReachesTo shown bytes all at procedure ps p (Ok o) → ReachesTo shown bytes all at (with_line line procedure) ps p result
 led_reaches shown bytes line all at procedure ps p None (Ok x) w n = subst (λ y. ReachesTo shown bytes all at (with_line line procedure) ps p (Ok y)) (sym w) (led_nothing line all at procedure ps n)
 led_reaches shown bytes line all at procedure ps p (Some r) (Ok (Some q)) w i = led_reached shown bytes line all at procedure ps p r q w.0 w.1 i
@@ -88,14 +88,14 @@ led_reaches shown bytes line all at procedure ps p (Some r) (Err e) w i = tt
 
 -- ---- a statement continues
 
--- its end
+-- the end of a statement
 pub went_ends : {T J : Type 0} (shown : Shown T J) (bytes : ℕ) (line : Option Said) (all : History) (at : ℕ) (ps : List ℕ) (p : Places) (read : ℕ) (next : Next T J) (t : Completion T J) (result : Result (Option (StatementOutcome T J)) NoMemory) → next ≡ nexts.End t → at ≤ position all → NextStands shown bytes all at next → LedTo line (Some (record { completion = t; last = at })) result → ReachesTo shown bytes all at (with_line line (rest_next p read (prefix all at) next)) ps p result
 went_ends {T} {J} shown bytes line all at ps p read next t result e within k w =
     subst (λ (n : Next T J). ReachesTo shown bytes all at (with_line line (rest_next p read (prefix all at) n)) ps p result) (sym e)
     (led_reaches shown bytes line all at (ends (turn_of p read t)) ps p (Some (record { completion = t; last = at })) result w
     (end_reached shown bytes all at ps p read t within (subst (NextStands shown bytes all at) e k)))
 
--- a store call that has no position
+-- a store call without a position
 pub went_nowhere : {T J : Type 0} (line : Option Said) (all : History) (at : ℕ) (ps : List ℕ) (p : Places) (read : ℕ) (next : Next T J) (d : Deed T J) (place : Option ℕ) → next ≡ nexts.Deed d → place ≡ meets_at all at ps d → place ≡ None → TellsNothing all at (with_line line (rest_next p read (prefix all at) next)) ps
 went_nowhere {T} {J} line all at ps p read next d place e is none =
     subst (λ (n : Next T J). TellsNothing all at (with_line line (rest_next p read (prefix all at) n)) ps) (sym e)

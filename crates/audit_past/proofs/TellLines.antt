@@ -26,15 +26,15 @@ use Rattle.ts_sessions.proofs.HoldLaws.{change_queues}
 use Rattle.ts_sessions.proofs.SessionLaws.{carried_places}
 use Rattle.audit_past.proofs.TellStatements.{ends_told, reaches_as}
 
--- a statement that came to an end
+-- a statement that ended
 pub reached_is : {T J : Type 0} (shown : Shown T J) (bytes : ℕ) (all : History) (at : ℕ) (procedure : Procedure (Turn Places)) (ps : List ℕ) (p : Places) (o : Option (StatementOutcome T J)) (r : StatementOutcome T J) → o ≡ Some r → ReachesTo shown bytes all at procedure ps p (Ok o) → IsReached shown bytes all at procedure ps p r
 reached_is {T} {J} shown bytes all at procedure ps p o r e k = subst (λ (x : Option (StatementOutcome T J)). ReachesTo shown bytes all at procedure ps p (Ok x)) e k
 
--- or to nothing
+-- or that the history doesn't explain
 pub nothing_told : {T J : Type 0} (shown : Shown T J) (bytes : ℕ) (all : History) (at : ℕ) (procedure : Procedure (Turn Places)) (ps : List ℕ) (p : Places) (o : Option (StatementOutcome T J)) → o ≡ None → ReachesTo shown bytes all at procedure ps p (Ok o) → Tells all at [] procedure ps None
 nothing_told {T} {J} shown bytes all at procedure ps p o e k = (subst (λ (x : Option (StatementOutcome T J)). ReachesTo shown bytes all at procedure ps p (Ok x)) e k) []
 
--- its reply, and the places then
+-- its reply, and the session state then
 pub line_told : {T J : Type 0} (shown : Shown T J) (bytes : ℕ) (all : History) (at : ℕ) (procedure : Procedure (Turn Places)) (ps : List ℕ) (p q : Places) (r : StatementOutcome T J) (name : List ℕ) (line : ReplayedLine) → IsReached shown bytes all at procedure ps p r → RepliesTo name r p q (Ok line) → IsToldLine all at procedure ps name q line
 line_told shown bytes all at procedure ps p q r name line i k = record {
   said = r.completion.said;
@@ -55,7 +55,7 @@ queue_told shown bytes all at procedure ps p q r name line i k = subst (λ (x : 
 pub queue_kept : {T J : Type 0} (s t : Session T J) (bytes : ℕ) → Carries s t → waiting_bytes t ≤ waiting_bytes s + bytes
 queue_kept s t bytes k = let same : waiting_bytes t ≡ waiting_bytes s = ap (λ (x : Places). bytes_queued x.block) (carried_places s t k) in omega (arith, same)
 
--- a line that is refused before anything was looked for
+-- a line that is refused before any name was resolved
 pub refused_told : {T J : Type 0} (shown : Shown T J) (bytes : ℕ) (all : History) (at : ℕ) (ps : List ℕ) (p : Places) (procedure : Procedure (Turn Places)) (q : Refusal) (result : Result (Option (StatementOutcome T J)) NoMemory) → at ≤ position all → procedure ≡ ends (refuses p q) → IfOk result (λ o. o ≡ ended_of (said_once (said.Fault q) changes.Nothing) at) → ReachesTo shown bytes all at procedure ps p result
 refused_told {T} {J} shown bytes all at ps p procedure q (Ok o) le e w =
     reaches_as shown bytes all at procedure (ends (refuses p q)) ps p (Ok o) e
@@ -63,11 +63,11 @@ refused_told {T} {J} shown bytes all at ps p procedure q (Ok o) le e w =
     (ends_told shown bytes all at ps p 0 (said_once (said.Fault q) changes.Nothing) (record { said = said.Fault q ∷ []; change = changes.Nothing; failed = false }) le refl (record { change = tt; stands = refl })))
 refused_told shown bytes all at ps p procedure q (Err x) le e w = tt
 
--- by its block
+-- a line that its block refuses
 pub line_barred : (p : Places) (bytes : ℕ) (stmt : Stmt) (q : Refusal) (read : Result (Stmt × Stream) Fault) → IsRead stmt read → block_refusal p.block (kind_of stmt) ≡ Some q → as_read p (replies p bytes) read ≡ ends (refuses p q)
 line_barred p bytes stmt q (Ok read) e i = ap (replies p bytes) e ∙ ap (λ o. unless p o (named_here p bytes stmt)) i
 line_barred p bytes stmt q (Err f) e i = absurd e
 
--- since it can't be read
+-- a line that can't be read
 pub line_misread : (p : Places) (bytes : ℕ) (f : Fault) (q : Refusal) (read : Result (Stmt × Stream) Fault) → read ≡ Err f → q ≡ misread f → as_read p (replies p bytes) read ≡ ends (refuses p q)
 line_misread p bytes f q read e i = ap (as_read p (replies p bytes)) e ∙ ap (λ x. ends (refuses p x)) (sym i)

@@ -85,7 +85,7 @@ module _ (p : Places) (bytes : ℕ) (stmt : Stmt) (ops : List Op) (n : ℕ) (in_
       (ends_told shown bytes all at ps p 0 (said_once said.Queued (changes.Queues op bytes)) (record { said = said.Queued ∷ []; change = changes.Queues op bytes; failed = false }) le refl (record { change = (s, refl); stands = refl }))
   waits shown all at ps other le k s = absurd cc
 
-  -- a change that wasn't refused at its read position is queued; if the end of the history refuses it, the history
+  -- a change that isn't refused at its read position is queued. If the end of the history refuses it, the history
   -- doesn't explain it
   pub change_waits : {T J : Type 0} (shown : Shown T J) (all : History) (at : ℕ) (ps : List ℕ) (o first : Option (StatementOutcome T J)) → at ≤ position all → all_allowed all ≡ true → AsksSoundly bytes stmt → first ≡ refused_at all stmt (next_look all at ps) → first ≡ None → o ≡ waits_at all at bytes stmt → ReachesTo shown bytes all at (named_here p bytes stmt) ps p (Ok o)
   change_waits {T} {J} shown all at ps o first le ok sound e none w =
@@ -116,7 +116,7 @@ module _ (p : Places) (bytes : ℕ) (stmt : Stmt) (ops : List Op) (n : ℕ) (in_
   change_waits_to shown all at ps first (Ok o) le ok sound e none w = change_waits shown all at ps o first le ok sound e none w
   change_waits_to shown all at ps first (Err x) le ok sound e none w = tt
 
--- what the check of a change at the end says
+-- the check of a change at the end of the history
 pub wait_refused : {T J : Type 0} (all : History) (at bytes : ℕ) (stmt : Stmt) (pos : ℕ) (r : Roster) (q : Refusal) (o : Option (StatementOutcome T J)) → pos ≡ position all → r ≡ roster all → refusal_of pos r stmt ≡ Some q → o ≡ None → o ≡ waits_at all at bytes stmt
 wait_refused {T} {J} all at bytes stmt pos r q o e f i none =
     none ∙ sym (ap (λ x. unless_refused {T = T} {J = J} x (queued_operation (action_of (roster all) stmt) bytes) at) (sym (ap (λ y. refusal_of y r stmt) e ∙ ap (λ y. refusal_of (position all) y stmt) f) ∙ i))
@@ -129,7 +129,7 @@ wait_ready {T} {J} all at bytes stmt pos r a next o e f i same w ended =
 
 -- ---- queries
 
--- a query is refused, or shows something
+-- a query is refused, or shows an answer
 abbrev pub AsksOnly : {T J : Type 0} → Resolved T J → Type 0
 AsksOnly (meant.Refused q) = Unit {0}
 AsksOnly (meant.Shows plan) = Unit {0}
@@ -181,7 +181,7 @@ module _ (p : Places) (bytes : ℕ) (stmt : Stmt) (ops : List Op) (n : ℕ) (in_
   pub query_nowhere : (all : History) (at : ℕ) (ps : List ℕ) → next_look all at ps ≡ None → on_hypertables (roster all) ops ≡ true → TellsNothing all at (named_here p bytes stmt) ps
   query_nowhere all at ps e there = subst (λ d. TellsNothing all at d ps) (sym query_is) (look_nothing all at (λ h. on_hypertables (roster h) ops) (turn_of_names p bytes stmt) ps e there)
 
-  -- it isn't explained at a position at which an operation isn't on a hypertable
+  -- the history doesn't explain it at a position at which an operation isn't on a hypertable
   pub query_missed : (all : History) (at look : ℕ) (ps : List ℕ) → next_look all at ps ≡ Some look → on_hypertables (roster (prefix all look)) ops ≡ false → on_hypertables (roster all) ops ≡ true → TellsNothing all at (named_here p bytes stmt) ps
   query_missed all at look ps told missing there =
       subst (λ d. TellsNothing all at d ps) (sym query_is)

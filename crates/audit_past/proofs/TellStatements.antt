@@ -175,7 +175,7 @@ module _ {T J : Type 0} (shown : Shown T J) (bytes : ℕ) (all : History) (look 
       (reaches_then shown bytes all at look (here_in p bytes stmt none) (left_of shown p bytes stmt (prefix all look)) ps ps p result second (look_lies all at look ps told).low
       (subst (λ d. ReachesTo shown bytes all look d ps p result) l.rest (k l.read)))
 
--- names that have no read position
+-- names without a read position
 pub names_nowhere : (all : History) (at : ℕ) (ps : List ℕ) (p : Places) (bytes : ℕ) (stmt : Stmt) → next_look all at ps ≡ None → p.block ≡ none → looks_at_names (kind_of stmt) ≡ true → TellsNothing all at (named_here p bytes stmt) ps
 names_nowhere all at ps p bytes stmt e outside names =
     subst (λ d. TellsNothing all at d ps) (sym (here_is p bytes stmt none outside))
@@ -194,9 +194,9 @@ names_stand {T} {J} shown bytes all look b (nexts.End t) e l k =
     let same : t.change ≡ changes.Nothing = subst (λ x. LeftIn x (nexts.End t)) e l in
     record { change = subst (λ (c : Change T J). ChangeHolds shown bytes c all) (sym same) tt; stands = k.stands }
 
--- ---- a snapshot that is held
+-- ---- a snapshot that a session holds
 
--- the finish with it, at a look
+-- the finish with it, at a read position
 abbrev pub tells_held : History → ℕ → ℕ → ℕ → Places → ℕ → Procedure (Turn Places)
 tells_held all look c snap p read = does_at (prefix all look) (act_of_finish c snap) (λ r. ends (turn_of_finish p read (finishings.Held c snap) r))
 
@@ -218,7 +218,7 @@ held_told shown bytes all at look ps later p c snap w result e same went k =
 
 -- ---- blocks that end
 
--- the end of a block, by what waits there
+-- the end of a block, by its queue
 closing_by : {T J : Type 0} (C : Next T J → Type 0) (ops : List Op) (n : ℕ) → (ops ≡ [] → C (said_once said.CommitEmpty (changes.Enters opens.Nothing))) → ((op : Op) (more : List Op) → ops ≡ op ∷ more → C (nexts.Deed (deeds.Commit (op ∷ more) true))) → C (end_of_block (writing ops n))
 closing_by C [] n empty some = empty refl
 closing_by {T} {J} C (op ∷ ops) n empty some =

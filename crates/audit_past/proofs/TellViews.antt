@@ -1,4 +1,4 @@
--- An aggregate that is made over a whole history, and filled.
+-- An aggregate that is created over a whole history, and filled.
 use Rattle.std.proofs.Common.{◌≡◌, ℕ, suc, ◌≤◌, Bool, true, List, [], ◌∷◌, length, Some, None, sym, refl, ap, ◌∙◌, subst, arith}
 use Rattle.std.specs.Prelude.{ℤ, Result, Ok, Err, is_some, IsSome}
 use Rattle.std.proofs.lemmas.Bool.{true≢false}
@@ -31,7 +31,7 @@ use Rattle.ts_sessions.proofs.ViewWalks.{WasMade, number_named, was_made}
 abbrev state_after : History → ℕ → State
 state_after all at = record (state_of (prefix all at)) { history = prefix all (suc at); made = suc (position (prefix all at)) ∷ [] }
 
--- what a call made, as a store would have answered
+-- the outcome of a call, as a store would return it
 answered_made : {A : Type 0} (act : Act A) (all : History) (at : ℕ) (b : A) → CameTo act (event_at all (suc at)) (came.Made b) → Answered act (state_of (prefix all at)) (outcomes.Done b) (state_after all at)
 answered_made (refuses r) all at b w = absurd cc
 answered_made (returns a) all at b w = absurd cc
@@ -45,7 +45,7 @@ answered_returned (returns a) all at b w = (returned_same b a w, record { histor
     returned_same b a w = cc
 answered_returned (makes e a) all at b w = absurd w
 
--- an aggregate that was made is there under its name
+-- a new aggregate exists under its name
 pub told_view : (def : ViewDef) (all : History) (at : ℕ) (c : PastOutcome ℕ) (m : CallAt ℕ) (k : ℕ) → CameTo (making_view def (prefix all at)) (event_at all (suc at)) c → met_of at c ≡ Some m → m.came ≡ Ok k → WasMade def (length (roster (prefix all at)).views) (prefix all m.at)
 told_view def all at (came.Made b) m k w is e =
     subst (λ (x : CallAt ℕ). WasMade def (length (roster (prefix all at)).views) (prefix all x.at)) (same_Some _ m is)
@@ -58,7 +58,7 @@ told_view def all at (came.Refused r) m k w is e =
     absurd cc
 told_view def all at came.Otherwise m k w is e = absurd (true≢false (sym (ap is_some is)))
 
--- so its refresh goes by its number there
+-- so its refresh uses its number there
 pub told_view_leaves : (p : Places) (def : ViewDef) (filled : Bool) (n : ℕ) (h : History) (o : Result ℕ Refusal) (name : List ℕ) (min : ℤ) → ((k : ℕ) → o ≡ Ok k → WasMade def n h) → name ≡ def.name → min ≡ first_of def.fold.width → after_view p n def filled o ≡ view_leaves p (number_at h name) min filled o
 told_view_leaves p def filled n h (Ok k) name min made e f =
     let w = made k refl in

@@ -42,7 +42,7 @@ use Rattle.audit_past.proofs.ReplayLaws.{tells_as}
 
 -- ---- events
 
--- the history up to an event is that up to the one before, and the event
+-- the history up to an event is the history up to the one before, and then the event
 pub prefix_next : (h : History) (at : ℕ) (e : Event) → event_at h (suc at) ≡ Some e → prefix h (suc at) ≡ (prefix h at ▸ e)
 prefix_next start at e is = absurd (true≢false (sym (ap is_some is)))
 prefix_next (resumed i) at e is = absurd (true≢false (sym (ap is_some is)))
@@ -87,7 +87,7 @@ reached_then shown bytes all a b first second ps qs p r v le i = record {
   high = i.high;
 }
 
--- a line that was replied earlier
+-- an earlier line of the reply
 pub led_nothing : (line : Option Said) (all : History) (at : ℕ) (procedure : Procedure (Turn Places)) (ps : List ℕ) → TellsNothing all at procedure ps → TellsNothing all at (with_line line procedure) ps
 led_nothing None all at procedure ps n = n
 led_nothing (Some line) all at procedure ps n = λ s. tells_as (after_line line) all at s procedure ps None (n s)
@@ -149,14 +149,14 @@ look_tells {A} all at look shown f (p ∷ ps) e s =
     subst (λ q. TellsBy {A = A} all at (sees shown f) (p ∷ ps) q (f (prefix all q)) ps) k.1
     (record { given = λ so_far. so_far; tells = λ so_far r t. inl (and_from _ _ k.0 (subst (λ q. shown (prefix all q) ≡ true) (sym k.1) s), t) })
 
--- a read that has no position
+-- a read without a position
 pub look_nothing : {A : Type 0} (all : History) (at : ℕ) (shown : History → Bool) (f : History → Procedure A) (ps : List ℕ) → next_look all at ps ≡ None → shown all ≡ true → TellsNothing all at (sees shown f) ps
 look_nothing all at shown f [] e s = λ so_far. inr (s, refl)
 look_nothing all at shown f (p ∷ ps) e s =
     let none : may_look all at shown p ≡ false = ap (λ t. t && shown (prefix all p)) (no_look all at p ps e) in
     λ so_far. inr (inr (none, s, refl))
 
--- a read that isn't printed where it might be, nor at the end
+-- a read that is printed neither at the next position nor at the end of the history
 pub look_unprinted : {A : Type 0} (all : History) (at : ℕ) (shown : History → Bool) (f : History → Procedure A) (ps : List ℕ) → ((look : ℕ) → next_look all at ps ≡ Some look → shown (prefix all look) ≡ false) → shown all ≡ false → TellsBy all at (sees shown f) ps at (f all) ps
 look_unprinted all at shown f [] none e = record { given = λ s. s; tells = λ s r t. inl (e, t) }
 look_unprinted all at shown f (p ∷ ps) none e =
@@ -201,7 +201,7 @@ came_within (makes e a) all at (came.Returned b) w = absurd w
 came_within (makes e a) all at (came.Refused r) w = absurd w
 came_within (makes e a) all at came.Otherwise w = tt
 
--- what a call leads to at its history
+-- the rest after a call at its history
 pub call_tells : {A B : Type 0} (all : History) (at : ℕ) (h : History) (act : Act A) (c : PastOutcome A) (m : CallAt A) (k : Result A Refusal → Procedure B) (ps : List ℕ) → CameTo act (event_at all (suc at)) c → met_of at c ≡ Some m → TellsBy all at (followed_by (tries_at h act) k) ps m.at (k m.came) ps
 call_tells {A} {B} all at h (refuses r) c m k ps w is =
     let e : record { came = Err r; at = at } ≡ m = same_Some _ m (sym (ap (met_of at) w) ∙ is) in

@@ -5,7 +5,7 @@ use Rattle.ts_model.specs.Calls.{Act, refuses, returns, makes}
 use Rattle.audit_past.specs.declared.history_view.PastOutcome.{PastOutcome}
 use Rattle.audit_past.specs.declared.history_view.PastOutcome.TheVariants.{Made, Returned, Refused, Otherwise}
 
--- a call that does this has this outcome, if the history has this event next, or none
+-- a call with this effect has this outcome, if this is the next event of the history, or if there is none
 abbrev pub CameTo : {A : Type 0} → Act A → Option Event → PastOutcome A → Type 0
 CameTo (refuses r) next c = c ≡ Refused r
 CameTo (returns a) next c = c ≡ Returned a

@@ -11,14 +11,14 @@ pub record Told (A : Type 0) : Type 0 where
   pub given : List (ℕ × Event)
   pub end : A
 
--- a read may be printed at a position that isn't before the last one, if it is printed there
+-- a read may be printed at a position of the history that isn't before the last one, if the procedure prints it there
 abbrev pub may_look : History → ℕ → (History → Bool) → ℕ → Bool
 may_look all at shown p = nat_le at p && nat_le p (position all) && shown (prefix all p)
 
--- the outcome of a procedure over a whole history whose store never stopped. A read takes its position from a list if
--- it may be printed there. Another read is at the end of the history, if it isn't printed there. Positions that are
--- left over mean nothing. None: the history doesn't explain the procedure. Its event isn't that of the history, or a
--- read has no position
+-- the outcome of a procedure over a whole history whose store never stopped. A read takes the next position of the list
+-- if it may be printed there. Another read is at the end of the history, if it isn't printed there. The replay ignores
+-- positions that are left over. None: the history doesn't explain the procedure. Its event isn't that of the history,
+-- or a read has no position
 abbrev pub Tells :
     {A : Type 0} → History → ℕ → List (ℕ × Event) → Procedure A → List ℕ → Option (Told A) → Type 0
 Tells all at so_far (sees shown f) [] r =

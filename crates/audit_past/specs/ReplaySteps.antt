@@ -49,7 +49,7 @@ abbrev pub later_looks : List ℕ → List ℕ
 later_looks [] = []
 later_looks (p ∷ ps) = ps
 
--- what is left of a procedure after its first read, of this history
+-- the rest of a procedure after its first read, of this history
 abbrev pub after_look : {A : Type 0} → History → Procedure A → Procedure A
 after_look h (sees shown f) = f h
 after_look h (adds e next stopped) = adds e next stopped
@@ -57,8 +57,8 @@ after_look h (ends a) = ends a
 
 -- ---- store calls
 
--- a store call is made at its read position; one that fills an aggregate is made where the aggregate was created, to
--- look up its number
+-- the position of a store call is its read position. A call that fills an aggregate reads at the creation of the
+-- aggregate, to find its number
 abbrev pub meets_at : {T J : Type 0} → History → ℕ → List ℕ → Deed T J → Option ℕ
 meets_at all at ps (deeds.Fill new made) = Some at
 meets_at all at ps other = next_look all at ps
@@ -73,7 +73,7 @@ abbrev pub looks_then : {T J : Type 0} → List ℕ → Deed T J → List ℕ
 looks_then ps (deeds.Fill new made) = ps
 looks_then ps other = later_looks ps
 
--- what is left of a statement whose store call is made at this history
+-- the rest of a statement whose store call is made at this history
 abbrev pub rest_at : {T J : Type 0} → Places → ℕ → History → Deed T J → Procedure (Turn Places)
 rest_at {T} {J} p read h (deeds.Fill new made) = rest {T = T} {J = J} p read h (deeds.Fill new made)
 rest_at {T} {J} p read h other = after_look h (rest {T = T} {J = J} p read h other)
@@ -86,7 +86,7 @@ AsksThere other h = ⊤
 
 -- ---- calls
 
--- what a call that does this at a history leads to, by its outcome
+-- the rest after a call with this effect at a history, by its outcome
 abbrev pub does_at : {A B : Type 0} → History → (History → Act A) → (Result A Refusal → Procedure B) → Procedure B
 does_at h act k = followed_by (tries_at h (act h)) k
 
@@ -104,7 +104,7 @@ met_of at Otherwise = None
 
 -- ---- outcomes
 
--- a state of which only the history is known
+-- a state with only a history
 abbrev pub state_of : History → State
 state_of h = record {
   history = h;
@@ -114,14 +114,14 @@ state_of h = record {
   origin = record { faults = 0; opening = h; moment = 0 };
 }
 
--- the next step fits a history that was replayed up to a position: the requested aggregate exists, and what a
--- statement of a text of so many bytes brings to its session fits the whole history
+-- the next step fits a history that was replayed up to a position. The requested aggregate exists, and what the
+-- statement brings to its session fits the whole history. Its text has this many bytes
 abbrev pub NextStands : {T J : Type 0} → Shown T J → ℕ → History → ℕ → Next T J → Type 0
 NextStands shown bytes all at (nexts.Deed d) = AsksThere d (prefix all at)
 NextStands shown bytes all at (nexts.End t) = EndFits shown bytes t (state_of all)
 
--- a replay of a procedure, by these read positions from a position on, yields what a replay of the rest yields from
--- where the first steps have led
+-- a replay of a procedure, by these read positions, has each outcome of a replay of the rest from the position after
+-- its first steps
 pub record TellsBy {A : Type 0} (all : History) (at : ℕ) (procedure : Procedure A) (ps : List ℕ) (to : ℕ)
     (left : Procedure A) (qs : List ℕ) : Type 0 where
   pub given : List (ℕ × Event) → List (ℕ × Event)
@@ -142,13 +142,13 @@ pub record IsMet {T J : Type 0} (shown : Shown T J) (all : History) (at before :
   pub low : at ≤ m.at
   pub high : m.at ≤ position all
 
--- so, or the history doesn't explain it
+-- the same, or the history doesn't explain it
 abbrev pub MeetsAt :
     {T J : Type 0} → Shown T J → History → ℕ → ℕ → (Places → ℕ → Procedure (Turn Places)) → Option (OutcomeAt T) → Type 0
 MeetsAt shown all at before procedure (Some m) = IsMet shown all at before procedure m
 MeetsAt shown all at before procedure None = (p : Places) (read : ℕ) (ps : List ℕ) → TellsNothing all at (procedure p read) ps
 
--- a store call at a position led to this, and fewer store calls are left than before
+-- a store call at a position had this outcome, and fewer store calls are left than before
 pub record IsWent {T J : Type 0} (shown : Shown T J) (all : History) (at before : ℕ)
     (procedure : Places → ℕ → Procedure (Turn Places)) (w : StepOutcome T J) : Type 0 where
   pub read_then : ℕ → ℕ
@@ -159,7 +159,7 @@ pub record IsWent {T J : Type 0} (shown : Shown T J) (all : History) (at before 
   pub high : w.at ≤ position all
   pub shorter : left_next w.next < before
 
--- so, or the history doesn't explain it
+-- the same, or the history doesn't explain it
 abbrev pub GoesTo :
     {T J : Type 0} → Shown T J → History → ℕ → ℕ → (Places → ℕ → Procedure (Turn Places))
     → Result (Option (StepOutcome T J)) NoMemory → Type 0
@@ -168,7 +168,7 @@ GoesTo shown all at before procedure (Ok None) =
     (p : Places) (read : ℕ) (ps : List ℕ) → TellsNothing all at (procedure p read) ps
 GoesTo shown all at before procedure (Err e) = ⊤
 
--- a statement of a session with these places, of a text of so many bytes, had this outcome
+-- a statement of a session with this state had this outcome. Its text has this many bytes
 pub record IsReached {T J : Type 0} (shown : Shown T J) (bytes : ℕ) (all : History) (at : ℕ)
     (procedure : Procedure (Turn Places)) (ps : List ℕ) (p : Places) (r : StatementOutcome T J) : Type 0 where
   pub total : ℕ
@@ -179,7 +179,7 @@ pub record IsReached {T J : Type 0} (shown : Shown T J) (bytes : ℕ) (all : His
   pub low : at ≤ r.last
   pub high : r.last ≤ position all
 
--- so, or the history doesn't explain it
+-- the same, or the history doesn't explain it
 abbrev pub ReachesTo :
     {T J : Type 0} → Shown T J → ℕ → History → ℕ → Procedure (Turn Places) → List ℕ → Places
     → Result (Option (StatementOutcome T J)) NoMemory → Type 0
@@ -187,7 +187,7 @@ ReachesTo shown bytes all at procedure ps p (Ok (Some r)) = IsReached shown byte
 ReachesTo shown bytes all at procedure ps p (Ok None) = TellsNothing all at procedure ps
 ReachesTo shown bytes all at procedure ps p (Err e) = ⊤
 
--- the outcome of a statement, with a line that was replied earlier before it
+-- the outcome of a statement, after an earlier line of the reply
 abbrev pub LedTo :
     {T J : Type 0} → Option Said → Option (StatementOutcome T J) → Result (Option (StatementOutcome T J)) NoMemory → Type 0
 LedTo said None (Ok o) = o ≡ None
@@ -202,7 +202,7 @@ abbrev pub ended_of : {T J : Type 0} → Next T J → ℕ → Option (StatementO
 ended_of (nexts.Deed d) last = None
 ended_of (nexts.End t) last = Some (record { completion = t; last = last })
 
--- the outcome of a statement that is refused by its names at a position, or None
+-- the outcome of a statement whose names are refused at a position, or None
 abbrev pub refused_to : {T J : Type 0} → Option Refusal → ℕ → Option (StatementOutcome T J)
 refused_to None look = None
 refused_to (Some q) look = ended_of (said_once (said.Fault q) changes.Nothing) look
@@ -213,7 +213,7 @@ refused_at all stmt None = None
 refused_at all stmt (Some look) =
     refused_to (refusal_of (position (prefix all look)) (roster (prefix all look)) stmt) look
 
--- an operation from a text of so many bytes is queued. Only an operation is
+-- an operation from a text of this many bytes is queued. No other action is
 abbrev pub queued_operation : {T J : Type 0} → Action → ℕ → Next T J
 queued_operation (actions.Change op) bytes = said_once said.Queued (changes.Queues op bytes)
 queued_operation other bytes = said_once said.Queued changes.Nothing
@@ -234,7 +234,7 @@ shown_as b h (meant.Refused q) = said_once (said.Fault q) changes.Nothing
 shown_as b h (meant.Shows plan) = said_once (answered_line b h plan) changes.Nothing
 shown_as b h other = said_once said.Queued changes.Nothing
 
--- a line of the session with a name has this reply, and leaves these places
+-- a line of the session with a name has this reply, and leaves this session state
 pub record IsToldLine (all : History) (at : ℕ) (procedure : Procedure (Turn Places)) (ps : List ℕ) (name : List ℕ)
     (places : Places) (line : ReplayedLine) : Type 0 where
   pub said : List Said
@@ -246,14 +246,14 @@ pub record IsToldLine (all : History) (at : ℕ) (procedure : Procedure (Turn Pl
   pub low : at ≤ line.last
   pub high : line.last ≤ position all
 
--- so, or the history doesn't explain it
+-- the same, or the history doesn't explain it
 abbrev pub LineTells :
     History → ℕ → Procedure (Turn Places) → List ℕ → List ℕ → Places → Result (Option ReplayedLine) NoMemory → Type 0
 LineTells all at procedure ps name places (Ok (Some line)) = IsToldLine all at procedure ps name places line
 LineTells all at procedure ps name places (Ok None) = Tells all at [] procedure ps None
 LineTells all at procedure ps name places (Err e) = ⊤
 
--- the reply to a line by its outcome, and the places after it
+-- the reply to a line by its outcome, and the session state after it
 abbrev pub RepliesTo :
     {T J : Type 0} → List ℕ → StatementOutcome T J → Places → Places → Result ReplayedLine NoMemory → Type 0
 RepliesTo name r old new (Ok line) =

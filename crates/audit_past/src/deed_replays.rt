@@ -46,7 +46,7 @@ pub(crate) struct StepOutcome<T: Shown>
 where
     T::Job: Drop,
 {
-    /// A line that is replied before the statement ends.
+    /// A line of the reply that comes before all later ones.
     pub said: Option<Said>,
     /// What comes next.
     pub next: Next<T>,
@@ -60,9 +60,9 @@ pub(crate) struct StatementOutcome<T: Shown>
 where
     T::Job: Drop,
 {
-    /// What it says, and how it changes its session.
+    /// The lines of its reply, and how it changes its session.
     pub completion: Completion<T>,
-    /// The position of its last look or event.
+    /// The position of its last read or event.
     pub last: u64,
 }
 
@@ -114,7 +114,7 @@ where
     }
 }
 
-/// Prepends a line that was replied earlier to the outcome of a statement.
+/// Prepends an earlier line of the reply to the outcome of a statement.
 fn led_by<T: Shown + Drop>(
     said: Option<Said>,
     reached: Option<StatementOutcome<T>>,
@@ -135,8 +135,7 @@ where
     }
 }
 
-/// The next printed read position. `None` if none is left, or if it lies before `at` or after the end of the
-/// history.
+/// The next printed read position. `None` if none is left, or if it is before `at` or after the end of the history.
 pub(crate) fn next_look<P: Past>(past: &P, at: u64, looks: &[u64]) -> Option<u64>
     ensures { result ≡ look_told (P.all past.now) at looks.now }
 {
@@ -159,7 +158,7 @@ pub(crate) fn after_next(looks: &[u64]) -> &[u64]
     }
 }
 
-/// The position at which a store call is made: its read position, or `at` if it fills an aggregate.
+/// The position of a store call: its read position, or `at` if it fills an aggregate.
 fn place_of<P: Past>(past: &P, at: u64, looks: &[u64], deed: &Deed<P::Shot>) -> Option<u64>
 where
     <P::Shot as Shown>::Job: Drop,
@@ -192,7 +191,7 @@ where
     matches!(deed, Deed::Fill { .. })
 }
 
-/// Makes a store call at a position of the history, and follows its outcome.
+/// Performs a store call at a position of the history, and follows its outcome.
 pub(crate) fn act<R: Threads + Sync, P: Past, L>(
     rt: &R,
     alloc: Global,

@@ -1,7 +1,7 @@
 //! Replays lines of sessions over a whole history: the outcome of a line, by its read positions.
 //!
-//! The driver of `ts_sessions` runs lines on a store. This one runs them on a given history, by the same store
-//! calls and the same functions of what follows them.
+//! The driver of `ts_sessions` runs lines on a store. This one runs them on a given history, by the same store calls
+//! and the same functions of what follows them.
 //!
 //! - `history_view`: the access to a history, and the outcomes of store calls there.
 //! - `deed_replays`: replays store calls.

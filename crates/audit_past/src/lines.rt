@@ -74,7 +74,7 @@ where
     }
 }
 
-/// Writes the reply to a line, and changes the session. If memory runs out, the session stays as it is.
+/// Writes the reply to a line, and changes the session. If it runs out of memory, the session stays as it is.
 fn replay_reply<T: Shown + Drop>(
     alloc: Global,
     session: &mut Session<T>,

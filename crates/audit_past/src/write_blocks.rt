@@ -148,7 +148,7 @@ where
 }
 
 /// Replays a query in a write block. `bytes` is the length of its text. The history doesn't explain a query at a
-/// position at which an operation of the queue doesn't fit the tables: its session hadn't queued it yet.
+/// position at which some queued operation doesn't fit the tables: its session hadn't queued that operation yet.
 pub(crate) fn replay_query<R: Threads + Sync, P: Past, L>(
     rt: &R,
     alloc: Global,

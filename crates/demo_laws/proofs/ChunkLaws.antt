@@ -14,11 +14,11 @@ use Rattle.demo_laws.specs.Acts.{demo_width, row_of}
 
 -- ---- whole multiples
 
--- buckets of this step, one of which starts at 0
+-- buckets with this step, one of which starts at 0
 abbrev pub steps_of : ℕ → Width
 steps_of n = record { step = pos n; shift = pos 0 }
 
--- a number that a multiple of the step raises to a multiple is the start of a bucket
+-- a number is the start of a bucket if adding a multiple of the step gives a multiple
 pub is_bucket-multiple : (n j m : ℕ) (z : ℤ) → 0 < n → z +ℤ pos (j * n) ≡ pos (n * m) → is_bucket (steps_of n) z ≡ true
 is_bucket-multiple n j m z positive e =
     is_bucket-from_remainder (steps_of n) z
@@ -32,7 +32,7 @@ chunk_width_fits = record { positive = omega (arith, ints); bounded = omega (ari
 
 -- ---- chunks
 
--- where the times of a round begin, and those of the round before
+-- the start of the times of a round, and of those of the round before
 abbrev pub start_of : ℕ → ℤ
 start_of round = pos (5000 * round)
 
@@ -62,7 +62,7 @@ chunk_in_time demo round place h =
     let time : time_of (number_of round place) place ≡ pos (10 * (500 * round + place)) = cond-true (nat_lt place 490) (pos (10 * number_of round place)) (pos (10 * number_of round place) -ℤ pos 5000) (lt-ltb place 490 h) in
     ap (chunk_of (pos 5000)) time ∙ chunk_of_round round (pos (10 * (500 * round + place))) (omega (arith, ints)) (omega (arith, ints))
 
--- one that comes late is in the chunk before
+-- a late row is in the chunk before
 pub chunk_late : (demo round place : ℕ) → 490 ≤ place → place < 500 → chunk_of (pos 5000) (row_of demo round place).at ≡ chunk_at (start_before round)
 chunk_late demo round place l h =
     let time : time_of (number_of round place) place ≡ pos (10 * (500 * round + place)) -ℤ pos 5000 = cond-false (nat_lt place 490) (pos (10 * number_of round place)) (pos (10 * number_of round place) -ℤ pos 5000) (le-ltb place 490 l) in

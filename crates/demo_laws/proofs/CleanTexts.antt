@@ -1,4 +1,4 @@
--- Lines of the demonstration, in which no comment begins, of ASCII, with few bytes.
+-- Lines of the demonstration are ASCII, have few bytes, and have no comment.
 use lib.Signed.{mag}
 use Rattle.std.proofs.Common.{◌≡◌, refl, ℕ, zero, suc, ◌+◌, ◌*◌, ◌%◌, ◌<◌, ◌≤◌, ◌^◌, ℤ, pos, ◌-ℤ◌, List, [], ◌∷◌, ◌++◌, length, codes, arith}
 use Rattle.std.specs.List.{flat_map, range_with_len}
@@ -46,7 +46,7 @@ insert_clean = record { comment = λ rest. omega arith; ascii = refl; bytes = om
 call_clean : IsClean 45 (codes "d: CALL refresh_continuous_aggregate('m100', ")
 call_clean = record { comment = λ rest. omega arith; ascii = refl; bytes = omega arith }
 
--- a line is what the session of the demonstration says, whole
+-- a whole line belongs to the session of the demonstration
 pub record IsSaid (line : List ℕ) : Type 0 where
   pub kind : line_kind line ≡ Stmt 1 2 (length line)
   pub session : session_name line 1 2 ≡ codes "d"

@@ -1,4 +1,4 @@
--- The lines without a number in them are read as their statements: that is computed.
+-- The lines without a number in them are read as their statements, by computation.
 use Rattle.std.proofs.Common.{◌≡◌, ℕ, List, refl, Ok}
 use Rattle.stmt_reader.specs.Reading.{aggregate, aggregate_rest, aggregates, alias, equals_true, argument, bind, bucket, choose, column, create_rest, end, with_data, filters, fold_behind, fold_rest, form, group_by, hyper_rest, items, keys_and_function, list_parser, mode, more, not_null, number, offset, one, options, rows_rest, select_list, select_rest, semicolon, mode_setting, source, statement, table_rest, takes, view_rest, token_parser}
 use Rattle.stmt_tokens.specs.Streams.{Stream, ends, stream}

@@ -1,4 +1,4 @@
--- How many items of a list pass a test, where the list is made from the numbers of a range.
+-- How many items of a list pass a test, if the list is created from the numbers of a range.
 use Rattle.std.proofs.Common.{◌≡◌, ℕ, zero, suc, ◌+◌, ◌<◌, ◌≤◌, Bool, true, false, ◌||◌, cond, eqb, ◌∷◌, ◌++◌, map, refl, ap, ◌∙◌, arith}
 use Rattle.std.specs.List.{count_by, list_any, range_with_len}
 use Rattle.std.proofs.lemmas.Bool.{eqb-true, eqb-false, or_left, or_right}
@@ -15,7 +15,7 @@ range-append first (suc m) n =
     let next : (first + 1) + m ≡ first + suc m = omega arith in
     rw more (ap (λ xs. first ∷ xs) (range-append (first + 1) m n ∙ ap (λ k. range_with_len (first + 1) m ++ range_with_len k n) next))
 
--- where the test says the same of all items, all pass or none
+-- if the test says the same of all items, all pass or none
 pub count-range : {X : Type 0} (test : X → Bool) (f : ℕ → X) (b : Bool) (first n : ℕ) → ((k : ℕ) → first ≤ k → k < first + n → test (f k) ≡ b) → count_by test (map f (range_with_len first n)) ≡ cond b n 0
 count-range test f true first zero same = refl
 count-range test f false first zero same = refl
@@ -38,7 +38,7 @@ count-parts test f a b first m n before after =
     ∙ ap (λ c. c + count_by test (map f (range_with_len (first + m) n))) (count-range test f a first m before)
     ∙ ap (λ c. cond a m 0 + c) (count-range test f b (first + m) n after)
 
--- where one item passes, some item does
+-- if one item passes, some item does
 pub any-range : {X : Type 0} (test : X → Bool) (f : ℕ → X) (first n k : ℕ) → first ≤ k → k < first + n → test (f k) ≡ true → list_any test (map f (range_with_len first n)) ≡ true
 any-range test f first zero k l h e = absurd (omega arith)
 any-range test f first (suc n) k l h e = by_cases (eqb first k) refl (λ m. any-range test f (first + 1) n k m (omega arith) e)

@@ -1,4 +1,4 @@
--- The cut of a round's refresh: it waits with its span, and no bucket of the span was refreshed before.
+-- The cut of a round's refresh: it is pending with its span, and no bucket of the span was refreshed before.
 use Rattle.std.proofs.Common.{◌≡◌, ℕ, zero, suc, ◌*◌, ◌==◌, ◌&&◌, true, false, cond, [], ◌∷◌, ℤ, ◌≤ℤ◌, int_lt, Some, None, refl, ap, ◌∙◌, arith}
 use Rattle.std.proofs.lemmas.Bool.{and_from, and_right, cond-true, cond-false}
 use Rattle.std.proofs.lemmas.Int.{ints}
@@ -20,7 +20,7 @@ use Rattle.ts_schema.proofs.Cases.{same_number}
 
 -- ---- the span
 
--- where the times of a round begin a bucket does, and so it does a round before
+-- a bucket begins at the start of a round's times, and at the start of the round before
 pub is_bucket-start : (round : ℕ) → is_bucket demo_width (start_of round) ≡ true
 is_bucket-start round = is_bucket-multiple 100 0 (50 * round) (start_of round) (omega arith) (omega (arith, ints))
 
@@ -40,7 +40,7 @@ window_is round = inscribed-whole demo_width (start_before round) (start_of roun
 pub span_of_cut_is : (round : ℕ) (h : History) → span_of_cut 0 (after_cut round h) (position (after_cut round h)) ≡ Some (span_before round)
 span_of_cut_is round h = cond-true (suc (position h) == suc (position h) && true) (Some (span_before round)) (span_of_cut 0 h (suc (position h))) (and_from _ _ (same_number (suc (position h))) refl)
 
--- it waits
+-- the refresh is pending
 pub cut_waits : (round : ℕ) (h : History) → pending (after_cut round h) (position (after_cut round h)) ≡ Waiting 0
 cut_waits round h = cond-true (suc (position h) == suc (position h)) (Waiting 0) (pending h (suc (position h))) (same_number (suc (position h)))
 
@@ -58,7 +58,7 @@ last_of_rounds demo (suc round) b l =
     ∙ ap (λ o. later o (cond (in_span (span_before round) b) (Some (position (after_cut round h))) None)) (last_of_rounds demo round b below)
     ∙ cond-false (in_span (span_before round) b) (Some (position (after_cut round h))) None (and_right _ _ past)
 
--- so each bucket of the refresh's span is invalid, and they are one range
+-- so each bucket of the refresh's span is dirty, and they are one range
 pub one_dirty_range : (demo round : ℕ) → dirty_ranges 0 demo_view (after_cut round (after_parts demo round (history_after_rounds demo round))) (span_before round) ≡ span_before round ∷ []
 one_dirty_range demo round =
     let h = after_cut round (after_parts demo round (history_after_rounds demo round)) in

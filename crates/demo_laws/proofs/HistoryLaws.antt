@@ -1,4 +1,4 @@
--- What stands in the histories of a demonstration: the roster, and which rows were inserted.
+-- The contents of a demonstration's histories: the roster, and the rows that were inserted.
 use Rattle.std.proofs.Common.{◌≡◌, ℕ, zero, suc, ◌+◌, ◌*◌, ◌<◌, Bool, List, [], ◌∷◌, ◌++◌, refl, ap, ◌∙◌, arith}
 use Rattle.std.specs.List.{count_by}
 use Rattle.std.proofs.lemmas.Bool.{cond-true, lt-ltb}
@@ -22,7 +22,7 @@ pub rounds_next : (demo round : ℕ) → history_after_rounds demo (suc round) �
 unfolding history_after_rounds
 rounds_next demo round = refl
 
--- before the first stands what is made
+-- before the first round there are only the definitions
 pub no_round : (demo : ℕ) → history_after_rounds demo 0 ≡ after_view
 unfolding history_after_rounds
 no_round demo = refl
@@ -33,13 +33,13 @@ unfolding history_after_rounds
 roster_of_rounds demo zero = refl
 roster_of_rounds demo (suc round) = roster_of_rounds demo round
 
--- three events make what is named, and each round makes seven
+-- the definitions append three events, and each round appends seven
 pub position_of_rounds : (demo round : ℕ) → position (history_after_rounds demo round) ≡ 3 + 7 * round
 unfolding history_after_rounds
 position_of_rounds demo zero = refl
 position_of_rounds demo (suc round) = omega (arith, position_of_rounds demo round)
 
--- a call makes its event where there is room for it
+-- a call appends its event if the history isn't full
 pub made_below_end : {A : Type 0} (h : History) (e : Event) (a : A) → position h < last_position → act_of_event h e a ≡ makes e a
 made_below_end h e a below = cond-true (has_room h) (makes e a) (refuses (refusal history_full h 0)) (lt-ltb (position h) last_position below)
 
@@ -48,7 +48,7 @@ pub nothing_inserted : (demo : ℕ) → rows_inserted 0 (history_after_rounds de
 unfolding history_after_rounds
 nothing_inserted demo = refl
 
--- a commit's rows come to those that were inserted before
+-- a commit's rows are added to those that were inserted before
 pub count-insert : (test : Row → Bool) (h : History) (new : List Row) → count_by test (rows_inserted 0 (h ▸ Commit (Insert 0 new ∷ []))) ≡ count_by test (rows_inserted 0 h) + count_by test new
 count-insert test h new =
     count-append test (rows_inserted 0 h) (new ++ [])

@@ -31,13 +31,13 @@ use Rattle.demo_laws.proofs.NumberedLines.{insert_line_reads, late_line_reads, r
 use Rattle.demo_laws.proofs.Rows.{IsSmall}
 use Rattle.demo_laws.proofs.PassLaws.{refresh_passes, values_act, values_pass}
 
--- ---- a statement that nothing refuses
+-- ---- a statement that no check refuses
 
 -- the session takes its turn
 abbrev turn_of : ScriptState Places → Procedure (Turn Places) → LineResult Places
 turn_of s procedure = takes_turn s demo_session procedure
 
--- a statement with names that are as they should be, which asks for this action
+-- a statement with valid names, which asks for this action
 record Asks (r : Roster) (stmt : Stmt) (action : Action) : Type 0 where
   checked : (at : ℕ) → upper_read at r stmt ≡ NotUpper
   passes : (at : ℕ) → refusal_of at r stmt ≡ None
@@ -56,7 +56,7 @@ module _ (s : ScriptState Places) (p : Places) (bytes : ℕ) (stmt : Stmt) (acti
       ∙ ap (λ r. turn_of s (unless p r (acts p bytes s.history (action_of (roster s.history) stmt)))) (asks.passes (position s.history))
       ∙ ap (λ a. turn_of s (acts p bytes s.history a)) asks.asks
 
-  -- outside a block
+  -- the same outside a block
   statement_turn : p.block ≡ none → refusal_outside (kind_of stmt) ≡ None → turn_of s (passes_block p bytes stmt) ≡ turn_of s (acts p bytes s.history action)
   statement_turn outside fits =
       ap (λ b. turn_of s (unless p (block_refusal b (kind_of stmt)) (performs p bytes stmt))) outside
@@ -103,7 +103,7 @@ line_acts demo n line s p is finds here outside =
 
 -- ---- the lines
 
--- what is said, and what it is read as
+-- the text of a line, and the statement that it is read as
 is_statement : (demo : ℕ) (line : Line) → IsSaid (text_of demo line) → Reads (text_of demo line) (stmt_of demo line)
     → refusal_outside (kind_of (stmt_of demo line)) ≡ None → ((at : ℕ) → refusal_of at (roster_before line) (stmt_of demo line) ≡ None) → action_of (roster_before line) (stmt_of demo line) ≡ act_of demo line
     → IsItsStatement demo line

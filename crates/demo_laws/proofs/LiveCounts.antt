@@ -1,4 +1,4 @@
--- How many rows stand in the chunks that a query looks at.
+-- How many rows are in the chunks that a query reads.
 use Rattle.std.proofs.Common.{◌≡◌, ℕ, suc, ◌+◌, ◌%◌, ◌≤◌, Bool, true, false, not, ◌||◌, cond, List, [], ◌∷◌, map, filter, ℤ, pos, ◌+ℤ◌, ◌≤ℤ◌, ◌<ℤ◌, int_le, int_lt, sym, refl, ap, ◌∙◌, arith}
 use Rattle.std.specs.List.{count_by, list_any}
 use Rattle.std.specs.Ordering.{int_eq}
@@ -26,7 +26,7 @@ use Rattle.demo_laws.proofs.MarkLaws.{mark_of_rounds}
 use Rattle.demo_laws.proofs.RowCounts.{is_near, round_count, none_of_rounds}
 use Rattle.demo_laws.proofs.SpanLaws.{apart_below}
 
--- ---- some of the items that are kept
+-- ---- some of the items that a filter keeps
 
 module _ {X : Type 0} (test : X → Bool) (g : ℤ → X) (keeps : ℤ → Bool) where
   none_kept : (bs : List ℤ) → ((b : ℤ) → keeps b ≡ true → test (g b) ≡ false) → list_any test (map g (filter keeps bs)) ≡ false
@@ -57,7 +57,7 @@ module _ {X : Type 0} (test : X → Bool) (g : ℤ → X) (keeps : ℤ → Bool)
 -- ---- the live buckets
 
 module _ (h : History) (round : ℕ) (starts : Span) (marked : (b : ℤ) → is_below b (watermark 0 demo_view h) ≡ int_lt b (start_of round)) where
-  -- a chunk meets a live bucket
+  -- a chunk overlaps a live bucket
   abbrev pub meets_live : Span → Bool
   meets_live chunk = list_any (spans_meet chunk) (map (bucket_span demo_width) (live_buckets 0 demo_view h starts))
 
@@ -70,7 +70,7 @@ module _ (h : History) (round : ℕ) (starts : Span) (marked : (b : ℤ) → is_
       above : (b : ℤ) → int_lt b (start_of round) ≡ false → (start_before c +ℤ pos 5000) ≤ℤ b
       above b e = let at : start_of round ≤ℤ b = grind (arith, ints) in omega (arith, ints)
 
-  -- the chunk of the round does, where its begin is asked for
+  -- the chunk of the round does, if the query asks for its start
   pub meets_its_live : starts.lo ≤ℤ start_of round → start_of round <ℤ starts.hi → meets_live (chunk_at (start_of round)) ≡ true
   meets_its_live low high =
       let b = start_of round in
@@ -87,7 +87,8 @@ module _ (h : History) (round : ℕ) (starts : Span) (marked : (b : ℤ) → is_
 
 -- ---- the rows near them
 
--- where the chunk of the last round passes, and none of those before, the rows of that round that came in time do
+-- if the chunk of the last round passes, and none before does, the rows that pass are those of that round that came in
+-- time
 last_round_count : (near : Span → Bool) (demo round : ℕ) → ((c : ℕ) → c ≤ round → near (chunk_at (start_before c)) ≡ false) → near (chunk_at (start_of round)) ≡ true → count_by (is_near near) (rows_inserted 0 (history_after_rounds demo (suc round))) ≡ 490
 last_round_count near demo round none some =
     ap (λ h. count_by (is_near near) (rows_inserted 0 h)) (rounds_next demo round)
@@ -97,13 +98,13 @@ last_round_count near demo round none some =
     sums : {n : ℕ} (a b : Bool) → n ≡ 0 → a ≡ true → b ≡ false → n + cond a 490 0 + cond b 10 0 ≡ 490
     sums a b p q r = rw (q, r) (ap (λ m. m + 490 + 0) p)
 
--- a query of the aggregate reads the rows in chunks that meet a live bucket
+-- a query of the aggregate reads the rows in chunks that overlap a live bucket
 reads_live : (h : History) (starts : Span) → roster h ≡ demo_roster → reads_of_view 0 h starts (view_of (roster h) 0) ≡ rows_near (pos 5000) (rows_inserted 0 h) (map (bucket_span demo_width) (live_buckets 0 demo_view h starts))
 reads_live h starts e =
     ap (λ r. reads_of_view 0 h starts (view_of r 0)) e
     ∙ ap (λ r. rows_near_in (hyper_of r 0) (rows_inserted 0 h) (map (bucket_span demo_width) (live_buckets 0 demo_view h starts))) e
 
--- after a round
+-- a query after a round
 pub round_query_reads : (demo round : ℕ) (starts : Span) → starts.lo ≤ℤ start_of round → start_of round <ℤ starts.hi → reads_of_view 0 (history_after_rounds demo (suc round)) starts (view_of (roster (history_after_rounds demo (suc round))) 0) ≡ 490
 round_query_reads demo round starts low high =
     let h = history_after_rounds demo (suc round) in
@@ -111,7 +112,7 @@ round_query_reads demo round starts low high =
     reads_live h starts (roster_of_rounds demo (suc round))
     ∙ last_round_count (meets_live h round starts marked) demo round (meets_no_live h round starts marked) (meets_its_live h round starts marked low high)
 
--- and after the late row, whose chunk is below
+-- a query after the late row, whose chunk is below
 pub last_query_reads : (demo : ℕ) (starts : Span) → starts.lo ≤ℤ start_of 39 → start_of 39 <ℤ starts.hi → reads_of_view 0 (demo_history demo) starts (view_of (roster (demo_history demo)) 0) ≡ 490
 last_query_reads demo starts low high =
     let h = demo_history demo in

@@ -1,4 +1,4 @@
--- The watermark of a demonstration: after the refresh of a round it is where the times of that round begin.
+-- The watermark of a demonstration: after the refresh of a round it is the start of that round's times.
 use Rattle.std.proofs.Common.{◌≡◌, ℕ, zero, suc, ◌+◌, ◌*◌, Bool, true, false, ◌&&◌, ◌||◌, cond, ℤ, pos, ◌+ℤ◌, ◌-ℤ◌, ◌<ℤ◌, int_lt, Some, None, sym, refl, ap, ◌∙◌, arith}
 use Rattle.std.specs.List.{list_any}
 use Rattle.std.proofs.lemmas.Bool.{and_from, cond-true}
@@ -33,7 +33,7 @@ last_row_bucket demo round =
     ap (bucket_of demo_width) time
     ∙ sym (holds-one demo_width b (pos (10 * (500 * round + 499)) -ℤ pos 5000) demo_width_fits (is_bucket-multiple 100 1 (50 * round) b (omega arith) (omega (arith, ints))) (holds-from_parts demo_width b (pos (10 * (500 * round + 499)) -ℤ pos 5000) (omega (arith, ints)) (omega (arith, ints))))
 
--- so the times before end where its bucket does
+-- so the times before end at the end of its bucket
 last_row_ends : (demo round : ℕ) (b : ℤ) → int_lt b (start_of round) ≡ true → is_below b (end_of_row demo_view.fold (span_before round) (row_of demo round 499)) ≡ true
 last_row_ends demo round b e =
     let c = start_of round -ℤ pos 100 in
@@ -60,7 +60,7 @@ top_of_round demo round h b =
 
 -- ---- the watermark
 
--- what is below where a round begins is below where the next one does
+-- a number below the start of a round is below the start of the next one
 starts_rise : (round : ℕ) (b : ℤ) → (int_lt b (start_of round) || int_lt b (start_of (suc round))) ≡ int_lt b (start_of (suc round))
 starts_rise round b = by_cases (int_lt b (start_of round)) refl
   where
@@ -81,7 +81,7 @@ no_mark : (demo : ℕ) (b : ℤ) → is_below b (watermark 0 demo_view (history_
 unfolding history_after_rounds
 no_mark demo b = refl
 
--- a number is below the watermark where it is below the begin of the last round
+-- a number is below the watermark exactly if it is below the start of the last round
 pub mark_of_rounds : (demo round : ℕ) (b : ℤ) → is_below b (watermark 0 demo_view (history_after_rounds demo (suc round))) ≡ int_lt b (start_of round)
 mark_of_rounds demo zero b = mark_next demo 0 b ∙ ap (λ t. t || int_lt b (start_of 0)) (no_mark demo b)
 mark_of_rounds demo (suc round) b = mark_next demo (suc round) b ∙ ap (λ t. t || int_lt b (start_of (suc round))) (mark_of_rounds demo round b) ∙ starts_rise round b

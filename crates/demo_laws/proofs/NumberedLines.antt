@@ -18,9 +18,9 @@ use Rattle.demo_laws.proofs.ClosedLines.{Reads}
 use Rattle.policy_jobs.proofs.TokenLaws.{is_word, Comes, IsAt, behind_space, comes, ends_at, first_token, number_token}
 use Rattle.demo_laws.proofs.Rows.{IsSmall, RowComes, RowsCome, ValueComes, no_digit, one_row, row_comes, rows_come, rows_end, value_bytes, value_comes, value_stream}
 
--- ---- rows are inserted
+-- ---- inserts
 
--- the words in front of rows, and a stream behind them
+-- the words before rows, and a stream after them
 abbrev insert_stream : ℕ → ℕ → ℕ → ℕ → Stream → Stream
 insert_stream a b c d s =
     (record { at = a; token = word (codes "insert") }) then ((record { at = b; token = word (codes "into") })
@@ -34,7 +34,7 @@ insert_is_read a b c d e s rows rows-are = rw rows-are refl
 abbrev insert_text : List ℕ → List ℕ
 insert_text rest = codes "d: INSERT INTO m VALUES " ++ rest
 
--- the words come first, and then what is left
+-- the words come first, and then the rest
 record WordsCome (text rest : List ℕ) : Type 0 where
   a : ℕ
   b : ℕ
@@ -58,7 +58,7 @@ words_come rest =
     let four = comes text (codes " VALUES " ++ rest) (32 ∷ rest) three.end (word (codes "values")) three.left refl in
     words_by_tokens text rest (codes " INTO m VALUES " ++ rest) (codes " m VALUES " ++ rest) (codes " VALUES " ++ rest) one two three four
 
--- a first row, and others behind it
+-- a first row, and others after it
 rows_are_read : (text rest : List ℕ) (skip : ℕ) (values : List (Option ℤ)) (rows : List (List (Option ℤ))) (one : RowComes text skip values rest) (others : RowsCome (values ∷ []) text one.end rows)
     → list_parser CommaBetween row (stream text skip) ≡ Ok (values ∷ rows, ends others.end)
 unfolding list_parser bind
@@ -73,7 +73,7 @@ insert_reads rest last values rows words one others = record {
       (rows_are_read (insert_text rest) last words.end values rows one others);
 }
 
--- one row alone
+-- only one row
 late_reads : (time : ℤ) (device amount : ℕ) → mag time < 2 ^ 63 → device < 2 ^ 63 → amount < 2 ^ 63
     → Reads (insert_text (values_text time device amount)) (stmts.Insert (codes "m") None (values_with time device amount ∷ []))
 late_reads time device amount t v w =
@@ -95,9 +95,9 @@ part_reads demo round first n small =
     insert_reads rest others (values_at demo round first) (map (values_at demo round) (range_with_len (first + 1) n)) words one
     (rows_come demo round (insert_text rest) n (first + 1) one.end (values_at demo round first ∷ []) (λ place low high. small place (omega arith) (omega arith)) one.left)
 
--- ---- the aggregate is refreshed
+-- ---- refreshes
 
--- the words in front of the bounds, and a stream behind them
+-- the words before the bounds, and a stream after them
 abbrev call_stream : ℕ → ℕ → ℕ → ℕ → ℕ → Stream → Stream
 call_stream a b c d e s =
     (record { at = a; token = word (codes "call") }) then ((record { at = b; token = word (codes "refresh_continuous_aggregate") })
@@ -113,7 +113,7 @@ refresh_is_read : (a b c d e f g h i p : ℕ) (start : ℤ) (end_at : ℕ) → i
 unfolding statement form bind takes token_parser one call_rest window value number semicolon end
 refresh_is_read a b c d e f g h i p start end_at s t = rw (s, t) refl
 
--- the words come first, and then what is left
+-- the words come first, and then the rest
 record CallComes (text rest : List ℕ) : Type 0 where
   a : ℕ
   b : ℕ

@@ -1,4 +1,4 @@
--- No statement of a demonstration is refused, and each asks for its action.
+-- No check refuses a statement of a demonstration, and each asks for its action.
 use lib.Signed.{mag}
 use Rattle.std.proofs.Common.{◌≡◌, ◌∙◌, refl, ap, ℕ, zero, suc, ◌+◌, ◌-◌, ◌*◌, ◌%◌, ◌<◌, ◌≤◌, ◌^◌, ℤ, pos, negsuc, ◌-ℤ◌, true, ◌∷◌, length, map, Some, None, codes, arith}
 use Rattle.std.specs.List.{range_with_len}
@@ -38,7 +38,7 @@ module _ (demo round at count : ℕ) where
       ap (λ r. r ⊳ rows_refusal at (shape_of 0 demo_table.cols None count) (k + 1) (map (values_at demo round) (range_with_len (first + 1) n))) here
       ∙ rows_pass n (first + 1) (k + 1) (omega arith) (λ place low high. small place (omega arith) (omega arith))
 
--- the rows that values give
+-- the rows that values stand for
 rows_given : (demo round n first count : ℕ)
     → map (row_by (shape_of 0 demo_table.cols None count).time (shape_of 0 demo_table.cols None count).others) (map (values_at demo round) (range_with_len first n))
     ≡ map (row_of demo round) (range_with_len first n)

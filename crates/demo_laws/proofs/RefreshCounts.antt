@@ -1,4 +1,4 @@
--- How many rows stand in the chunk that a refresh looks at.
+-- How many rows are in the chunk that a refresh reads.
 use Rattle.std.proofs.Common.{◌≡◌, ℕ, zero, suc, ◌+◌, ◌<◌, Bool, true, false, ◌||◌, cond, [], ◌∷◌, pos, ap, ◌∙◌, arith}
 use Rattle.std.specs.List.{count_by}
 use Rattle.std.proofs.lemmas.Int.{ints}
@@ -12,7 +12,7 @@ use Rattle.demo_laws.proofs.HistoryLaws.{rounds_next, nothing_inserted}
 use Rattle.demo_laws.proofs.RowCounts.{is_near, round_count, none_of_rounds}
 use Rattle.demo_laws.proofs.SpanLaws.{apart_below, apart_above}
 
--- a chunk meets the span of a round's refresh
+-- a chunk overlaps the span of a round's refresh
 abbrev pub meets_before : ℕ → Span → Bool
 meets_before round chunk = spans_meet chunk (span_before round) || false
 

@@ -26,13 +26,13 @@ use Rattle.demo_laws.proofs.CutLaws.{cut_waits, one_dirty_range, span_of_cut_is,
 use Rattle.demo_laws.proofs.HistoryLaws.{made_below_end, rounds_next, roster_of_rounds}
 use Rattle.demo_laws.proofs.RefreshCounts.{refresh_count}
 
--- ---- a refresh whose calls make their events
+-- ---- a refresh whose calls append their events
 
 module _ (p : Places) (h : History) (span : Span) (min : ℤ) (outside : p.block ≡ none) where
   abbrev cut : History
   cut = h ▸ Cut 0 span
 
-  -- from its snapshot on
+  -- the refresh from its snapshot on
   finish_passes : (t : Taken) → act_of_finish (position cut) t.at cut ≡ makes (Built (position cut) t.at) (suc (position cut)) → Passes (after_snapshot (cuts (position cut) p) (position cut) span min (Ok t)) cut (cut ▸ Built (position cut) t.at) t.reads
   finish_passes t finishes =
       let says : Result ℕ Refusal → Turn Places = turn_of_refresh (cuts (position cut) p) (position cut) span min t in
@@ -40,7 +40,7 @@ module _ (p : Places) (h : History) (span : Span) (min : ℤ) (outside : p.block
       let passes : Goal (act_of_finish (position cut) t.at cut) = subst Goal (sym finishes) (record { after = refl; reads = refl; fault = refl; outside = outside }) in
       record { after = passes.after; reads = passes.reads; fault = passes.fault; outside = passes.outside }
 
-  -- and from its cut on
+  -- the refresh from its cut on
   refresh_passes : (act : Act CutDone) (t : Taken) → act ≡ makes (Cut 0 span) (CutMade (position cut) span) → snapshot_taken (position cut) cut ≡ Ok t → act_of_finish (position cut) t.at cut ≡ makes (Built (position cut) t.at) (suc (position cut)) → Passes (followed_by (tries_at h act) (goes_on p min)) h (cut ▸ Built (position cut) t.at) t.reads
   refresh_passes act t cuts_it takes finishes =
       let After : Result Taken Refusal → Type 0 = λ r. Passes (after_snapshot (cuts (position cut) p) (position cut) span min r) cut (cut ▸ Built (position cut) t.at) t.reads in
@@ -48,7 +48,7 @@ module _ (p : Places) (h : History) (span : Span) (min : ℤ) (outside : p.block
       let Goal : Act CutDone → Type 0 = λ a. Passes (followed_by (tries_at h a) (goes_on p min)) h (cut ▸ Built (position cut) t.at) t.reads in
       subst Goal (sym cuts_it) (record { after = passes.after; reads = passes.reads; fault = passes.fault; outside = passes.outside })
 
--- ---- that of a round
+-- ---- the refresh of a round
 
 module _ (demo round : ℕ) (room : position (history_after_rounds demo (suc round)) ≤ last_position) where
   abbrev before : History
@@ -57,18 +57,18 @@ module _ (demo round : ℕ) (room : position (history_after_rounds demo (suc rou
   abbrev at_cut : History
   at_cut = after_cut round before
 
-  -- there is room for the round's last two events
+  -- the history can hold the round's last two events
   room_left : suc (suc (position before)) ≤ last_position
   room_left = omega (arith, room, ap position (rounds_next demo round))
 
-  -- the cut is made over the times of the round before
+  -- the cut is over the times of the round before
   cutting_is : act_of_cut 0 (Some (start_before round)) (Some (start_of round)) before ≡ makes (Cut 0 (span_before round)) (CutMade (position at_cut) (span_before round))
   cutting_is =
       ap (λ r. cut_of_view 0 (Some (start_before round)) (Some (start_of round)) before (view_of r 0)) (roster_of_rounds demo round)
       ∙ ap (λ s. cut_over 0 before (whole_or NoBucket s)) (window_is round)
       ∙ made_below_end before (Cut 0 (span_before round)) (CutMade (position at_cut) (span_before round)) (omega (arith, room_left))
 
-  -- its job looks at the rows in the one chunk
+  -- its job reads the rows in the one chunk
   job_is : job_reads at_cut (position at_cut) ≡ refresh_reads round
   job_is =
       ap (job_reads_of at_cut (position at_cut)) (cut_waits round before)

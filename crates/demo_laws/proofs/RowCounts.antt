@@ -24,7 +24,7 @@ module _ (near : Span → Bool) where
   part_in_time demo round first l =
       count-range is_near (row_of demo round) (near (chunk_at (start_of round))) first 100 (λ k m h. ap near (chunk_in_time demo round k (omega arith)))
 
-  -- those of the last part, of which ten come late
+  -- the rows of the last part, of which ten come late
   part_with_late : (demo round : ℕ) → count_by is_near (rows_of demo round 400 100) ≡ cond (near (chunk_at (start_of round))) 90 0 + cond (near (chunk_at (start_before round))) 10 0
   unfolding rows_of
   part_with_late demo round =
@@ -52,7 +52,7 @@ module _ (near : Span → Bool) where
       added k l m n o all false true p q r s t = omega arith
       added k l m n o all false false p q r s t = omega arith
 
-  -- where no chunk of the rounds before passes, none of their rows does
+  -- if no chunk of the rounds before passes, none of their rows does
   pub none_of_rounds : (demo round : ℕ) → ((c : ℕ) → c ≤ round → near (chunk_at (start_before c)) ≡ false) → count_by is_near (rows_inserted 0 (history_after_rounds demo round)) ≡ 0
   none_of_rounds demo zero none = ap (count_by is_near) (nothing_inserted demo)
   none_of_rounds demo (suc round) none =

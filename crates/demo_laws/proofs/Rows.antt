@@ -18,9 +18,9 @@ use Rattle.demo_script.specs.Demo.{number_of, row_text, time_of, value_of, value
 use Rattle.demo_laws.specs.Statements.{values_at, values_with}
 use Rattle.policy_jobs.proofs.TokenLaws.{is_word, Comes, IsAt, first_token, behind_space, closing, comes, comma, decimal_token, ends_at, number_token, opening}
 
--- ---- a value behind a comma
+-- ---- a value after a comma
 
--- its text, with a rest behind it
+-- its text, and a rest after it
 unfoldable pub value_bytes : ℕ → List ℕ → List ℕ
 value_bytes n rest = 44 ∷ 32 ∷ (decimal n ++ rest)
 
@@ -65,7 +65,7 @@ row_reads : (a b c d e f g : ℕ) (time : ℤ) (device amount : ℕ) (s : Stream
 unfolding row list_parser more takes bind value number token_parser
 row_reads a b c d e f g time device amount s t v w = rw (t, v, w) refl
 
--- a row comes next, and these bytes are left behind it
+-- a row comes next, and these bytes are left after it
 pub record RowComes (text : List ℕ) (skip : ℕ) (values : List (Option ℤ)) (rest : List ℕ) : Type 0 where
   pub end : ℕ
   pub is : row (stream text skip) ≡ Ok (values, stream text end)
@@ -105,9 +105,9 @@ row_comes text rest skip time device amount t v w at =
     let closes = comes text (41 ∷ rest) rest second.end (mark Close) second.left (closing rest) in
     row_by_tokens text rest (signed_decimal time ++ d_rest) d_rest v_rest skip time device amount (is_word time t) (is_word (pos device) v) (is_word (pos amount) w) opens times first second closes
 
--- ---- rows that follow one another
+-- ---- consecutive rows
 
--- one row more behind a comma
+-- one more row after a comma
 more_row : (front : List (List (Option ℤ))) (at : ℕ) (s left : Stream) (values : List (Option ℤ)) → row s ≡ Ok (values, left)
     → more (parts CommaBetween) row front ((record { at = at; token = mark Comma }) then s) ≡ more (parts CommaBetween) row (front ++ values ∷ []) left
 more_row front at s left values reads =
@@ -142,7 +142,7 @@ unfolding row_text
 one_row demo round place text rest skip small at =
     row_comes text rest skip (time_of (number_of round place) place) (number_of round place % 8) (value_of demo (number_of round place)) (omega (arith, small.time)) small.device small.value at
 
--- at the end of the text there are none
+-- at the end of the text no rows follow
 pub rows_end : (front : List (List (Option ℤ))) (text : List ℕ) (skip : ℕ) → IsAt text skip [] → RowsCome front text skip []
 rows_end front text skip at = record {
   end = skip + 1;
@@ -152,7 +152,7 @@ rows_end front text skip at = record {
 }
 
 module _ (demo round : ℕ) (text : List ℕ) where
-  -- behind a row
+  -- the rows after a row
   pub rows_come : (n first skip : ℕ) (front : List (List (Option ℤ))) → ((place : ℕ) → first ≤ place → place < first + n → IsSmall demo round place)
       → IsAt text skip (flat_map (λ k. codes ", " ++ row_text demo round k) (range_with_len first n)) → RowsCome front text skip (map (values_at demo round) (range_with_len first n))
   rows_come zero first skip front small at = rows_end front text skip at

@@ -24,11 +24,12 @@ use Rattle.demo_laws.proofs.HistoryLaws.{no_round, position_of_rounds, roster_of
 use Rattle.demo_laws.proofs.RefreshSteps.{refreshes_read_a_chunk}
 use Rattle.demo_laws.proofs.TurnLaws.{definitions_read_nothing, inserts_read_nothing, queries_read_a_round}
 
--- the session of a demonstration has these places, at a history
+-- a script at a history, in which the demonstration's session has this entry
 abbrev state_at : History → List (List ℕ × Places) → ScriptState Places
 state_at h sessions = record { history = h; sessions = sessions }
 
--- lines that were executed from a script state on have looked at so many rows, without a FAULT, and have left this history, with the session outside a block
+-- lines executed from a script state on have read this many rows, without a FAULT, and have left this history. The
+-- session is outside a block
 record Reached (s : ScriptState Places) (n : ℕ) (lines : List (List ℕ)) (new : History) (read : ℕ) : Type 0 where
   pub reads : reads_in session_semantics s n lines ≡ read
   pub fault : is_refused session_semantics s n lines ≡ false
@@ -38,14 +39,14 @@ record Reached (s : ScriptState Places) (n : ℕ) (lines : List (List ℕ)) (new
   pub session : HasPlaces places sessions
   pub outside : places.block ≡ none
 
--- whatever the number of the first line, and whatever else the session carries
+-- the same for any number of the first line, and whatever else the session carries
 abbrev Reaches : History → List (List ℕ) → History → ℕ → Type 0
 Reaches h lines new read = (n : ℕ) (sessions : List (List ℕ × Places)) (p : Places) → HasPlaces p sessions → p.block ≡ none → Reached (state_at h sessions) n lines new read
 
 no_line : (h : History) → Reaches h [] h 0
 no_line h n sessions p has outside = record { reads = refl; fault = refl; sessions = sessions; places = p; state = refl; session = has; outside = outside }
 
--- the session keeps its place among the sessions
+-- the session keeps its entry among the sessions
 has_still : (p q : Places) (sessions : List (List ℕ × Places)) → HasPlaces p sessions → HasPlaces q (with_places demo_session q sessions)
 has_still p q sessions has =
     ⊎_elim
@@ -53,7 +54,7 @@ has_still p q sessions has =
     (λ known. inr (ap (with_places demo_session q) known))
     has
 
--- how many rows so many rounds look at, and what comes after them
+-- how many rows the rounds and what follows them read
 unfoldable rounds_read : ℕ → ℕ → ℕ → ℕ
 rounds_read first zero more = more
 rounds_read first (suc count) more = refresh_reads first + (490 + rounds_read (first + 1) count more)
@@ -86,7 +87,7 @@ module _ (demo : ℕ) where
         outside = reached.outside;
       }
 
-  -- one that looks at no row
+  -- a line that reads no row, and then others
   quiet_first : (line : Line) (h mid new : History) (lines : List (List ℕ)) (more : ℕ) → IsInRound line → roster h ≡ roster_before line → PerformsAction h (act_of demo line) mid 0 → Reaches mid lines new more → Reaches h (text_of demo line ∷ lines) new more
   quiet_first line h mid new lines more within found does rest =
       subst (λ m. Reaches h (text_of demo line ∷ lines) new m) (zero-add more) (line_first line h mid new lines 0 more within found does rest)

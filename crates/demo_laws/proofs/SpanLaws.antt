@@ -1,4 +1,4 @@
--- Spans that are apart, the window of whole buckets, and the range that all buckets of a span are.
+-- Disjoint spans, the window of whole buckets, and the range of all buckets of a span.
 use Rattle.std.proofs.Common.{◌≡◌, Bool, true, false, ◌&&◌, ◌||◌, [], ◌∷◌, ℤ, ◌≤ℤ◌, ◌<ℤ◌, int_le, int_lt, Some, None, sym, refl, ap, ◌∙◌, arith}
 use Rattle.std.specs.Int.{int_max}
 use Rattle.std.proofs.lemmas.Bool.{and_from, and_left, and_right, cond-true}
@@ -17,7 +17,7 @@ use Rattle.ts_model.specs.Reads.{spans_meet}
 use Rattle.ts_model.proofs.RangeLaws.{ranges_are_maximal}
 use Rattle.ts_model.proofs.SameRanges.{one_list_of_ranges}
 
--- ---- spans apart
+-- ---- disjoint spans
 
 not_less : (x y : ℤ) → y ≤ℤ x → int_lt x y ≡ false
 not_less x y l = grind (arith, ints)
@@ -30,7 +30,7 @@ apart_above a b l = and_left _ _ (and_left _ _ (and_left _ _ (not_less a.lo b.hi
 
 -- ---- windows
 
--- a span that has a number, by its ends
+-- a span with at least one number, by its ends
 nonempty-is : (lo hi from to : ℤ) → from ≡ lo → to ≡ hi → lo <ℤ hi → nonempty_span from to ≡ Some (record { lo = lo; hi = hi })
 nonempty-is lo hi from to p q some =
     let less : int_lt lo hi ≡ true = grind (arith, ints) in
@@ -45,7 +45,7 @@ inscribed-whole w lo hi width starts ends first some =
 
 -- ---- ranges
 
--- where each bucket of a span passes, the span is the one range
+-- if each bucket of a span passes, the span is the one range
 pub one_range : (w : Width) (span : Span) (test : ℤ → Bool) → IsWidth w → is_bucket w span.lo ≡ true → is_bucket w span.hi ≡ true → first_of w ≤ℤ span.lo → span.lo <ℤ span.hi → ((b : ℤ) → in_span span b ≡ true → test b ≡ true) → ranges w test (buckets_in w span) ≡ span ∷ []
 one_range w span test width starts ends first some passes =
     one_list_of_ranges w span test (ranges w test (buckets_in w span)) (span ∷ []) (ranges_are_maximal w span test width)

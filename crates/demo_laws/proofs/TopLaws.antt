@@ -1,4 +1,4 @@
--- The greatest end of a bucket that holds a row, by what is below it.
+-- The greatest end of a bucket that has a row, by the numbers below it.
 use Rattle.std.proofs.Common.{◌≡◌, Bool, true, false, ◌&&◌, ◌||◌, cond, List, [], ◌∷◌, ℤ, ◌+ℤ◌, ◌≤ℤ◌, ◌<ℤ◌, int_lt, Option, Some, None, sym, refl, ap, ◌∙◌, arith}
 use Rattle.std.specs.List.{list_any}
 use Rattle.std.specs.Ordering.{is_gt}
@@ -21,7 +21,7 @@ use Rattle.ts_schema.proofs.Cases.{or_swapped}
 
 -- ---- some row
 
--- what each item that passes gives is given where some item passes
+-- P is true if some item passes, and follows from each that does
 pub any_gives : {X : Type 0} (P : Type 0) (test : X → Bool) (xs : List X) → ((x : X) → test x ≡ true → P) → list_any test xs ≡ true → P
 any_gives P test [] gives e = absurd (true≢false (sym e))
 any_gives P test (x ∷ xs) gives e =
@@ -30,7 +30,7 @@ any_gives P test (x ∷ xs) gives e =
       | false ↦ λ _ rest. any_gives P test xs gives rest
     ] refl e
 
--- some row of those with one more in its place passes where it or another does
+-- in a list with one more row in its place, a row passes if that one or another does
 any-with_row : (test : Row → Bool) (row : Row) (xs : List Row) → list_any test (with_row row xs) ≡ (test row || list_any test xs)
 any-with_row test row [] = refl
 any-with_row test row (x ∷ xs) =
@@ -51,18 +51,18 @@ any-with_rows test (row ∷ new) rows e =
 
 -- ---- the top of a span
 
--- the end of the bucket of a row, where it starts in the span and the row passes every test
+-- the end of the bucket of a row, if it starts in the span and the row matches every test
 abbrev pub end_of_row : Fold → Span → Row → Option ℤ
 end_of_row fold span row = cond (in_span span (bucket_of fold.width row.at) && passes_all row fold.tests) (Some (bucket_of fold.width row.at +ℤ fold.width.step)) None
 
--- a number is below the top where it is below the end of some row
+-- a number is below the top if it is below the end of some row's bucket
 pub is_below-top : (fold : Fold) (span : Span) (b : ℤ) (rows : List Row) → is_below b (top_in fold span rows) ≡ list_any (λ row. is_below b (end_of_row fold span row)) rows
 is_below-top fold span b [] = refl
 is_below-top fold span b (row ∷ rows) =
     is_below-greater b (end_of_row fold span row) (top_in fold span rows)
     ∙ ap (λ t. is_below b (end_of_row fold span row) || t) (is_below-top fold span b rows)
 
--- no row ends after a span of whole buckets
+-- no bucket of a row ends after a span of whole buckets
 pub end_within : (fold : Fold) (span : Span) (b : ℤ) (row : Row) → IsWidth fold.width → is_bucket fold.width span.hi ≡ true → is_below b (end_of_row fold span row) ≡ true → int_lt b span.hi ≡ true
 end_within fold span b row width whole e = by_cases (in_span span (bucket_of fold.width row.at) && passes_all row fold.tests) refl e
   where
@@ -73,7 +73,8 @@ end_within fold span b row width whole e = by_cases (in_span span (bucket_of fol
         grind (arith, ints)
     by_cases false held below = absurd (true≢false (sym below))
 
--- so a number is below the top of a span exactly where it is below the span's end, where the last bucket of the span holds a row that passes
+-- if the last bucket of the span has a row that matches, a number is below the top exactly if it is below the span's
+-- end
 pub is_below-full : (fold : Fold) (span : Span) (b : ℤ) (rows : List Row) → IsWidth fold.width → is_bucket fold.width span.hi ≡ true → (int_lt b span.hi ≡ true → list_any (λ row. is_below b (end_of_row fold span row)) rows ≡ true) → is_below b (top_in fold span rows) ≡ int_lt b span.hi
 is_below-full fold span b rows width whole reached = is_below-top fold span b rows ∙ by_cases (list_any (λ row. is_below b (end_of_row fold span row)) rows) (int_lt b span.hi) refl refl
   where

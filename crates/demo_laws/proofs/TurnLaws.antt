@@ -1,4 +1,4 @@
--- The effect of the lines that create what they name, insert or query.
+-- The effect of the lines that create tables and aggregates, insert or query.
 use Rattle.std.proofs.Common.{◌≡◌, ℕ, suc, ◌<◌, [], ◌∷◌, ◌≤ℤ◌, ◌<ℤ◌, sym, refl, subst, arith}
 use Rattle.std.proofs.lemmas.Int.{ints}
 use Rattle.ts_model.specs.declared.events.Event.TheVariants.{Commit}
@@ -49,7 +49,7 @@ asks h read e p bytes outside =
     let Reads : Block → Type 0 = λ block. reads_of_view 0 (shown_in block h) (starts_of []) (view_of (roster (shown_in block h)) 0) ≡ read in
     record { after = refl; reads = subst Reads (sym outside) e; fault = refl; outside = outside }
 
--- the begin of a round is asked for
+-- the query asks for the start of a round
 asked_from : (round : ℕ) → (starts_of []).lo ≤ℤ start_of round
 asked_from round = omega (arith, ints)
 

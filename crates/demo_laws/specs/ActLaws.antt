@@ -1,4 +1,4 @@
--- The laws: each line of a demonstration is its statement, which is not refused, and does its action.
+-- The laws: each line of a demonstration is its statement, which no check refuses, and does its action.
 use Rattle.std.specs.Prelude.{◌≡◌, ℕ, ◌≤◌, ◌⊎◌, List, [], ◌∷◌, length, codes, None, Ok}
 use Rattle.ts_model.specs.Roster.{roster}
 use Rattle.stmt_syntax.specs.Limits.{longest_line}
@@ -20,8 +20,8 @@ demo_session = codes "d"
 
 -- ---- what lines are
 
--- a line is what the session says, with no comment, and is read as the line's statement. Over the roster that it finds,
--- nothing refuses that outside a block, and it asks for the line's action
+-- a line belongs to the session, has no comment, and is read as the line's statement. Over the roster that it finds, no
+-- check refuses the statement outside a block, and it asks for the line's action
 pub record IsItsStatement (demo : ℕ) (line : Line) : Type 0 where
   pub kind : line_kind (text_of demo line) ≡ Stmt 1 2 (length (text_of demo line))
   pub session : session_name (text_of demo line) 1 2 ≡ demo_session
@@ -32,17 +32,17 @@ pub record IsItsStatement (demo : ℕ) (line : Line) : Type 0 where
   pub passes : (pos : ℕ) → refusal_of pos (roster_before line) (stmt_of demo line) ≡ None
   pub asks : action_of (roster_before line) (stmt_of demo line) ≡ act_of demo line
 
--- so is each line
+-- the same for each line
 abbrev pub LinesAreStatements : Type 0
 LinesAreStatements = (demo : ℕ) (line : Line) → IsInRound line → IsItsStatement demo line
 
 -- ---- what lines do
 
--- it has these places: it has not appeared yet, or has appeared alone
+-- the session has this state: it has not appeared yet, or only it has appeared
 abbrev pub HasPlaces : Places → List (List ℕ × Places) → Type 0
 HasPlaces p sessions = ((sessions ≡ []) × (p ≡ no_places)) ⊎ (sessions ≡ (demo_session, p) ∷ [])
 
--- outside a block, over the roster that it is meant for, a line does its action, whatever its number
+-- outside a block, over the roster that the line needs, a line does its action, whatever its number
 abbrev pub LinesAct : Type 0
 LinesAct = (demo n : ℕ) (line : Line) (s : ScriptState Places) (p : Places)
     → IsInRound line → roster s.history ≡ roster_before line → HasPlaces p s.sessions → p.block ≡ none

@@ -15,7 +15,7 @@ use Rattle.stmt_check.specs.declared.actions.Action.{Action}
 use Rattle.stmt_check.specs.declared.actions.Action.TheVariants as actions
 use Rattle.demo_script.specs.Demo.{number_of, value_of, time_of}
 
--- ---- what is made
+-- ---- tables and aggregates
 
 -- the table
 abbrev pub demo_table : TableDef
@@ -74,24 +74,24 @@ abbrev pub row_of : ℕ → ℕ → ℕ → Row
 row_of demo round place =
     row_with (time_of (number_of round place) place) (number_of round place % 8) (value_of demo (number_of round place))
 
--- rows of a round that follow one another
+-- consecutive rows of a round
 unfoldable pub rows_of : ℕ → ℕ → ℕ → ℕ → List Row
 rows_of demo round first count = map (row_of demo round) (range_with_len first count)
 
 -- ---- actions
 
--- a part of a round's rows is inserted
+-- inserts a part of a round's rows
 abbrev pub insert_act : ℕ → ℕ → ℕ → Action
 insert_act demo round part = actions.Change (ops.Insert 0 (rows_of demo round (100 * part) 100))
 
--- the aggregate is refreshed over the times of the round before
+-- refreshes the aggregate over the times of the round before
 abbrev pub refresh_act : ℕ → Action
 refresh_act round = actions.Refresh 0 (Some (pos (5000 * round) -ℤ pos 5000)) (Some (pos (5000 * round)))
 
--- it is asked
+-- queries the aggregate
 abbrev pub answer_act : Action
 answer_act = actions.Ask (queries.Aggregate 0 (starts_of []))
 
--- a row comes late
+-- inserts a late row
 abbrev pub late_act : ℕ → Action
 late_act demo = actions.Change (ops.Insert 0 (row_with (pos 1000) 0 (demo % 1000) ∷ []))

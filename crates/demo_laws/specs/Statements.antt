@@ -20,13 +20,13 @@ use Rattle.demo_laws.specs.Acts.{demo_table, demo_hyper, demo_view, roster_of_ta
 abbrev pub values_with : ℤ → ℕ → ℕ → List (Option ℤ)
 values_with time device value = Some time ∷ Some (pos device) ∷ Some (pos value) ∷ []
 
--- those of the row at a place of a round
+-- the values of the row at a place of a round
 abbrev pub values_at : ℕ → ℕ → ℕ → List (Option ℤ)
 values_at demo round place =
     let number = number_of round place in
     values_with (time_of number place) (number % 8) (value_of demo number)
 
--- rows of a round that follow one another
+-- the values of consecutive rows of a round
 unfoldable pub values_of : ℕ → ℕ → ℕ → ℕ → List (List (Option ℤ))
 values_of demo round first count = map (values_at demo round) (range_with_len first count)
 

@@ -1,12 +1,12 @@
 //! Laws of the lines of a demonstration. Each is the clause of a function that does nothing.
 ghost use Rattle.demo_laws.specs.ActLaws.{LinesAct, LinesAreStatements};
 
-/// Each line of a demonstration is the intended statement, and nothing refuses it.
+/// States the law that each line of a demonstration is the intended statement, and that no check refuses it.
 pub fn lines_are_statements()
     ensures { LinesAreStatements }
 {}
 
-/// Each line of a demonstration does its action.
+/// States the law that each line of a demonstration does its action.
 pub fn lines_act()
     ensures { LinesAct }
 {}

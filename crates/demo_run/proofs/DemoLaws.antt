@@ -1,4 +1,4 @@
--- All demonstrations look at the same number of stored rows, and no reply to one is a FAULT.
+-- All demonstrations read the same number of stored rows, and no reply to one is a FAULT.
 use Rattle.std.proofs.Common.{◌≡◌, ℕ, false, ap}
 use Rattle.ts_schema.specs.Counts.{raised_by}
 use Rattle.demo_laws.proofs.ScriptLaws.{demonstrations_read_the_same}

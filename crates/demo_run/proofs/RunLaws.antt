@@ -11,7 +11,7 @@ use Rattle.script_run.specs.declared.ends.RunEnd.{RunEnd}
 use Rattle.script_run.specs.declared.ends.RunEnd.TheVariants.{Done, Refused, ReadFault, WriteFault, DiskFault, NoMemory, InputLong}
 use Rattle.demo_run.specs.Runs.{RanLines, is_whole}
 
--- a file without a byte represents the empty history
+-- an empty file represents the empty history
 pub empty_stands : Stands [] start
 empty_stands = record { holds = inl (omega arith, refl); sound = record { allowed = refl; formed = tt } }
 

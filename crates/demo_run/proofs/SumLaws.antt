@@ -1,4 +1,4 @@
--- The rows that a table shows are the rows that it has.
+-- The rows that a table shows are all its rows.
 use Rattle.std.proofs.Common.{◌≡◌, ◌∙◌, refl, sym, ap, subst, true, List, [], ◌∷◌, filter, length, Option, None, Some, arith}
 use Rattle.std.specs.List.{list_all}
 use Rattle.std.specs.Option.{option_and_then}
@@ -20,7 +20,7 @@ use Rattle.ts_model.proofs.FitLaws.{rows_fit_tables}
 use Rattle.ts_model.proofs.HistoryLaws.{prefix_end}
 use Rattle.demo_run.specs.Sums.{all_rows}
 
--- each row passes no test
+-- each row matches an empty list of tests
 all_pass : (xs : List Row) → filter (λ row. passes_all row []) xs ≡ xs
 all_pass [] = refl
 all_pass (x ∷ xs) = ap (λ rest. x ∷ rest) (all_pass xs)

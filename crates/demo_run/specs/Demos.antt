@@ -16,7 +16,7 @@ history_of_demo number = history_of session_semantics start (demo_lines number)
 abbrev pub reads_of_demo : ℕ → ℕ
 reads_of_demo number = raised_by (reads_of session_semantics start (demo_lines number)) 0
 
--- one of the replies to them is a FAULT
+-- whether one of the replies to them is a FAULT
 abbrev pub is_refused_demo : ℕ → Bool
 is_refused_demo number = has_fault session_semantics start (demo_lines number)
 

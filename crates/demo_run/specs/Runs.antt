@@ -7,13 +7,13 @@ use Rattle.script_run.specs.Runs.{history_of, reads_of}
 use Rattle.script_run.specs.declared.ends.RunEnd.{RunEnd}
 use Rattle.script_run.specs.declared.ends.RunEnd.TheVariants.{Done, Refused}
 
--- a run that ended so was run to its end
+-- a run with this end was run to the end of its input
 abbrev pub is_whole : RunEnd → Bool
 is_whole Done = true
 is_whole Refused = true
 is_whole other = false
 
--- the lines of a script led from one history to another, and read so many stored rows
+-- the lines of a script led from one history to another, and read this many stored rows
 pub record RanLines (h : History) (lines : List (List ℕ)) (read : ℕ) (new : History) : Type 0 where
   pub history : new ≡ history_of session_semantics h lines
   pub reads : read ≡ raised_by (reads_of session_semantics h lines) 0

@@ -25,7 +25,7 @@ all_rows = Rows 0 []
 abbrev pub every_start : Span
 every_start = record { lo = least; hi = greatest }
 
--- all that the first aggregate shows
+-- every bucket that the first aggregate shows
 abbrev pub all_buckets : Query
 all_buckets = Aggregate 0 every_start
 
@@ -53,7 +53,7 @@ abbrev pub first_start : Option ViewDef → ℤ
 first_start None = pos 0
 first_start (Some def) = first_of def.fold.width
 
--- the summary of a demonstration whose script has led to a history and read so many stored rows
+-- the summary of a demonstration whose script has led to a history and read this many stored rows
 abbrev pub summary_of : ℕ → History → ℕ → Summary
 summary_of number h reads = record {
   number = number;

@@ -23,8 +23,8 @@ pub struct Demonstration {
     pub reads: u64,
 }
 
-/// Runs the script of the demonstration with a number on a store in memory that starts empty, and summarizes what
-/// the store then contains. For every number, no reply to the script is a FAULT, and the script reads the same
+/// Runs the script of the demonstration with a number, and summarizes the contents of the store after it. The store is
+/// in memory and starts empty. For every number, no reply to the script is a FAULT, and the script reads the same
 /// number of stored rows.
 #[tactic(auto, using(crate::proofs::DemoLaws::reads_alike))]
 pub fn demo<R: Threads + Sync>(

@@ -20,7 +20,7 @@ use ts_sessions::Session;
 use ts_store::{Started, Store};
 use txn_journal::Append;
 
-/// What is counted: the stored rows that answers and refreshes look at.
+/// The counter of stored rows that answers and refreshes read.
 #[derive(Drop)]
 struct Reads;
 
@@ -93,7 +93,7 @@ fn run_source<R: Threads + Sync, S: Source, K: Sink, D: Disk>(
     Ok(steps.count())
 }
 
-/// Whether a script was run to its end. A source and a sink in memory only fail if memory runs out.
+/// Whether a script was run to its end. A source and a sink in memory fail only if memory runs out.
 fn to_end(end: RunEnd) -> Result<(), NoMemory>
     requires { end ≢ ends.InputLong }
     ensures { IfOk result (λ _. is_whole end ≡ true) }

@@ -15,7 +15,7 @@ use ts_model::{Answer, Query, ResultRows, Shown};
 use ts_num::Datum;
 use ts_schema::{NoMemory, Seq, Steps};
 
-/// What is counted apart from the script: the stored rows that the summary looks at.
+/// The counter of stored rows that the summary reads, separate from the script's.
 #[derive(Drop)]
 struct SummaryReads;
 

@@ -1,4 +1,4 @@
--- Where the lines of the script stand.
+-- The indexes of the lines in the script.
 use Rattle.std.proofs.Common.{◌≡◌, ◌∙◌, refl, sym, ap, inl, inr, ℕ, zero, suc, ◌+◌, ◌-◌, ◌*◌, ◌/◌, ◌%◌, ◌<◌, ◌≤◌, List, [], ◌∷◌, ◌++◌, length, take, None, Some, arith}
 use Rattle.std.specs.Prelude.{◌⊎◌, ◌↔◌, slice_get}
 use Rattle.std.proofs.lemmas.Option.{slice_get_cases}
@@ -7,9 +7,9 @@ use Rattle.std.specs.List.{flat_map, range_with_len}
 use Rattle.demo_script.specs.Demo.{answer_line, demo_lines, demo_text, late_line, line_at, round_lines, with_end}
 use Rattle.demo_script.specs.Lines.{line_with_end}
 
--- ---- rounds from round a on, and the lines behind them
+-- ---- rounds from round a on, and the lines after them
 
--- of the first of them
+-- the lines of the first of them
 at_first : (demo a place i : ℕ) → i / 7 ≡ 0 → i % 7 ≡ place → slice_get (round_lines demo a) place ≡ slice_get (round_lines demo (a + i / 7)) (i % 7)
 at_first demo a place i first is =
     let e : a ≡ a + i / 7 = omega arith in
@@ -52,7 +52,7 @@ pub count : (demo : ℕ) → length (demo_lines demo) ≡ 285
 unfolding demo_lines
 count demo = refl
 
--- there is no line 0, and none behind the last
+-- there is no line 0, and none after the last
 pub outside : (demo number : ℕ) → (1 ≤ number → number ≤ 285 → ⊥) → line_at (demo_lines demo) number ≡ None
 outside demo zero none = refl
 outside demo (suc before) none = elim (slice_get_cases (demo_lines demo) before).1 [
@@ -79,7 +79,7 @@ none_outside demo number = (inside demo number, λ there. outside demo number (n
 
 -- ---- its text
 
--- one line more
+-- one more line
 line_more : (lines : List (List ℕ)) (i : ℕ) → flat_map with_end (take i lines) ++ line_with_end (slice_get lines i) ≡ flat_map with_end (take (suc i) lines)
 line_more [] zero = refl
 line_more [] (suc i) = refl

@@ -1,4 +1,4 @@
--- Rows of a round that follow one another, written one after the other.
+-- Consecutive rows of a round, written in order.
 use Rattle.std.proofs.Common.{◌≡◌, ◌∙◌, sym, ap, ℕ, zero, suc, ◌+◌, ◌-◌, ◌<◌, List, ◌++◌, codes, arith}
 use Rattle.std.proofs.lemmas.List.{append_assoc, append-nil}
 use Rattle.std.specs.List.{flat_map, range_with_len}
@@ -15,12 +15,12 @@ piece_more piece a (suc m) =
     ∙ sym (append_assoc (piece a) (flat_map piece (range_with_len (a + 1) m)) (piece (a + 1 + m)))
     ∙ ap (λ k. piece a ++ flat_map piece (range_with_len (a + 1) m) ++ piece k) e
 
--- the first row stands alone
+-- the first row has no comma before it
 pub first_row : (demo round first : ℕ) → rows_text demo round first 1 ≡ row_text demo round first
 unfolding rows_text
 first_row demo round first = append-nil (row_text demo round first)
 
--- each further row stands behind a comma and a space
+-- each further row follows a comma and a space
 further_row : (demo round first m : ℕ) → rows_text demo round first (suc (suc m)) ≡ rows_text demo round first (suc m) ++ (codes ", " ++ row_text demo round (first + suc m))
 unfolding rows_text
 further_row demo round first m =

@@ -1,4 +1,4 @@
--- The text of a script has its lines, and is short: no line holds a line end, and none is long.
+-- The text of a script has its lines, and is short: no line has a line end within it, and none is long.
 use Rattle.std.proofs.Common.{◌≡◌, ◌∙◌, refl, ap, ℕ, zero, suc, ◌+◌, ◌*◌, ◌/◌, ◌%◌, ◌≤◌, ℤ, pos, negsuc, true, false, cond, nat_lt, ◌==◌, List, [], ◌∷◌, ◌++◌, length, codes, decimal, arith}
 use Rattle.std.specs.Prelude.{⊤}
 use Rattle.std.specs.Fmt.{digit_glyph, digits, digits_onto, signed_decimal}
@@ -14,7 +14,7 @@ use Rattle.demo_script.proofs.PlaceLaws.{count}
 
 -- ---- texts without a line end
 
--- a text holds no line end and has at most so many bytes
+-- a text has no line end and at most `most` bytes
 record IsShort (most : ℕ) (text : List ℕ) : Type 0 where
   no_end : ended_lines text ≡ []
   bytes : length text ≤ most
@@ -30,7 +30,7 @@ less m n text fewer short = record { no_end = short.no_end; bytes = omega (arith
 
 -- ---- numbers
 
--- a digit is no line end
+-- a digit isn't a line end
 digit : (d : ℕ) → (digit_glyph false d == 10) ≡ false
 digit d = elim (nat_lt d 10) as (λ t. ((cond t (48 + d) (87 + d)) == 10) ≡ false) [
   | true ↦ ne_eqb (48 + d) 10 (λ e. omega arith)

@@ -27,28 +27,28 @@ row_text demo round place =
     let number = number_of round place in
     values_text (time_of number place) (number % 8) (value_of demo number)
 
--- rows of a round that follow one another, parted by a comma and a space
+-- consecutive rows of a round, separated by a comma and a space
 unfoldable pub rows_text : ℕ → ℕ → ℕ → ℕ → List ℕ
 rows_text demo round first count = join_by (row_text demo round) (codes ", ") (range_with_len first count)
 
 -- ---- lines
 
--- a table
+-- creates a table
 unfoldable pub table_line : List ℕ
 table_line = codes "d: CREATE TABLE m (time BIGINT NOT NULL, dev BIGINT, val BIGINT)"
 
--- it becomes a hypertable of chunks as wide as the times of a round
+-- makes it a hypertable with chunks as wide as the times of a round
 unfoldable pub hypertable_line : List ℕ
 hypertable_line = codes "d: SELECT create_hypertable('m', 'time', chunk_time_interval => 5000)"
 
--- an aggregate over it, with buckets of ten rows
+-- creates an aggregate over it, with buckets of ten rows
 unfoldable pub aggregate_line : List ℕ
 aggregate_line =
     codes "d: CREATE MATERIALIZED VIEW m100 WITH (timescaledb.continuous, timescaledb.materialized_only = false)" ++
     codes " AS SELECT time_bucket(100, time) AS bucket, dev, count(*), sum(val) FROM m" ++
     codes " GROUP BY bucket, dev WITH NO DATA"
 
--- a part of a round's rows: a hundred of them
+-- inserts a part of a round's rows: a hundred of them
 unfoldable pub insert_line : ℕ → ℕ → ℕ → List ℕ
 insert_line demo round part = codes "d: INSERT INTO m VALUES " ++ rows_text demo round (100 * part) 100
 
@@ -56,16 +56,16 @@ insert_line demo round part = codes "d: INSERT INTO m VALUES " ++ rows_text demo
 abbrev pub range_text : ℤ → ℕ → List ℕ
 range_text start end = signed_decimal start ++ codes ", " ++ decimal end ++ codes ")"
 
--- the aggregate is refreshed over the times of the round before
+-- refreshes the aggregate over the times of the round before
 unfoldable pub refresh_line : ℕ → List ℕ
 refresh_line round =
     codes "d: CALL refresh_continuous_aggregate('m100', " ++ range_text (pos (5000 * round) -ℤ pos 5000) (5000 * round)
 
--- it is asked
+-- queries the aggregate
 unfoldable pub answer_line : List ℕ
 answer_line = codes "d: SELECT * FROM m100"
 
--- a row comes where all was refreshed
+-- inserts a row at a time that was already refreshed
 unfoldable pub late_line : ℕ → List ℕ
 late_line demo = codes "d: INSERT INTO m VALUES " ++ values_text (pos 1000) 0 (demo % 1000)
 
@@ -77,7 +77,7 @@ round_lines demo round =
     insert_line demo round 0 ∷ insert_line demo round 1 ∷ insert_line demo round 2 ∷ insert_line demo round 3 ∷
     insert_line demo round 4 ∷ refresh_line round ∷ answer_line ∷ []
 
--- its lines: what is made, 40 rounds, the late row, and the last answer
+-- all lines: the definitions, 40 rounds, the late row, and the last query
 unfoldable pub demo_lines : ℕ → List (List ℕ)
 demo_lines demo =
     table_line ∷ hypertable_line ∷ aggregate_line ∷
@@ -87,7 +87,7 @@ demo_lines demo =
 abbrev pub with_end : List ℕ → List ℕ
 with_end line = line ++ codes "\n"
 
--- its text
+-- the text of the script
 unfoldable pub demo_text : ℕ → List ℕ
 demo_text demo = flat_map with_end (demo_lines demo)
 

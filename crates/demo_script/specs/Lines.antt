@@ -13,7 +13,7 @@ text_of demo (Refresh round) = refresh_line round
 text_of demo Answer = answer_line
 text_of demo LateRow = late_line demo
 
--- it inserts or refreshes in one of the rounds, if it does that
+-- a line that inserts or refreshes does so in one of the rounds
 abbrev pub IsInRound : Line → Type 0
 IsInRound Table = ⊤
 IsInRound Hypertable = ⊤
@@ -23,7 +23,7 @@ IsInRound (Refresh round) = round < 40
 IsInRound Answer = ⊤
 IsInRound LateRow = ⊤
 
--- a line with its line feed, where it is there
+-- a line with its line feed, if there is one
 abbrev pub line_with_end : Option (List ℕ) → List ℕ
 line_with_end None = []
 line_with_end (Some line) = with_end line

@@ -1,4 +1,4 @@
-//! The rows that are inserted.
+//! The rows that the script inserts.
 ghost use Rattle.std.specs.Prelude.{◌≡◌, ◌++◌, ◌+◌, ◌<◌, OnOk};
 ghost use Rattle.std.specs.String.{string_bytes};
 ghost use Rattle.demo_script.specs.Demo.{row_text, rows_text, time_of, value_of, values_text};

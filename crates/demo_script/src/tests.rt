@@ -1,9 +1,9 @@
-//! Lines of the script of demonstration 7, worked out by hand.
+//! Lines of the script of demonstration 7, worked out manually.
 use super::demo_line;
 use std::alloc::Global;
 use std::test::Fail;
 
-/// Whether the line with a number begins and ends so.
+/// Whether the line with a number begins and ends like this.
 fn reads(alloc: Global, number: u32, first: &[u8], last: &[u8]) -> Result<bool, Fail> {
     Ok(match demo_line(alloc, 7, number)? {
         None => false,

@@ -30,7 +30,7 @@ use Rattle.ts_sessions.proofs.BegunLaws.{begun_later}
 use Rattle.event_laws.specs.Events.{RepliesAreWritten, ScriptsTellTheirEvents, TellsEvents, named_in, numbers_above, said_as, said_kind, said_to}
 use Rattle.policy_jobs.proofs.AloneLaws.{store_of}
 
--- ---- numbers one after the other
+-- ---- numbers in order
 
 numbers_joined : (p m n : ℕ) → numbers_above p m ++ numbers_above (p + m) n ≡ numbers_above p (m + n)
 numbers_joined p zero n =
@@ -125,7 +125,7 @@ module _ {P : Type 0} (within : P → Block) where
 
 module _ {P : Type 0} (within : P → Block) (semantics : Semantics P) (reply : P → List ℕ → ℕ → Procedure (Turn P)) (tells : TellsReplies within semantics.does reply)
     (opens : (n : ℕ) (h : History) → HadBegun within (semantics.opening n) h) (all : History) (allowed : all_allowed all ≡ true) where
-  -- what a line came to, on the way there
+  -- the result of a line, on the way there
   record Told (s : ScriptState P) (r : LineResult P) (lines : List Said) : Type 0 where
     told : TellsEvents s.history r.script_state.history (made_in lines)
     begun : AllBegun within r.script_state.history r.script_state.sessions
@@ -212,7 +212,7 @@ module _ {P : Type 0} (semantics : Semantics P) where
   script_begins s n [] = same
   script_begins s n (line ∷ lines) = begins_trans (line_begins s n line) (script_begins (executes semantics s n line).script_state (suc n) lines)
 
-  -- what is written for a line of a session
+  -- the text written for a line of a session
   as_written : (s : ScriptState P) (name text : List ℕ) (skip : ℕ) (o : Option P) → (executes_as semantics s name text skip o).text ≡ text_of name (said_as semantics s text skip o)
   as_written s name text skip (Some p) = refl
   as_written s name text skip None =

@@ -15,7 +15,7 @@ use Rattle.ts_sessions.specs.Script.{ScriptState, Semantics, executes, final_scr
 use Rattle.ts_sessions.specs.Step.{bare}
 use Rattle.ts_sessions.specs.Walks.{end_of_walk}
 
--- so many numbers above a position, in order
+-- this many numbers above a position, in order
 abbrev pub numbers_above : ℕ → ℕ → List ℕ
 numbers_above p zero = []
 numbers_above p (suc n) = suc p ∷ numbers_above (suc p) n
@@ -27,7 +27,7 @@ pub record TellsEvents (opening h : History) (numbers : List ℕ) : Type 0 where
   pub each : numbers ≡ numbers_above (position opening) (length numbers)
 
 module _ {P : Type 0} (semantics : Semantics P) where
-  -- the lines of the reply to a line of a session: one that has appeared, with its places, or a new one
+  -- the lines of the reply to a line of a session: one that has appeared, with its state, or a new one
   abbrev pub said_as : ScriptState P → List ℕ → ℕ → Option P → List Said
   said_as s text skip (Some p) = (end_of_walk (semantics.does p text skip) s.history).said
   said_as s text skip None =
@@ -35,7 +35,7 @@ module _ {P : Type 0} (semantics : Semantics P) where
       (end_of_walk (semantics.does (semantics.opening (length s.sessions)) text skip) s.history).said
       (said.Fault (bare too_many_sessions) ∷ [])
 
-  -- to a line of this kind: no session replies to others
+  -- the lines of the reply to a line of this kind: only lines of sessions have replies
   abbrev pub said_kind : ScriptState P → List ℕ → LineKind → List Said
   said_kind s line Blank = []
   said_kind s line NotAscii = []
@@ -43,7 +43,7 @@ module _ {P : Type 0} (semantics : Semantics P) where
   said_kind s line (LineOf len skip end) =
       said_as s (take end line) skip (places_of (session_name line len skip) s.sessions)
 
-  -- to a line
+  -- the lines of the reply to a line
   abbrev pub said_to : ScriptState P → List ℕ → List Said
   said_to s line = cond (nat_lt longest_line (length line)) [] (said_kind s line (line_kind line))
 
@@ -61,7 +61,7 @@ module _ {P : Type 0} (semantics : Semantics P) where
       → TellsEvents h (final_script_state semantics (opening_script_state h) 1 lines).history
       (named_in (opening_script_state h) 1 lines)
 
-  -- what is written for a line of a session is the text of that reply
+  -- the text written for a line of a session is the text of that reply
   abbrev pub RepliesAreWritten : Type 0
   RepliesAreWritten =
       (s : ScriptState P) (n : ℕ) (line : List ℕ) (len skip end : ℕ)

@@ -6,8 +6,8 @@ use policy_jobs::PolicySession;
 use ts_model::Shown;
 use ts_sessions::{Actor, Session};
 
-/// The history after a script, if it is allowed, is the opening one and then the events that its replies name, each
-/// once and in order. A line without a session makes none.
+/// States the law of the history after a script, if it is allowed. It is the opening history and then the events that
+/// the replies name, each once and in order. A line without a session appends none.
 pub fn scripts_tell_their_events<T: Shown + Drop>()
 where
     T::Job: Drop,

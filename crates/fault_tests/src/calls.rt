@@ -11,7 +11,7 @@ use ts_io::{MemSink, MemSource};
 use ts_model::NoGate;
 use ts_top::{Status, run_words};
 
-/// No input has as many bytes.
+/// A number of bytes that no input of these tests reaches.
 pub(crate) const ALL: usize = 65_536;
 
 /// How a call ended, what it printed, how many stored rows it read, and the disk that it left.

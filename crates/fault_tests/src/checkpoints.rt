@@ -1,5 +1,5 @@
-//! A checkpoint with a sink that fails, and on a disk that fails or stops. The journal that it leaves represents
-//! the history as before, or its image. Later calls continue from both alike.
+//! A checkpoint with a sink that fails, and on a disk that fails or stops. The journal that it leaves represents the
+//! history as before, or its image. Later calls continue from both alike.
 use crate::calls::{ALL, CallRecord, call, lines, sound_disk};
 use crate::script::SCRIPT;
 use std::sync::Wait;
@@ -17,8 +17,8 @@ const NOTHING: &[u8] = b"NOTHING @10\n";
 
 const CHECK: &[u8] = b"HISTORY @10\n";
 
-/// The crash images that are checked: with none or all of the writes since the last sync, with one of them, and
-/// with half of the last one.
+/// The crash images to check: with none or all of the writes since the last sync, with one of them, and with half of
+/// the last one.
 const PICKS: [u64; 8] = [0, 1, 2, 3, 1 << 63, 1 << 63 | 1, 1 << 63 | 2, 1 << 63 | 3];
 
 /// The journal of the first statements.
@@ -38,8 +38,8 @@ fn checkpoint<R: Threads + Wait + Sync + AllocGlobal>(
     call(rt, "checkpoint", &input, ALL, (0, 0), disk)
 }
 
-/// Whether a journal with these bytes has the ten events or their image, answers the query after them, continues
-/// with the statements after that, and can be saved.
+/// Whether a journal with these bytes has the ten events or their image, and answers the query after them. It must also
+/// continue with the statements after that, and a checkpoint of it must succeed.
 fn goes_on<R: Threads + Wait + Sync + AllocGlobal>(rt: &R, bytes: &[u8]) -> Result<bool, Fail> {
     let check = call(
         rt,
@@ -67,8 +67,8 @@ fn goes_on<R: Threads + Wait + Sync + AllocGlobal>(rt: &R, bytes: &[u8]) -> Resu
     Ok(check.text.as_slice() == CHECK && ran.text == want && saved)
 }
 
-/// How many calls of a kind a checkpoint makes. It asks for the length once. It raises the version, writes its
-/// frame and writes the frame's commit byte by a write and a sync each.
+/// How many calls of a kind a checkpoint makes. It reads the length once. It raises the version, writes its frame and
+/// writes the frame's commit byte, each with a write and a sync.
 const SERIES: [(DiskCall, u64); 3] = [
     (DiskCall::Len, 1),
     (DiskCall::Write, 3),
@@ -113,7 +113,7 @@ fn each_read_of_the_disk_fails_in_turn(rt: HostRuntime) -> Result<(), Fail> {
             assert!(rt; ran.status == Status::Done && ran.text.as_slice() == SAVED);
             return Ok(());
         }
-        // The journal is read before anything is written.
+        // A checkpoint reads the journal before it writes anything.
         assert!(rt;
             ran.status == Status::DiskFault && ran.text.is_empty(),
             "{nth}"

@@ -1,5 +1,5 @@
-//! A run on a disk that fails. A header takes a write and a sync. An event takes two of both: one pair for its
-//! frame, whose commit byte isn't set yet, and one pair to set the commit byte.
+//! A run on a disk that fails. A header takes a write and a sync. An event takes two of both: one pair for its frame,
+//! whose commit byte isn't set yet, and one pair to set the commit byte.
 use crate::calls::{ALL, CallRecord, call, lines, replies, sound_disk, stands_for};
 use crate::script::SCRIPT;
 use std::sync::Wait;
@@ -27,12 +27,12 @@ fn runs_to<R: Threads + Wait + Sync + AllocGlobal>(
     Ok((ran.status == status && ran.text == text && kept, ran))
 }
 
-/// A kind of call, how many statements ran on the disk before, with how many events, how many calls of the kind
-/// the header takes, and how many the run makes in all.
+/// A kind of call, how many statements ran on the disk before, and how many events these have. Then how many calls of
+/// the kind the header takes, and how many the run makes in all.
 type Series = (DiskCall, usize, usize, u64, u64);
 
-/// A header and twelve events on an empty disk, and the last five of them on the journal of seven. No byte of an
-/// empty disk is read.
+/// A header and twelve events on an empty disk, and the last five of them on the journal of seven. A run reads no byte
+/// of an empty disk.
 const SERIES: [Series; 8] = [
     (DiskCall::Len, 0, 0, 0, 1),
     (DiskCall::Read, 0, 0, 0, 0),
@@ -44,8 +44,8 @@ const SERIES: [Series; 8] = [
     (DiskCall::Sync, 6, 7, 0, 10),
 ];
 
-/// The events that are left if this call fails, by its number after the header's calls. At the second sync of an
-/// event its commit byte was written.
+/// The counts if this call fails, by its number after the header's calls. Before the second sync of an event its commit
+/// byte was written.
 fn counts_at(kind: DiskCall, before: usize, nth: u64) -> Counts {
     let done = before.saturating_add(nth.saturating_sub(1) as usize / 2);
     match kind {
@@ -55,7 +55,7 @@ fn counts_at(kind: DiskCall, before: usize, nth: u64) -> Counts {
     }
 }
 
-/// The journal of the first `count` statements. There is none before the first of them.
+/// The journal of the first `count` statements. It is empty if `count` is 0.
 fn journal_of<R: Threads + Wait + Sync + AllocGlobal>(
     rt: &R,
     count: usize,
@@ -86,11 +86,11 @@ fn each_call_of_the_disk_fails_in_turn(rt: HostRuntime) -> Result<(), Fail> {
     Ok(())
 }
 
-/// The crash images that are checked: with none or all of the writes since the last sync, with one of them, and
-/// with half of the last one.
+/// The crash images to check: with none or all of the writes since the last sync, with one of them, and with half of
+/// the last one.
 const PICKS: [u64; 8] = [0, 1, 2, 3, 1 << 63, 1 << 63 | 1, 1 << 63 | 2, 1 << 63 | 3];
 
-/// Whether each crash image of a disk represents so many events. If a commit byte was written since the last sync,
+/// Whether each crash image of a disk represents this many events. If a commit byte was written since the last sync,
 /// the images that keep that write have one event more.
 fn images_stand<R: Threads + Wait + Sync + AllocGlobal>(
     rt: &R,
@@ -111,7 +111,7 @@ fn images_stand<R: Threads + Wait + Sync + AllocGlobal>(
 
 #[test]
 fn the_disk_stops_after_each_number_of_calls(rt: HostRuntime) -> Result<(), Fail> {
-    // One call asks for the length, two make the header, and four each event.
+    // One call reads the length, two create the header, and four each event.
     for calls in 0..=51_u64 {
         let behind = calls.saturating_sub(3);
         let done = (behind / 4) as usize;

@@ -6,8 +6,8 @@ use std::test::Fail;
 use std::thread::Threads;
 use ts_top::Status;
 
-/// Whether a run of the script, the read with this number of which fails, at most 7 bytes a read, ends so
-/// after the statements of so many lines.
+/// Whether a run of the script ends with this status after the statements of this many lines. The read with this number
+/// fails, and reads have at most 7 bytes.
 fn ends_after<R: Threads + Wait + Sync + AllocGlobal>(
     rt: &R,
     input: &[u8],
@@ -59,7 +59,7 @@ fn each_write_fails_in_turn(rt: HostRuntime) -> Result<(), Fail> {
             let ran = call(&rt, "run", &input, 5, (0, nth), disk)?;
             assert_eq!(rt; ran.status, Status::WriteFault);
             assert!(rt; ran.text == text, "{nth}");
-            // The event of the statement whose reply was being written is in the journal.
+            // The journal has the event of the statement whose reply was being written.
             assert!(rt; stands_for(&rt, ran.disk.inner().bytes(), events)?);
             text.extend_from_slice(piece)?;
         }

@@ -1,6 +1,5 @@
-//! Tests of the top call under faults of its source, its sink and its disk, by public calls only. The expected
-//! results were worked out manually. The tests are in a crate without other code, since a crate with tests is
-//! proved twice.
+//! Tests of the top call under faults of its source, its sink and its disk, only by public calls. The expected results
+//! were worked out manually. The tests are in a crate without other code, since a crate with tests is proved twice.
 //!
 //! - `script`: a script with its replies and its events.
 //! - `calls`: makes calls and checks their results.

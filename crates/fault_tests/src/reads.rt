@@ -3,9 +3,9 @@ use crate::calls::{ALL, call, sound_disk};
 use std::test::Fail;
 use ts_top::Status;
 
-/// Scripts in order on one journal, and how many stored rows each reads. A refresh reads those in chunks that
-/// overlap a range that is out of date. A query of an aggregate reads those in chunks that overlap a bucket from
-/// the watermark on.
+/// Scripts in order on one journal, and how many stored rows each reads. A refresh reads the rows in chunks that
+/// overlap a stale range. A query of an aggregate reads the rows in chunks that overlap a bucket at or above the
+/// watermark.
 const READS: [(&[u8], u64); 9] = [
     (
         b"a: CREATE TABLE m (time BIGINT NOT NULL, dev BIGINT, v BIGINT)

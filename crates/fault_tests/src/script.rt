@@ -1,7 +1,7 @@
 //! A script worked out manually: a refresh in one statement, one in phases with a row that comes between them, and
 //! queries.
 
-/// A statement, its reply, and how many events there are after it.
+/// A statement, its reply, and how many events the history has after it.
 pub(crate) type Row = (&'static [u8], &'static [u8], usize);
 
 /// The statements in order.

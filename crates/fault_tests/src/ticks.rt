@@ -26,8 +26,8 @@ p: FAULT E24 stopped @4
 p: FAULT E24 stopped @4
 ";
 
-// The header takes a sync and each event two, so the tenth is the first of the fifth event. A run writes no part
-// of the reply to the line that met the fault; in a parallel run each due statement has a reply.
+// The header takes a sync and each event two, so the tenth is the first of the fifth event. `run` writes no part of the
+// reply to the line with the fault. In a parallel run each due statement has a reply.
 #[test]
 fn a_tick_meets_a_disk_that_fails(rt: HostRuntime) -> Result<(), Fail> {
     for (word, tick) in [("run", b"".as_slice()), ("par", TICK)] {

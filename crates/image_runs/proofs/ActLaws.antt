@@ -39,33 +39,33 @@ use Rattle.image_runs.proofs.PlaceLaws.{BlockFits, PlacesFit, places_on}
 use Rattle.image_runs.proofs.TwinLaws.{Same, Twins, along_as, along_call, along_ends, along_then, along_tries, twins_alike, twins_allowed, twins_base, twins_on}
 
 module _ (h : History) (i : Image) (ok : all_allowed h ≡ true) (is : IsImage h i) (used bytes : ℕ) (few : used + bytes ≤ longest_input) (p : Places) (g k : History) (t : Twins h i g k) (fit : PlacesFit i.pos used k p) where
-  -- the session has the same turn at both
+  -- the session has the same turn at both histories
   abbrev Along : Procedure (Turn Places) → Procedure (Turn Places) → Type 0
   Along d e = TurnsAlong i.pos (used + bytes) g k d e
 
-  -- a turn that makes no event
+  -- a turn without events
   quiet : (x y : Turn Places) → SameTurn i.pos (used + bytes) k x y → Along (ends x) (ends y)
   quiet x y same_turn = along_ends (SameTurn i.pos (used + bytes)) g k x y t.allowed same_turn
 
   alike : Alike g k
   alike = twins_alike h i ok is g k t
 
-  -- what the session carries still fits later
+  -- the session state still fits later
   later : (es : List Event) → PlacesFit i.pos (used + bytes) (k ▸▸ es) p
   later es = places_on i.pos used (used + bytes) k (k ▸▸ es) p (begins_followed k es) (omega arith) (omega (arith, few)) fit
 
   now : PlacesFit i.pos (used + bytes) k p
   now = later []
 
-  -- places in another block
+  -- a session state in another block
   entered : (l : History) (b : Block) → BlockFits i.pos (used + bytes) l b → PlacesFit i.pos (used + bytes) l p → PlacesFit i.pos (used + bytes) l (enters b p)
   entered l b block f = record { block = block; held = f.held }
 
-  -- the end of a turn that makes no event
+  -- the end of a turn without events
   ended : (q : Places) (s : Said) → PlacesFit i.pos (used + bytes) k q → Along (ends (turns q s)) (ends (turns q s))
   ended q s f = quiet _ _ (same_said i.pos (used + bytes) k q s f)
 
-  -- ---- what is said of calls
+  -- ---- replies to calls
 
   reported_same : {A : Type 0} (line : A → Said) (es : List Event) (r : Result A Refusal) → SameTurn i.pos (used + bytes) (k ▸▸ es) (turn_of_line p line r) (turn_of_line p line r)
   reported_same line es (Ok a) = same_said i.pos (used + bytes) (k ▸▸ es) p (line a) (later es)
@@ -116,7 +116,7 @@ module _ (h : History) (i : Image) (ok : all_allowed h ≡ true) (is : IsImage h
 
   -- ---- actions
 
-  -- what differs by the roster alone is the same
+  -- a procedure that depends only on the roster is the same
   by_roster : (d : Roster → Procedure (Turn Places)) (e : Procedure (Turn Places)) → Along (d (roster k)) e → Along (d (roster g)) e
   by_roster d e a = subst (λ r. Along (d r) e) (sym alike.relations) a
 

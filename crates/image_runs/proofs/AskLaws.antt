@@ -1,4 +1,4 @@
--- Queries: a session is answered the same at two histories that are alike.
+-- Queries: a session gets the same answer at two histories that are alike.
 use Rattle.std.proofs.Common.{◌≡◌, ℕ, true, [], ◌∷◌, refl, ap, ◌∙◌}
 use Rattle.ts_model.specs.Allowed.{all_allowed}
 use Rattle.ts_model.specs.History.{History, position}

@@ -1,4 +1,4 @@
--- What calls of a session do to a history and to its image, and what a session carries then.
+-- What calls of a session do to a history and to its image, and the session state after them.
 use Rattle.std.proofs.Common.{◌≡◌, ℕ, ◌≤◌, true, List, [], ◌∷◌, Option, Some, None, ℤ, sym, refl, ap, ◌∙◌, subst, arith}
 use Rattle.std.specs.Prelude.{Result, Ok, Err, IsTrue, is_some}
 use Rattle.std.specs.Option.{ForSome}
@@ -46,14 +46,14 @@ TurnsAlong base used g k d e = Alongside (SameTurn base used) g k d e
 no_time : ForSome None (λ t. IsTrue (is_time t))
 no_time t e = absurd (true≢false (sym (ap is_some e)))
 
--- turns of the same places that say the same
+-- turns with the same session state and the same line
 pub same_said : (base used : ℕ) (k : History) (p : Places) (s : Said) → PlacesFit base used k p → SameTurn base used k (turns p s) (turns p s)
 same_said base used k p s fit = record { places = refl; said = refl; fit = fit }
 
 pub same_turns : (base used : ℕ) (k : History) (p : Places) (s z : Said) → s ≡ z → PlacesFit base used k p → SameTurn base used k (turns p s) (turns p z)
 same_turns base used k p s z e fit = record { places = refl; said = ap (λ x. x ∷ []) e; fit = fit }
 
--- a finish is sound where its refresh waits and its snapshot is held
+-- a finish is sound if its refresh is pending and its snapshot is held
 finish_sound : (base : ℕ) (k : History) (c at : ℕ) → base_position k ≡ base → is_known (pending k c) ≡ true → IsHeld base k c at → sound k (Built c at) ≡ true
 finish_sound base k c at root known i =
     let from : base_position k ≤ at = subst (λ b. b ≤ at) (sym root) i.from.above in
@@ -67,15 +67,15 @@ finish_allowed_as base k c at Unknown root e i = tt
 pub finish_allowed : (base : ℕ) (k : History) (c at : ℕ) → base_position k ≡ base → IsHeld base k c at → MakesAllowed k (act_of_finish c at k)
 finish_allowed base k c at root i = finish_allowed_as base k c at (pending k c) root refl i
 
--- the position of now is from the base on
+-- the current position is at or above the base
 pub now_from : (base : ℕ) (k : History) → base_position k ≡ base → IsFrom base k (position k)
 now_from base k root = record { above = subst (λ b. b ≤ position k) root (base_below k); below = omega arith }
 
--- a snapshot of now is held where its refresh is known
+-- a snapshot at the current position is held if its refresh is known
 now_held : (base : ℕ) (k : History) (c : ℕ) → base_position k ≡ base → all_allowed k ≡ true → is_known (pending k c) ≡ true → IsHeld base k c (position k)
 now_held base k c root ok known = record { from = now_from base k root; after = (known_bounds k c ok known).1 }
 
--- the same places fit the history with more events
+-- the same session state fits the history with more events
 pub fit_on : (base used : ℕ) (k : History) (es : List Event) (p : Places) → used ≤ longest_input → PlacesFit base used k p → PlacesFit base used (k ▸▸ es) p
 fit_on base used k es p few fit = places_on base used used k (k ▸▸ es) p (begins_followed k es) (omega arith) few fit
 

@@ -40,11 +40,11 @@ use Rattle.image_runs.proofs.ScriptLaws.{LinesGoOn}
 use Rattle.image_runs.proofs.TwinLaws.{Twins, along_ends, along_sees, twins_alike, twins_allowed, twins_prefix}
 
 module _ (h : History) (i : Image) (ok : all_allowed h ≡ true) (is : IsImage h i) (used bytes : ℕ) (few : used + bytes ≤ longest_input) (p : Places) (g k : History) (t : Twins h i g k) (fit : PlacesFit i.pos used k p) where
-  -- the session has the same turn at both
+  -- the session has the same turn at both histories
   abbrev Along : Procedure (Turn Places) → Procedure (Turn Places) → Type 0
   Along d e = TurnsAlong i.pos (used + bytes) g k d e
 
-  -- a turn that makes no event
+  -- a turn without events
   quiet : (x y : Turn Places) → SameTurn i.pos (used + bytes) k x y → Along (ends x) (ends y)
   quiet x y same_turn = along_ends (SameTurn i.pos (used + bytes)) g k x y t.allowed same_turn
 
@@ -54,7 +54,7 @@ module _ (h : History) (i : Image) (ok : all_allowed h ≡ true) (is : IsImage h
   refused : (r : Refusal) → Along (ends (refuses p r)) (ends (refuses p r))
   refused r = quiet _ _ (same_said i.pos (used + bytes) k p (said.Fault r) same_now)
 
-  -- ---- a statement whose names are looked at in two histories that are alike
+  -- ---- a statement whose names are resolved in two histories that are alike
 
   module _ (stmt : Stmt) (l m : History) (there : Twins h i l m) (checked : refusal_of (position m) (roster m) stmt ≡ None → Along (acts p bytes l (action_of (roster l) stmt)) (acts p bytes m (action_of (roster m) stmt))) where
     looks : Alike l m
@@ -90,7 +90,7 @@ module _ (h : History) (i : Image) (ok : all_allowed h ≡ true) (is : IsImage h
         subst (λ r. Along (acts p bytes g (action_of r stmt)) (acts p bytes k (action_of (roster k) stmt))) (sym (twins_alike h i ok is g k t).relations)
         (acts_along h i ok is used bytes few p g k t fit (action_of (roster k) stmt) (asks k t.allowed e))
 
-    -- the event of the names of a history
+    -- the event, by the names of a history
     abbrev event_at : History → Procedure (Turn Places)
     event_at x = looks_at (λ y. acts p bytes y (action_of (roster x) stmt))
 
@@ -105,7 +105,7 @@ module _ (h : History) (i : Image) (ok : all_allowed h ≡ true) (is : IsImage h
         (sym (same_refusals stmt g k t acting))
         (first_as (refusal_of (position k) (roster k) stmt) refl))
 
-    -- at the look of now
+    -- at the current read position
     here_along : (b : Block) → p.block ≡ b → Along (turn_of_names p bytes stmt (read_at b g)) (turn_of_names p bytes stmt (read_at b k)) → Along (named_here p bytes stmt) (named_here p bytes stmt)
     here_along b e a = along_sees (SameTurn i.pos (used + bytes)) g k _ _ (λ x. turn_of_names p bytes stmt (read_at p.block x)) (λ x. turn_of_names p bytes stmt (read_at p.block x)) (subst (λ c. Along (turn_of_names p bytes stmt (read_at c g)) (turn_of_names p bytes stmt (read_at c k))) (sym e) a)
 
@@ -187,7 +187,7 @@ step_along h i ok is used p g k t text skip few short within fit =
     said_along h i ok is used (length text) few p g k t fit (statement (stream text skip))
     (λ stmt rest e. asks_soundly (length text) stmt short (statements_are_written.read text skip stmt rest within e))
 
--- so lines of sessions without policies go on
+-- so the law is true of sessions without policies
 pub session_lines : LinesGoOn session_semantics PlacesFit
 session_lines = record {
   opening = λ base used h n. record { block = tt; held = tt };

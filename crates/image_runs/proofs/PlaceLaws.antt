@@ -1,4 +1,4 @@
--- What a session carries fits a history that begins with an image, and still fits as the history grows.
+-- The session state fits a history that begins with an image, and still fits as the history grows.
 use Rattle.std.proofs.Common.{◌≡◌, ℕ, ◌≤◌, true, false, cond, List, [], ◌∷◌, Some, sym, refl, ap, subst, arith}
 use Rattle.std.proofs.lemmas.Bool.{true≢false}
 use Rattle.std.specs.Prelude.{⊤, is_some}
@@ -20,8 +20,8 @@ pub record IsFrom (base : ℕ) (h : History) (at : ℕ) : Type 0 where
   pub above : base ≤ at
   pub below : at ≤ position h
 
--- the queue of a write block can be committed, and its texts have at most so many bytes; a read block began at or above
--- the base
+-- the queue of a write block can be committed, and its texts have at most this many bytes; a read block began at or
+-- above the base
 abbrev pub BlockFits : ℕ → ℕ → History → Block → Type 0
 BlockFits base used h none = ⊤
 BlockFits base used h (writing ops n) = IsQueue h n ops × (n ≤ used)
@@ -35,7 +35,7 @@ pub record IsHeld (base : ℕ) (h : History) (cut at : ℕ) : Type 0 where
 abbrev pub AreHeld : ℕ → History → List (ℕ × ℕ) → Type 0
 AreHeld base h held = AllByRecursion (λ e. IsHeld base h e.0 e.1) held
 
--- what a session carries fits a history
+-- a session state fits a history
 pub record PlacesFit (base used : ℕ) (h : History) (p : Places) : Type 0 where
   pub block : BlockFits base used h p.block
   pub held : AreHeld base h p.held

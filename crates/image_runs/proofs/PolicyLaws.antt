@@ -45,16 +45,16 @@ use Rattle.image_runs.proofs.PlaceLaws.{BlockFits, PlacesFit, places_on}
 use Rattle.image_runs.proofs.ScriptLaws.{LinesGoOn}
 use Rattle.image_runs.proofs.TwinLaws.{Alongside, SameEnd, Twins, along_as, along_ends, along_sees, along_then, twins_alike, twins_on}
 
--- what a session with policies carries fits a history
+-- the state of a session with policies fits a history
 pub record PolicyFits (base used : ℕ) (h : History) (p : PolicyPlaces Places) : Type 0 where
   pub inner : PlacesFit base used h p.inner
   pub policies : ArePolicies p.policies
 
--- so does what the session in it carries
+-- the state of the session in it fits the history
 abbrev InnerFits : ℕ → ℕ → History → PolicyPlaces Places → Type 0
 InnerFits base used h p = PlacesFit base used h p.inner
 
--- two turns end the same, by what the session in it carries
+-- two turns end the same, by the state of the session in them
 abbrev InnerEnd : ℕ → ℕ → History → Turn (PolicyPlaces Places) → Turn (PolicyPlaces Places) → Type 0
 InnerEnd base used = SameEnd (InnerFits base used)
 
@@ -73,14 +73,14 @@ due_run_each now (p ∷ ps) time are =
       | false ↦ rest
     ]
 
--- ---- statements one after the other, outside a block
+-- ---- statements in order, outside a block
 
--- two turns end the same outside a block, where nothing waits
+-- two turns end the same outside a block, with nothing queued
 record RunEnd (base : ℕ) (k : History) (t u : Turn Places) : Type 0 where
   same_end : SameTurn base 0 k t u
   out : u.places.block ≡ none
 
--- outside a block nothing waits, whatever texts there were
+-- outside a block nothing is queued, whatever texts there were
 out_fits : (base used more : ℕ) (k : History) (p : Places) → p.block ≡ none → PlacesFit base used k p → PlacesFit base more k p
 out_fits base used more k p out fit = record { block = subst (λ b. BlockFits base more k b) (sym out) tt; held = fit.held }
 
@@ -151,7 +151,7 @@ module _ (stays : StaysOutside (λ (p : Places). p.block) step) (h : History) (i
     added_end at policy (Some r) = record { places = refl; said = refl; fit = now }
     added_end at policy None = record { places = refl; said = refl; fit = now }
 
-    -- a policy as it is added
+    -- a new policy
     abbrev new_policy : Job → ℤ → Policy
     new_policy job every = record { job = job; every = every; ran = None }
 
@@ -221,7 +221,7 @@ module _ (stays : StaysOutside (λ (p : Places). p.block) step) (h : History) (i
         | false ↦ others_along used p g k t text skip few short within fit.inner
       ]
 
--- so lines of sessions with policies go on
+-- so the law is true of sessions with policies
 pub policy_lines : StaysOutside (λ (p : Places). p.block) step → LinesGoOn policy_sessions PolicyFits
 policy_lines stays = record {
   opening = λ base used h n. record { inner = record { block = tt; held = tt }; policies = tt };

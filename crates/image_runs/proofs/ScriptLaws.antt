@@ -1,4 +1,4 @@
--- Scripts over a history and over its image, line by line, whatever lines mean.
+-- Scripts over a history and over its image, line by line, for any meaning of lines.
 use Rattle.std.proofs.Common.{◌≡◌, ℕ, suc, ◌+◌, ◌≤◌, Bool, true, false, ◌||◌, cond, nat_lt, List, [], ◌∷◌, ◌++◌, length, length-take, take, Option, Some, None, sym, refl, ap, ◌∙◌, subst, arith}
 use Rattle.std.specs.Prelude.{sum_by}
 use Rattle.std.proofs.lemmas.Bool.{ltb-false}
@@ -27,8 +27,8 @@ use Rattle.image_runs.specs.Laws.{ScriptsGoOn}
 use Rattle.image_runs.proofs.SessionLaws.{AllFit, places_there, sessions_on, sessions_with}
 use Rattle.image_runs.proofs.TwinLaws.{Alongside, SameEnd, Twins, twins_alike, twins_allowed, twins_on}
 
--- what is asked of the meaning of lines, and of what a session carries where it fits a history that begins with an
--- image: by the position of the image, and by how many bytes the texts have that its queue came from
+-- what the law needs of the meaning of lines, and of when a session state fits a history that begins with an image.
+-- This depends on the position of the image, and on how many bytes the texts of the queue have
 pub record LinesGoOn {P : Type 0} (semantics : Semantics P) (Fit : ℕ → ℕ → History → P → Type 0) : Type 0 where
   pub opening : (base used : ℕ) (h : History) (n : ℕ) → Fit base used h (semantics.opening n)
   pub fits_on : (base used more : ℕ) (g h : History) (p : P) → Begins g h → used ≤ more → used ≤ longest_input → Fit base used g p → Fit base more h p
@@ -39,13 +39,13 @@ pub record LinesGoOn {P : Type 0} (semantics : Semantics P) (Fit : ℕ → ℕ �
       → Alongside (SameEnd (Fit i.pos (used + length text))) g k (semantics.does p text skip) (semantics.does p text skip)
 
 module _ {P : Type 0} (semantics : Semantics P) (Fit : ℕ → ℕ → History → P → Type 0) (go : LinesGoOn semantics Fit) where
-  -- two scripts have come to twins, with the same sessions, which fit the second
+  -- the states of two scripts: their histories are twins, and they have the same sessions, which fit the second history
   record SameState (h : History) (i : Image) (used : ℕ) (s z : ScriptState P) : Type 0 where
     twins : Twins h i s.history z.history
     sessions : s.sessions ≡ z.sessions
     fit : AllFit (Fit i.pos used z.history) z.sessions
 
-  -- a line came to the same in both, and so many bytes may wait then
+  -- a line had the same result in both, and this many bytes may be queued then
   record SameLine (h : History) (i : Image) (used : ℕ) (s z : ScriptState P) (a b : LineResult P) : Type 0 where
     events : List Event
     first : a.script_state.history ≡ s.history ▸▸ events
@@ -60,12 +60,12 @@ module _ {P : Type 0} (semantics : Semantics P) (Fit : ℕ → ℕ → History �
   state_on : (h : History) (i : Image) (used more : ℕ) (s z : ScriptState P) → used ≤ more → used ≤ longest_input → SameState h i used s z → SameState h i more s z
   state_on h i used more s z le few a = record { twins = a.twins; sessions = a.sessions; fit = all_on i.pos used more z.history z.history z.sessions same le few a.fit }
 
-  -- a line that a session has no part in
+  -- a line without a session
   nothing : (h : History) (i : Image) (used more : ℕ) (s z : ScriptState P) (text : List ℕ) (fault : Bool) (reads : ℕ) → used ≤ more → used ≤ longest_input → SameState h i used s z → SameLine h i more s z (record { script_state = s; text = text; fault = fault; reads = reads }) (record { script_state = z; text = text; fault = fault; reads = reads })
   nothing h i used more s z text fault reads le few a = record { events = []; first = refl; second = refl; after = state_on h i used more s z le few a; text = refl; fault = refl }
 
   module _ (h : History) (i : Image) (ok : all_allowed h ≡ true) (is : IsImage h i) (used : ℕ) (s z : ScriptState P) (a : SameState h i used s z) where
-    -- a session takes its turn
+    -- a turn of a session
     turn_same : (more : ℕ) (name : List ℕ) (d e : Procedure (Turn P)) → used ≤ more → used ≤ longest_input → Alongside (SameEnd (Fit i.pos more)) s.history z.history d e → SameLine h i more s z (takes_turn s name d) (takes_turn z name e)
     turn_same more name d e le few o =
         let allowed : all_allowed (history_after e z.history) ≡ true = ap all_allowed o.second ∙ o.allowed in
@@ -84,7 +84,7 @@ module _ {P : Type 0} (semantics : Semantics P) (Fit : ℕ → ℕ → History �
           fault = ap has_fault o.ends_go.said;
         }
 
-    -- a statement of a session that has these places
+    -- a statement of a session with this state
     step_same : (name text : List ℕ) (skip more : ℕ) (p : P) → used + length text ≤ more → more ≤ longest_input → length text ≤ 65536 → skip ≤ length text → Fit i.pos used z.history p → SameLine h i more s z (takes_turn s name (semantics.does p text skip)) (takes_turn z name (semantics.does p text skip))
     step_same name text skip more p le few short within fit =
         let room : used + length text ≤ longest_input = omega (arith, le, few) in
@@ -131,7 +131,7 @@ module _ {P : Type 0} (semantics : Semantics P) (Fit : ℕ → ℕ → History �
 
   -- ---- scripts
 
-  -- lines came to the same in both
+  -- lines had the same result in both
   record SameRun (h : History) (i : Image) (n : ℕ) (s z : ScriptState P) (lines : List (List ℕ)) : Type 0 where
     text : output semantics s n lines ≡ output semantics z n lines
     faults : is_refused semantics s n lines ≡ is_refused semantics z n lines

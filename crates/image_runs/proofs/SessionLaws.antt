@@ -1,4 +1,4 @@
--- What each session of a script carries.
+-- The states of the sessions of a script.
 use Rattle.std.proofs.Common.{◌≡◌, ℕ, true, false, cond, List, [], ◌∷◌, Some, sym, ap, subst}
 use Rattle.std.proofs.lemmas.Bool.{true≢false}
 use Rattle.std.specs.Prelude.{is_some}
@@ -7,7 +7,7 @@ use Rattle.ts_model.specs.Roster.{same_name}
 use Rattle.ts_sessions.specs.Script.{places_of, with_places}
 
 module _ {P : Type 0} (Fit : P → Type 0) where
-  -- it fits
+  -- each of them fits
   abbrev pub AllFit : List (List ℕ × P) → Type 0
   AllFit sessions = AllByRecursion (λ e. Fit e.1) sessions
 
@@ -26,7 +26,7 @@ module _ {P : Type 0} (Fit : P → Type 0) where
   sessions_with name p [] new f = (new, tt)
   sessions_with name p (s ∷ sessions) new f = elim (same_name s.0 name) as (λ t. AllFit (cond t ((name, p) ∷ sessions) (s ∷ with_places name p sessions))) [ true ↦ (new, f.1) | false ↦ (f.0, sessions_with name p sessions new f.1) ]
 
--- if each entry that fits one condition fits another, so do all sessions
+-- if each session state that fits one condition fits another, so do all
 pub sessions_on : {P : Type 0} (Fit More : P → Type 0) → ((p : P) → Fit p → More p) → (sessions : List (List ℕ × P)) → AllFit Fit sessions → AllFit More sessions
 sessions_on Fit More on [] f = tt
 sessions_on Fit More on (e ∷ sessions) f = (on e.1 f.0, sessions_on Fit More on sessions f.1)

@@ -1,4 +1,4 @@
--- Two histories that the same events made of a history and of its image, and what a procedure does to both.
+-- A history and its image with the same events after both, and what a procedure does to the two.
 use Rattle.std.proofs.Common.{◌≡◌, ℕ, ◌-◌, ◌≤◌, Bool, true, List, [], ◌∷◌, ◌++◌, sym, refl, ap, ◌∙◌, subst}
 use Rattle.std.specs.Prelude.{Result, Ok, Err}
 use Rattle.std.proofs.lemmas.Bool.{and_parts, and_from}
@@ -21,7 +21,7 @@ use Rattle.policy_jobs.proofs.AloneLaws.{ending_then, history_then}
 
 -- ---- twins
 
--- the same events made one of a history and the other of its image, and the other is allowed
+-- one history is a history and these events, the other its image and the same events, and the other is allowed
 pub record Twins (h : History) (i : Image) (g k : History) : Type 0 where
   pub events : List Event
   pub whole : g ≡ h ▸▸ events
@@ -51,7 +51,7 @@ module _ (h : History) (i : Image) (ok : all_allowed h ≡ true) (is : IsImage h
       let good : all_allowed (resumed i) ≡ true = allowed_begins (begins_followed (resumed i) t.events) short_allowed in
       ap all_allowed t.whole ∙ (and_parts (all_allowed (h ▸▸ t.events)) (are_from i.pos t.events) (sym (checkpoints_keep.allowed h i t.events ok is good) ∙ short_allowed)).0
 
-  -- at a position from the image on
+  -- at a position at or above that of the image
   pub twins_prefix : (at : ℕ) → i.pos ≤ at → Twins h i (prefix g at) (prefix k at)
   twins_prefix at le = record {
     events = upto (at - i.pos) t.events;
@@ -60,9 +60,10 @@ module _ (h : History) (i : Image) (ok : all_allowed h ≡ true) (is : IsImage h
     allowed = allowed_begins (begins_prefix k at) t.allowed;
   }
 
--- ---- procedures, one after the other
+-- ---- procedures in order
 
--- two procedures make the same events of two histories, which are allowed after the second, and their ends go together
+-- two procedures append the same events to two histories, which are allowed after the second, and their results go
+-- together
 pub record Alongside {A : Type 0} (Go : History → A → A → Type 0) (g k : History) (d e : Procedure A) : Type 0 where
   pub events : List Event
   pub first : history_after d g ≡ g ▸▸ events
@@ -70,7 +71,7 @@ pub record Alongside {A : Type 0} (Go : History → A → A → Type 0) (g k : H
   pub allowed : all_allowed (k ▸▸ events) ≡ true
   pub ends_go : Go (k ▸▸ events) (end_of_walk d g) (end_of_walk e k)
 
--- two turns leave the same places, which fit the second history, and say the same
+-- two turns leave the same session state, which fits the second history, and have the same lines
 pub record SameEnd {P : Type 0} (Fit : History → P → Type 0) (k : History) (t u : Turn P) : Type 0 where
   pub places : t.places ≡ u.places
   pub said : t.said ≡ u.said
@@ -115,6 +116,6 @@ tries_same g k (makes e a) ok m = record { events = e ∷ []; first = refl; seco
 pub along_tries : {A : Type 0} (g k : History) (act act_too : Act A) → act ≡ act_too → all_allowed k ≡ true → MakesAllowed k act_too → Alongside Same g k (tries_at g act) (tries_at k act_too)
 along_tries g k act act_too e ok m = subst (λ x. Alongside Same g k (tries_at g x) (tries_at k act_too)) (sym e) (tries_same g k act_too ok m)
 
--- and what is said of it
+-- a call with a function of its outcome
 pub along_call : {A B : Type 0} (Last : History → B → B → Type 0) (g k : History) (act act_too : Act A) (f : Result A Refusal → B) → act ≡ act_too → all_allowed k ≡ true → MakesAllowed k act_too → ((es : List Event) (r : Result A Refusal) → Last (k ▸▸ es) (f r) (f r)) → Alongside Last g k (ending_as f (tries_at g act)) (ending_as f (tries_at k act_too))
 along_call Last g k act act_too f e ok m go = along_as Same Last g k (tries_at g act) (tries_at k act_too) f f (along_tries g k act act_too e ok m) (λ es a b s. subst (λ x. Last (k ▸▸ es) x (f b)) (sym (ap f s)) (go es b))

@@ -10,13 +10,13 @@ use Rattle.stmt_syntax.specs.Limits.{longest_input}
 use Rattle.ts_sessions.specs.Script.{ScriptState, Semantics, final_script_state, opening_script_state}
 use Rattle.ts_sessions.specs.Script.{is_refused, output}
 
--- the outcome of a script's lines over a history, by what lines mean
+-- the state of a script after its lines over a history, by what lines mean
 abbrev pub script_over : {P : Type 0} → Semantics P → History → List (List ℕ) → ScriptState P
 script_over semantics h lines = final_script_state semantics (opening_script_state h) 1 lines
 
--- the same lines over two histories write the same, and one has a FAULT exactly where the other has. The same events
--- follow both histories, which are then allowed and alike, and each session has the same places. The number of stored
--- rows read may differ, since an image has no deleted row
+-- the same lines over two histories write the same text, and both or neither have a FAULT. The same events follow both
+-- histories, which are then allowed and alike, and each session has the same state. The number of stored rows read may
+-- differ, since an image has no deleted row
 pub record WriteTheSame {P : Type 0} (semantics : Semantics P) (g h : History) (lines : List (List ℕ)) : Type 0 where
   pub text :
       output semantics (opening_script_state g) 1 lines ≡ output semantics (opening_script_state h) 1 lines
@@ -30,8 +30,8 @@ pub record WriteTheSame {P : Type 0} (semantics : Semantics P) (g h : History) (
   pub second_allowed : all_allowed (h ▸▸ events) ≡ true
   pub alike : Alike (g ▸▸ events) (h ▸▸ events)
 
--- the lines of an input do so over an allowed history and over its image, and over both with the same events after
--- them, if these are allowed after the image
+-- the lines of an input write the same over an allowed history and over its image. The same is true with the same
+-- events after both, if these are allowed after the image
 abbrev pub ScriptsGoOn : {P : Type 0} → Semantics P → Type 0
 ScriptsGoOn semantics =
     (h : History) (i : Image) (es : List Event) (lines : List (List ℕ)) → all_allowed h ≡ true → IsImage h i

@@ -22,7 +22,7 @@ const SAVED: [u8; 78] = [
     0x00, 0x00, 0x00, 0x00, 0x00, 0x00, 0x00, 0x00, 0x00, 0x00, 0x00, 0x00, 0x00, 0x00,
 ];
 
-/// How a start found a journal, or a checkpoint after it ended.
+/// The end of a checkpoint, or the reason why the store didn't open its journal.
 #[derive(Clone, Copy, Debug, PartialEq, Eq)]
 enum CheckpointOutcome {
     Checkpoint(CheckEnd),
@@ -30,7 +30,7 @@ enum CheckpointOutcome {
     DiskFault,
 }
 
-/// A checkpoint of the store that a disk holds, with the disk.
+/// Writes a checkpoint of the store on a disk. Returns the disk and the outcome.
 fn run_checkpoint<R: Threads + Sync, D: Disk + Drop>(
     rt: &R,
     alloc: Global,

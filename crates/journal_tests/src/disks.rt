@@ -4,8 +4,7 @@ use std::io;
 use std::test::Fail;
 use ts_disk::*;
 
-/// A disk of eight bytes on which two writes were made since the last sync: `XY` at place 2, `12345` at
-/// place 7.
+/// A disk of eight bytes with two writes since the last sync: `XY` at byte 2, `12345` at byte 7.
 fn written_disk(alloc: Global) -> Result<MemDisk, AllocError> {
     let mut disk = MemDisk::new(alloc, b"abcdefgh".to_vec(alloc)?);
     let _first = disk.write_at(2, b"XY");
@@ -77,7 +76,7 @@ fn a_sync_leaves_one_image(rt: HostRuntime) -> Result<(), Fail> {
     Ok(())
 }
 
-/// What four calls answer, and how many of them failed.
+/// Which of four calls succeed, and how many calls the disk has counted as failed.
 fn four_calls(disk: &mut FailDisk) -> ([bool; 4], u64) {
     let mut into: [u8; 0] = [];
     let answers = [

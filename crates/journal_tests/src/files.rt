@@ -2,7 +2,7 @@ use std::alloc::Global;
 use std::test::Fail;
 use ts_disk::*;
 
-/// A disk on an empty file of which the call with this number fails.
+/// A disk on an empty file, which fails at the call with this number.
 fn failing_disk(alloc: Global, fails_at: u64) -> FileDisk<FailFile> {
     FileDisk::new(FailFile::new(Vec::new(alloc), fails_at))
 }

@@ -10,7 +10,7 @@ const ONE: [u8; 27] = [
     0x02, 0x04, 0x74, 0x69, 0x6d, 0x65, 0x01, 0x01, 0x76, 0x00, 0x00,
 ];
 
-/// The bytes that `ONE` gets if a second event of 17 bytes is appended.
+/// The bytes that a second event of 17 bytes appends to `ONE`.
 const MORE: [u8; 22] = [
     0x11, 0x00, 0x00, 0x00, 0x02, 0x00, 0x00, 0x00, 0x00, 0x00, 0x00, 0x00, 0x00, 0x64, 0x00, 0x00,
     0x00, 0x00, 0x00, 0x00, 0x00, 0x00,
@@ -23,7 +23,7 @@ struct ReadCounts {
     damaged: Option<u64>,
 }
 
-/// What is found if nothing is damaged.
+/// The result of reading a journal that isn't damaged.
 fn sound_journal(payloads: usize) -> ReadCounts {
     ReadCounts {
         payloads,
@@ -31,7 +31,7 @@ fn sound_journal(payloads: usize) -> ReadCounts {
     }
 }
 
-/// What is found if the file is damaged at a place.
+/// The result of reading a journal that is damaged at a place.
 fn damaged_journal(payloads: usize, at: u64) -> ReadCounts {
     ReadCounts {
         payloads,
@@ -39,7 +39,7 @@ fn damaged_journal(payloads: usize, at: u64) -> ReadCounts {
     }
 }
 
-/// Reads a journal of these bytes.
+/// Reads a journal with these bytes.
 fn read_journal(alloc: Global, bytes: &[u8]) -> Result<ReadCounts, NoMemory> {
     let disk = MemDisk::new(alloc, Vec::from_slice(alloc, bytes)?);
     match recover(alloc, disk) {
@@ -103,12 +103,12 @@ fn payloads_are_read_one_at_a_time(rt: HostRuntime) -> Result<(), Fail> {
     Ok(())
 }
 
-/// The frame of `n` bytes `n`.
+/// The frame of `n` bytes, each of them `n`.
 fn frame_of(alloc: Global, n: u8) -> Result<Frame, NoMemory> {
     frame(alloc, &Seq::of(vec![in alloc; n; n as usize]?))
 }
 
-/// Appends ten payloads of zero to nine bytes to a disk. Returns the disk and the last answer.
+/// Appends ten payloads of zero to nine bytes to a disk. Returns the disk and the last result.
 fn append_ten<D: Disk + Drop>(alloc: Global, disk: D) -> Result<(D, Append), NoMemory> {
     let mut journal = match recover(alloc, disk) {
         Recovered::Ready { journal, .. } => journal,
@@ -126,7 +126,7 @@ fn append_ten<D: Disk + Drop>(alloc: Global, disk: D) -> Result<(D, Append), NoM
     Ok((journal.close(), last))
 }
 
-/// Whether each of eight images of a disk contains a prefix of the ten payloads.
+/// Whether each of eight crash images of a disk is a journal without damage.
 fn images_are_read(alloc: Global, disk: &MemDisk) -> Result<bool, NoMemory> {
     for pick in 0..4 {
         for half in [0, 1 << 63] {
@@ -203,8 +203,7 @@ fn a_journal_that_stopped_takes_nothing(rt: HostRuntime) -> Result<(), Fail> {
     Ok(())
 }
 
-/// The bytes of two payloads, the second of which begins with the byte 8, in a journal with this version
-/// byte.
+/// The bytes of two payloads in a journal with this version byte. The second payload begins with the byte 8.
 fn with_base(alloc: Global, mark: u8) -> Result<Vec<u8>, NoMemory> {
     let mut bytes = changed_bytes(alloc, 31, 8)?;
     if let Some(place) = bytes.get_mut(7) {
@@ -228,8 +227,8 @@ fn a_base_is_told_from_other_payloads(rt: HostRuntime) -> Result<(), Fail> {
     Ok(())
 }
 
-/// Appends a payload, raises the version, and appends a base and one more payload. Returns the disk and the
-/// last answer.
+/// Appends a payload, raises the version, and appends a base and one more payload. Returns the disk and the last
+/// result.
 fn append_base<D: Disk + Drop>(alloc: Global, disk: D) -> Result<(D, Append), NoMemory> {
     let mut journal = match recover(alloc, disk) {
         Recovered::Ready { journal, .. } => journal,

@@ -1,5 +1,5 @@
-//! Tests of disks, journals, checkpoints and the lock by their public calls, where no script reaches them.
-//! They are in a crate without any other code, since a crate with tests is proved twice.
+//! Tests of disks, journals, checkpoints and the lock by their public calls, for cases that no script reaches. They are
+//! in a crate without other code, since a crate with tests is proved twice.
 #![tactic(auto)]
 
 #[cfg(test)]

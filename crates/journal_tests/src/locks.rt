@@ -48,7 +48,7 @@ fn empty_log(alloc: Global, start: u32) -> Log {
 }
 
 impl Log {
-    // Shuts the log by an entry, unless it is shut.
+    // Shuts the log with an entry, unless it is shut.
     fn shut_by(&mut self, entry: u32)
         ensures base { self.new.start ≡ self.old.start }
         ensures entries { self.new.entries.items ≡ self.old.entries.items }
@@ -83,7 +83,7 @@ fn append<R: Threads + Wait + Sync>(rt: &R, lock: &TurnLock<Log>, pass: &mut Pas
     lock.give(pass, held);
 }
 
-// Adds the numbers from `from` on, and gives the pass back.
+// Adds the numbers from `from` on, and returns the pass.
 fn append_many<R: Threads + Wait + Sync>(
     rt: &R,
     lock: &TurnLock<Log>,
@@ -100,7 +100,7 @@ fn append_many<R: Threads + Wait + Sync>(
     pass
 }
 
-// Two threads at once, each with a pass.
+// Runs two threads in parallel, each with a pass.
 fn append_by_two<R: Threads + Wait + Sync>(
     rt: &R,
     lock: &TurnLock<Log>,
@@ -125,7 +125,7 @@ fn append_by_two<R: Threads + Wait + Sync>(
     lock.join(a, b)
 }
 
-// The same by three threads.
+// Runs three threads in parallel, each with a pass.
 fn append_by_three<R: Threads + Wait + Sync>(
     rt: &R,
     lock: &TurnLock<Log>,
@@ -150,7 +150,7 @@ fn append_by_three<R: Threads + Wait + Sync>(
     )
 }
 
-// Whether all entries of the thread that began at `from` are there, in its order.
+// Whether all entries of the thread that began at `from` are in the log, in its order.
 fn has_run(entries: &[u32], from: u32) -> bool {
     let mut next = from;
     for entry in entries {
@@ -161,7 +161,7 @@ fn has_run(entries: &[u32], from: u32) -> bool {
     next == from.wrapping_add(TURNS)
 }
 
-// The pass that has seen both: the first shuts the log, and the second finds it shut.
+// Shuts the log with the first pass, and finds it shut with the second. Returns the pass that has seen both.
 fn shut_and_look<R: Threads + Wait + Abort + Sync>(
     rt: &R,
     lock: &TurnLock<Log>,
@@ -217,7 +217,7 @@ fn a_shut_log_stays_as_it_is(rt: HostRuntime) {
     assert!(rt; log.shut == Some(9) && log.entries.as_slice() == [7].as_slice());
 }
 
-// With memory it makes the lock. If `rt try --test --fail-alloc N` refuses any, it returns the value.
+// With memory it creates the lock. If `rt try --test --fail-alloc N` refuses memory, it returns the value.
 #[test]
 fn out_of_memory_hands_the_value_back(rt: HostRuntime) {
     let log = match TurnLock::new(rt.alloc(), empty_log(rt.alloc(), 9), 1) {

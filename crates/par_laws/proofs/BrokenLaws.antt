@@ -1,4 +1,4 @@
--- Runs as far as memory sufficed: who took part, and that nobody else did anything.
+-- Runs until memory runs out: the sessions that took part, and that no others did anything.
 use Rattle.std.proofs.Common.{◌≡◌, ℕ, ◌+◌, ◌≤◌, Bool, true, false, not, ◌&&◌, List, [], ◌∷◌, ◌++◌, append_assoc, append-nil, flat_map, map, sum_by, Option, sym, refl, ap, ◌∙◌, subst, inl, inr, arith}
 use Rattle.std.specs.Prelude.{◌||◌, ◌⊎◌, IsPermutation}
 use Rattle.std.specs.List.{list_any}
@@ -51,7 +51,7 @@ three_sums f a b c =
     let two = two_sums f b c in
     omega (arith, more, two)
 
--- the events of one part, of two and of three, behind none
+-- the events of one part, of two and of three, after no events
 one_made : (a m last : List ℕ) → a ≡ m → last ≡ [] ++ m → a ++ [] ≡ last
 one_made a m last same all = append-nil a ∙ same ∙ sym all
 
@@ -72,7 +72,7 @@ not_true : (b : Bool) → not b ≡ true → b ≡ false
 not_true false e = refl
 not_true true e = absurd cc
 
--- where no phase began nothing was done
+-- if no phase began, nothing was done
 pub none_began : {P : Type 0} (within : P → Block) (does : P → List ℕ → ℕ → Procedure (Turn P)) (p : P) (phases : List (List SessionScript)) (old new : State) (count : ℕ) → new ≡ old → count ≡ 0 → RanAsFar within does p old.history phases new count
 none_began within does p phases old new count same_state none =
     let here = position old.history in
@@ -85,12 +85,12 @@ none_began within does p phases old new count same_state none =
       reads = omega (arith, none);
     })
 
--- what ran of some phases ran of the same
+-- a run of some phases is a run of equal phases
 pub far_of_same : {P : Type 0} (within : P → Block) (does : P → List ℕ → ℕ → Procedure (Turn P)) (p : P) (opening : History) (setup setup_too others others_too final final_too : List SessionScript) (new : State) (count : ℕ) → setup ≡ setup_too → others ≡ others_too → final ≡ final_too → RanAsFar within does p opening (setup ∷ others ∷ final ∷ []) new count → RanAsFar within does p opening (setup_too ∷ others_too ∷ final_too ∷ []) new count
 far_of_same within does p opening setup setup_too others others_too final final_too new count a b c ran =
     subst (λ phases. RanAsFar within does p opening phases new count) (λ i. a i ∷ b i ∷ c i ∷ []) ran
 
--- what the sessions of workers do at their lines, and the places of these at their first lines
+-- what the lines of the workers' sessions do, and the states of the sessions at their first lines
 module _ {P : Type 0} (within : P → Block) (does : P → List ℕ → ℕ → Procedure (Turn P)) (p : P)
     {W : Type 0} (session_of : W → SessionScript) (replies_of : W → SessionReplies) (ran_out : W → Bool) {B : Type 0} (state : B → State) (store : Shared B) where
   -- how many rows a worker has read
@@ -100,7 +100,7 @@ module _ {P : Type 0} (within : P → Block) (does : P → List ℕ → ℕ → 
   abbrev at : Ticket B → ℕ
   at pass = position (history_of state store pass)
 
-  -- ---- workers by what they did where there was memory
+  -- ---- workers by what they did if there was memory
 
   worked : (start end : Ticket B) (olds news : List W) (made : List ℕ) → AllOutcomes state store (WorkedOrBroke within does p session_of replies_of ran_out) start end olds news made → AllOutcomes state store (Worked within does p session_of replies_of ran_out) start end olds news made
   worked start end [] [] made os = os
@@ -126,7 +126,7 @@ module _ {P : Type 0} (within : P → Block) (does : P → List ℕ → ℕ → 
   abbrev part_of : W → List ℕ → Part
   part_of new made = record { broke = ran_out new; made = made; reads = reads_of new }
 
-  -- what a state is that holds what the last pass has seen
+  -- a state that holds what the last pass has seen
   record IsLeft (new : State) (last : Ticket B) : Type 0 where
     whole : new.history ≡ history_of state store last
     shut : new.failed ≡ closed_of last
@@ -172,7 +172,7 @@ module _ {P : Type 0} (within : P → Block) (does : P → List ℕ → ℕ → 
 
   -- ---- crews
 
-  -- a crew ran between two passes where there was memory so far, and else did nothing
+  -- a crew ran between two passes if there was memory until then, and otherwise did nothing
   pub record CrewCame (enough : Bool) (start end : Ticket B) (olds news : List W) (sessions : List SessionScript) : Type 0 where
     pub begins : IsPrefix (seen_of start) (seen_of end)
     pub stays : StaysIn end start
@@ -181,7 +181,7 @@ module _ {P : Type 0} (within : P → Block) (does : P → List ℕ → ℕ → 
     pub are : map session_of olds ≡ sessions
     pub unread : sum_by reads_of olds ≡ 0
 
-  -- three crews came one after the other, and left a state. They have looked at so many rows
+  -- three crews ran in order, left a state, and read this many rows
   pub record CrewsCame (setup others final : List SessionScript) (new : State) (count : ℕ) : Type 0 where
     pub start : Ticket B
     pub middle : Ticket B
@@ -208,7 +208,7 @@ module _ {P : Type 0} (within : P → Block) (does : P → List ℕ → ℕ → 
     pub made : IsPermutation (made_of last) (positions_between (position (state store.opened.value).history) (position new.history))
     pub counted : count ≡ raised_by (sum_by reads_of (setup_new ++ others_new ++ final_new)) 0
 
-  -- the parts of a crew that ran, in which memory ran out or not
+  -- the parts of a crew that ran; the flag says whether it ran out of memory
   record CrewParts (new : State) (broke : Bool) (start end : Ticket B) (news : List W) (sessions : List SessionScript) (made : List ℕ) : Type 0 where
     parts : List Part
     ran : PhaseRan within does p new.history (stop_of new) broke (at start) (at end) sessions parts
@@ -255,7 +255,7 @@ module _ {P : Type 0} (within : P → Block) (does : P → List ℕ → ℕ → 
     read_by_all : ℕ
     read_by_all = sum_by reads_of (r.setup_new ++ r.others_new ++ r.final_new)
 
-    -- those parts that made all events and read all rows are the run
+    -- parts that appended all events and read all rows are the run
     whole_run : (parts : List (List Part)) → PhasesBegan within does p new.history (stop_of new) (at r.start) (at r.last) phases parts → all_made parts ≡ made_of r.last → all_reads parts ≡ sum_by reads_of (r.setup_new ++ r.others_new ++ r.final_new) → RanAsFar within does p opening phases new count
     whole_run parts ran made reads =
         let from : at r.start ≡ position opening = ap (λ es. position (opening ▸▸ es)) r.start_seen in
@@ -279,7 +279,7 @@ module _ {P : Type 0} (within : P → Block) (does : P → List ℕ → ℕ → 
     abbrev part_reads : List Part → ℕ
     part_reads parts = sum_by (λ part. part.reads) parts
 
-    -- memory ran out in the first crew
+    -- the first crew ran out of memory
     after_first : r.first ≡ false → RanAsFar within does p opening phases new count
     after_first none =
         let never : r.second ≡ false = r.second_is ∙ ap (λ b. b && not (list_any ran_out r.others_new)) none in
@@ -296,7 +296,7 @@ module _ {P : Type 0} (within : P → Block) (does : P → List ℕ → ℕ → 
         (one_made (flat_map (λ part. part.made) one.parts) ran.made (made_of r.last) one.makes (ap made_of same ∙ first_made ran.made ran.all))
         (omega (arith, others_read, final_read, read, read_one, all))
 
-    -- in the second
+    -- the second crew ran out of memory
     after_second : r.first ≡ true → r.second ≡ false → RanAsFar within does p opening phases new count
     after_second enough none =
         let ran = r.setup_came.ran refl in
@@ -319,7 +319,7 @@ module _ {P : Type 0} (within : P → Block) (does : P → List ℕ → ℕ → 
         (two_made (flat_map (λ part. part.made) one.parts) (flat_map (λ part. part.made) two.parts) ran.made ran_then.made (made_of r.middle) (made_of r.last) one.makes two.makes (first_made ran.made ran.all) (ap made_of same ∙ ran_then.all))
         (omega (arith, final_read, read, read_one, read_two, all))
 
-    -- in the third, or in none
+    -- the third crew ran out of memory, or none did
     last_phase : (broke : Bool) → (third : List Part) → PhaseRan within does p new.history (stop_of new) broke (at r.later) (at r.last) final third → PhasesRan within does p new.history (stop_of new) (at r.later) (at r.last) (final ∷ []) (third ∷ [])
     last_phase true third ran = inl (ran, refl)
     last_phase false third ran = inr (record { mid = at r.last; first = ran; rest = refl })

@@ -1,4 +1,5 @@
--- The replies to the lines of several sessions are E24 only at stops, name the events of their lines, and are by the names of the sessions.
+-- The replies of several sessions are E24 only at stops, name the events of their lines, and have the names of the
+-- sessions.
 use Rattle.std.proofs.Common.{◌≡◌, ℕ, ◌≤◌, List, [], ◌∷◌, map, Option, refl, arith}
 use Rattle.std.specs.List.{AllByRecursion}
 use Rattle.ts_model.specs.History.{History, base_position}
@@ -17,7 +18,7 @@ use Rattle.par_laws.specs.Stopped.{RepliesStopAt}
 
 -- ---- each reply
 
--- what holds of each reply by what its line came to
+-- a property of each reply, by the result of its line
 module _ {P : Type 0} (reply : P → List ℕ → ℕ → Procedure (Turn P)) (N : Option ℕ → LineAnswer (Turn P) → Type 0)
     (holds : (all : History) (stop : Option ℕ) (at : ℕ) (p : P) (text : List ℕ) (skip : ℕ) (a : LineAnswer (Turn P)) → base_position all ≤ at → Gives all stop at [] (reply p text skip) a.looks a.last a.given a.end → N stop a) where
   answered_each : (all : History) (stop : Option ℕ) (at : ℕ) (p : P) (lines : List SessionLine) (answers : List (LineAnswer (Turn P))) → base_position all ≤ at → Answered reply places_after all stop at p lines answers → AllByRecursion (N stop) answers
@@ -28,7 +29,7 @@ module _ {P : Type 0} (reply : P → List ℕ → ℕ → Procedure (Turn P)) (N
       let on : at ≤ a.last = gives_on all stop at (reply p line.text line.skip) a.looks a.last a.given a.end t.0 in
       (holds all stop at p line.text line.skip a low t.0, answered_each all stop a.last (places_after a.end) lines answers (omega (arith, low, on)) t.1)
 
-  -- and of all those of several sessions
+  -- the same for all replies of several sessions
   explained_each : (all : History) (stop : Option ℕ) (from to : ℕ) (p : P) (sessions : List SessionScript) (replies : List SessionReplies) (answers : List (List (LineAnswer (Turn P)))) → base_position all ≤ from → AllExplained lines_in AreReplies reply places_after all stop from to p sessions replies answers → AllByRecursion (λ each. AllByRecursion (N stop) each) answers
   explained_each all stop from to p [] [] [] low x = tt
   explained_each all stop from to p [] [] (a ∷ answers) low x = absurd x
@@ -37,7 +38,7 @@ module _ {P : Type 0} (reply : P → List ℕ → ℕ → Procedure (Turn P)) (N
   explained_each all stop from to p (v ∷ sessions) (r ∷ replies) [] low x = absurd x
   explained_each all stop from to p (v ∷ sessions) (r ∷ replies) (a ∷ answers) low x = (answered_each all stop from p v.lines a low x.0.answered, explained_each all stop from to p sessions replies answers low x.1)
 
--- it is E24 only where the store had stopped
+-- a reply is E24 only if the store had stopped
 pub explained_stop : {P : Type 0} (reply : P → List ℕ → ℕ → Procedure (Turn P)) → OnlyStopsAreReported reply → (all : History) (stop : Option ℕ) (from to : ℕ) (p : P) (sessions : List SessionScript) (replies : List SessionReplies) (answers : List (List (LineAnswer (Turn P)))) → base_position all ≤ from → AllExplained lines_in AreReplies reply places_after all stop from to p sessions replies answers → RepliesStopAt stop answers
 explained_stop reply only_stops all stop from to p sessions replies answers low x =
     explained_each reply (λ stop a. ReplyStopsAt stop a.end) (λ all stop at p text skip a low g. only_stops all stop at p text skip a.looks a.last a.given a.end low g) all stop from to p sessions replies answers low x
@@ -49,7 +50,7 @@ explained_named reply names_events all stop from to p sessions replies answers l
 
 -- ---- names
 
--- sessions that replied do so by their names
+-- the replies of sessions have their names
 pub explained_names : {P : Type 0} (reply : P → List ℕ → ℕ → Procedure (Turn P)) (all : History) (stop : Option ℕ) (from to : ℕ) (p : P) (sessions : List SessionScript) (replies : List SessionReplies) (answers : List (List (LineAnswer (Turn P)))) → AllExplained lines_in AreReplies reply places_after all stop from to p sessions replies answers → map (λ r. r.name) replies ≡ map (λ s. s.name) sessions
 explained_names reply all stop from to p [] [] [] x = refl
 explained_names reply all stop from to p [] [] (a ∷ answers) x = absurd x

@@ -1,4 +1,5 @@
--- Looks and events of lines are in order, and lie between the positions at which the lines began and ended.
+-- The read positions and events of lines are in order, and lie between the positions at which the lines began and
+-- ended.
 use Rattle.std.proofs.Common.{ℕ, suc, ◌≤◌, ◌<◌, List, [], ◌∷◌, ◌++◌, Option, Some, None, inl, inr, arith}
 use Rattle.std.specs.List.{AllByRecursion}
 use Rattle.ts_model.specs.declared.events.Event.{Event}
@@ -11,11 +12,11 @@ use Rattle.par_laws.specs.Answered.{LineAnswer, looks_of, given_by, numbers_of, 
 use Rattle.par_laws.specs.Laws.{AnswersGiveEvents, LooksNeverFall}
 use Rattle.par_laws.specs.Phases.{AllExplained, all_numbers}
 
--- numbers of events after one position and up to another
+-- the numbers of events are after one position and up to another
 abbrev pub AreWithin : ℕ → ℕ → List ℕ → Type 0
 AreWithin from to ns = AllByRecursion (λ n. (from < n) × (n ≤ to)) ns
 
--- numbers that lie between two positions, the first of which isn't above the second
+-- numbers between two positions, the first of which isn't above the second
 record Within (from to : ℕ) (ns : List ℕ) : Type 0 where
   order : from ≤ to
   lie : AreWithin from to ns
@@ -28,7 +29,7 @@ within_both : (a b : ℕ) (ns ms : List ℕ) → AreWithin a b ns → AreWithin 
 within_both a b [] ms v w = w
 within_both a b (n ∷ ns) ms v w = (v.0, within_both a b ns ms v.1 w)
 
--- one part after the other
+-- two parts in order
 within_then : (a b c : ℕ) (ns ms : List ℕ) → Within a b ns → Within b c ms → Within a c (ns ++ ms)
 within_then a b c ns ms v w = record {
   order = omega (arith, v.order, w.order);
@@ -46,7 +47,7 @@ events_within all at last (e ∷ es) es_are =
       lie = ((up, on), within_wider e.0 last at last (numbers es) (omega (arith, up)) (omega arith) rest.lie);
     }
 
--- ---- events and looks of one line after the other
+-- ---- events and read positions of lines in order
 
 events_from : (all : History) (a b c : ℕ) (es : List (ℕ × Event)) → a ≤ b → AreEvents all b es c → AreEvents all a es c
 events_from all a b c [] le w = omega (arith, le, w)
@@ -102,7 +103,7 @@ module _ {P A : Type 0} (reply : P → List ℕ → ℕ → Procedure A) (next :
       (gives_looks all stop at [] (reply p line.text line.skip) a.looks a.last a.given a.end t.0)
       (looks_answered all stop a.last (next a.end) lines answers t.1)
 
-  -- of sessions whose lines are answered between two positions
+  -- the numbers of sessions whose lines are answered between two positions
   pub explained_within : {V W : Type 0} (lines_of : V → List SessionLine) (AreReplies : V → W → List A → Type 0) (all : History) (stop : Option ℕ) (from to : ℕ) (p : P) (sessions : List V) (replies : List W) (answers : List (List (LineAnswer A))) → AllExplained lines_of AreReplies reply next all stop from to p sessions replies answers → AreWithin from to (all_numbers answers)
   explained_within lines_of AreReplies all stop from to p [] [] [] x = tt
   explained_within lines_of AreReplies all stop from to p [] [] (a ∷ answers) x = absurd x

@@ -1,4 +1,4 @@
--- Sessions that ran over one store came to what their lines mean over its one history.
+-- Sessions that ran on one store result in what their lines mean over its one history.
 use Rattle.std.proofs.Common.{◌≡◌, ℕ, ◌≤◌, Bool, true, false, List, [], ◌∷◌, ◌++◌, map, sym, refl, ap, ◌∙◌, subst}
 use Rattle.std.specs.Prelude.{◌||◌, IsPermutation, IsTrue}
 use Rattle.std.proofs.lemmas.Bool.{true≢false}
@@ -31,16 +31,16 @@ use Rattle.par_laws.proofs.PartLaws.{three_parts}
 use Rattle.par_laws.proofs.PhaseLaws.{EndsAt, outcomes_explained}
 use Rattle.turn_lock.proofs.Gathering.{stays_then}
 
--- where none of several is so, none of the others is
+-- if none of several is true, none of the later ones is
 none_later : (a b : Bool) → (a || b) ≡ false → b ≡ false
 none_later true b e = absurd (true≢false e)
 none_later false b e = e
 
--- what begins a history is at its base or above
+-- an earlier history ends at the base of a history or above
 low_from : {g h : History} → Begins g h → base_position h ≤ position g
 low_from {g} {h} b = subst (λ n. n ≤ position g) (sym (base_begins b)) (base_below g)
 
--- ---- what a snapshot leaves of a backend that is alone
+-- ---- what a snapshot leaves of a backend that nobody else uses
 
 pub snapped_same : {P : History → Type 0} (alone : Bool) (old new : State) → IsTrue alone → Looked alone old P new → new ≡ old
 snapped_same alone old new is_alone looked =
@@ -55,16 +55,16 @@ snapped_same alone old new is_alone looked =
         ∙ ap (λ x. record a { history = b.history; failed = b.failed; faults = b.faults; made = x }) m
         ∙ ap (λ x. record b { origin = x }) o
 
--- a snapshot was of an allowed history, whatever else is known of it
+-- a snapshot is one of an allowed history, whatever else it reports
 pub looked_allowed : {P : History → Type 0} (alone : Bool) (old new : State) → Looked alone old (λ h. IsTrue (all_allowed h) × P h) new → Looked alone old (λ h. IsTrue (all_allowed h)) new
 looked_allowed alone old new looked = record { found = looked.found; finds = looked.finds; keeps = looked.keeps; tells = looked.tells.0 }
 
--- whose lines do this, and who tells it by the replies
+-- what lines do, and the replies that report it
 module _ {P : Type 0} (within : P → Block) (does reply : P → List ℕ → ℕ → Procedure (Turn P)) (p : P) (tells : TellsReplies within does reply)
     {W : Type 0} (session_of : W → SessionScript) (replies_of : W → SessionReplies) (ran_out : W → Bool) {B : Type 0} (state : B → State) (store : Shared B) where
   -- ---- one crew
 
-  -- workers that had memory executed all their lines
+  -- workers that didn't run out of memory executed all their lines
   executed : (start end : Ticket B) (olds news : List W) (made : List ℕ) → list_any ran_out news ≡ false → AllOutcomes state store (Worked within does p session_of replies_of ran_out) start end olds news made → AllOutcomes state store (λ alone old s new t. SessionExecuted within does p alone (session_of old) s (replies_of new) t) start end olds news made
   executed start end [] [] made none os = os
   executed start end [] (new ∷ news) made none os = os
@@ -83,7 +83,7 @@ module _ {P : Type 0} (within : P → Block) (does reply : P → List ℕ → �
     all = os.all;
   }
 
-  -- what a crew's sessions came to over the history of a backend in which all ended, and the numbers of their events
+  -- the results of a crew's sessions over the history of a backend in which all ended, and the numbers of their events
   record CrewExplained (new : State) (start end : Ticket B) (sessions : List SessionScript) (replies : List SessionReplies) (made : List ℕ) : Type 0 where
     answers : List (List (LineAnswer (Turn P)))
     explained : AllExplained lines_in AreReplies reply places_after new.history (stop_of new) (position (history_of state store start)) (position (history_of state store end)) p sessions replies answers
@@ -106,7 +106,7 @@ module _ {P : Type 0} (within : P → Block) (does reply : P → List ℕ → �
         low = low_from (begins_trans (begins_seen state store start end ran.begins) (subst (λ h. Begins (history_of state store end) h) (sym ends.whole) (begins_seen state store end last knows.0)));
       }
 
-  -- a phase whose crew made the positions between its ends
+  -- a phase whose crew added the positions between its ends
   sessions_ran : (new : State) (start end : Ticket B) (sessions : List SessionScript) (replies : List SessionReplies) (made : List ℕ) → (c : CrewExplained new start end sessions replies made) → IsPermutation made (positions_between (position (history_of state store start)) (position (history_of state store end))) → SessionsRan reply p new.history (stop_of new) (position (history_of state store start)) (position (history_of state store end)) sessions replies
   sessions_ran new start end sessions replies made c all =
       let from = position (history_of state store start) in
@@ -122,9 +122,9 @@ module _ {P : Type 0} (within : P → Block) (does reply : P → List ℕ → �
         named = explained_named reply tells.named new.history (stop_of new) from to p sessions replies c.answers c.low c.explained;
       }
 
-  -- ---- three crews, one after the other
+  -- ---- three crews in order
 
-  -- what the last crew's pass has seen, it has seen
+  -- a pass has seen what it has seen
   knows_itself : (pass : Ticket B) → Knows pass pass
   knows_itself pass = (prefix_self (seen_of pass), λ e is. (is, refl))
 

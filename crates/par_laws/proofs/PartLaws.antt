@@ -1,4 +1,5 @@
--- Positions that are parted: where numbers lie in parts one after the other, and together are all positions, those of each part are its positions.
+-- Positions in parts. If numbers lie in parts in order, and together are all positions, those of each part are its
+-- positions.
 use Rattle.std.proofs.Common.{◌≡◌, ℕ, ◌+◌, ◌<◌, ◌≤◌, Bool, true, false, cond, eqb, nat_lt, nat_le, ◌&&◌, List, [], ◌∷◌, ◌++◌, sym, refl, ap, ◌∙◌, arith}
 use Rattle.std.specs.Prelude.{IsPermutation}
 use Rattle.std.proofs.lemmas.Bool.Decides.{nat_tests}
@@ -7,7 +8,7 @@ use Rattle.turn_lock.specs.Positions.{positions_between, times}
 use Rattle.turn_lock.proofs.Numbers.{times-append, times-cons, times_between, counts_permute}
 use Rattle.par_laws.proofs.NumberLaws.{AreWithin}
 
--- a number lies after one position and up to another
+-- a number is after one position and up to another
 abbrev inside : ℕ → ℕ → ℕ → Bool
 inside a b q = nat_lt a q && nat_le q b
 
@@ -25,14 +26,14 @@ times_outside a b q (n ∷ ns) w out =
 inside_wider : (lo a b hi q : ℕ) → lo ≤ a → b ≤ hi → inside a b q ≡ true → inside lo hi q ≡ true
 inside_wider lo a b hi q low high e = grind (arith, nat_tests, low, high, e)
 
--- before or after a part
+-- a number of a part before or after another isn't in the other
 before_part : (a b c d q : ℕ) → d ≤ a → inside a b q ≡ true → inside c d q ≡ false
 before_part a b c d q le e = grind (arith, nat_tests, le, e)
 
 after_part : (a b c d q : ℕ) → b ≤ c → inside a b q ≡ true → inside c d q ≡ false
 after_part a b c d q le e = grind (arith, nat_tests, le, e)
 
--- numbers of a part, of which the whole has each once, and of which no others are
+-- the numbers of a part are its positions, if the whole has each once and no others are in the part
 part_permutes : (lo a b hi : ℕ) (ns others whole : List ℕ) → lo ≤ a → a ≤ b → b ≤ hi → AreWithin a b ns → ((q : ℕ) → inside a b q ≡ true → times q others ≡ 0) → ((q : ℕ) → times q ns + times q others ≡ times q whole) → IsPermutation whole (positions_between lo hi) → IsPermutation ns (positions_between a b)
 part_permutes lo a b hi ns others whole low order high within none sum all =
     counts_permute ns (positions_between a b) (λ q. count q (inside a b q) refl ∙ sym (times_between a q b order))
@@ -49,7 +50,7 @@ part_permutes lo a b hi ns others whole low order high within none sum all =
         one ∙ sym (ap (λ t. cond t 1 0) e)
     count q false e = times_outside a b q ns within e ∙ sym (ap (λ t. cond t 1 0) e)
 
--- three parts, one after the other
+-- three parts in order
 pub record Parts (p0 p1 p2 p3 : ℕ) (ns ms ks : List ℕ) : Type 0 where
   pub first : IsPermutation ns (positions_between p0 p1)
   pub second : IsPermutation ms (positions_between p1 p2)

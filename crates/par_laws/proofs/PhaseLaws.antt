@@ -20,7 +20,7 @@ use Rattle.par_laws.specs.Answered.{LineAnswer, numbers_of, last_in}
 use Rattle.par_laws.specs.Phases.{Executed, Explained, AllExplained, all_numbers}
 use Rattle.par_laws.proofs.WalkedLaws.{walked_is_answered}
 
--- a store in which another ended stopped where that had stopped
+-- a store in which another ended stopped at the position at which that one had stopped
 pub stops_there : (left new : State) → ((e : Event) → left.failed ≡ Some e → (new.failed ≡ Some e) × (new.history ≡ left.history)) → StopsLater (stop_of left) (stop_of new)
 stops_there left new stops = by_failed left.failed stops
   where
@@ -34,13 +34,14 @@ before : (a b c : ℕ) → a ≤ b → b ≤ c → a ≤ c
 before a b c l m = omega arith
 
 module _ {B : Type 0} (state : B → State) (store : Shared B) where
-  -- where a backend ends: all that it holds was allowed, and the last pass has seen it
+  -- the end of a backend: all its events were allowed, and the last pass has seen them
   pub record EndsAt (new : State) (last : Ticket B) : Type 0 where
     pub ok : all_allowed new.history ≡ true
     pub whole : new.history ≡ history_of state store last
     pub shut : new.failed ≡ closed_of last
 
--- workers of a store: their sessions with their lines, and what they reply to them; what lines do, and the replies to them, which give what was walked of a line over each longer history that is allowed
+-- workers of a store: their sessions with their lines, and their replies; what lines do, and the replies to them. A
+-- reply gives any walk of its line over each longer history that is allowed
 module _ {B : Type 0} (state : B → State) (store : Shared B) {X V W P A : Type 0} (session_of : X → V) (replies_of : X → W) (lines_of : V → List SessionLine) (AreReplies : V → W → List A → Type 0)
     (does reply : P → List ℕ → ℕ → Procedure A) (next : A → P) (Fits : P → History → Type 0)
     (told : (alone failed : Bool) (all : History) (stop : Option ℕ) (at : ℕ) (old : State) (p : P) (text : List ℕ) (skip : ℕ) (new : State) (y : A) → Fits p old.history → at ≤ position old.history → all_allowed all ≡ true → Begins new.history all → StopsLater (stop_of new) stop → Walks alone failed old (does p text skip) new y → IsGivenOver all stop old new at (reply p text skip) y) where
@@ -68,13 +69,14 @@ module _ {B : Type 0} (state : B → State) (store : Shared B) {X V W P A : Type
         makes = sym t.made ∙ o.makes;
       }
 
-  -- sessions whose lines are answered between two positions, and who made the events with these numbers
+  -- sessions whose lines are answered between two positions, with the events of these numbers
   pub record PhaseMade (all : History) (stop : Option ℕ) (from to : ℕ) (p : P) (sessions : List V) (more : List W) (made : List ℕ) : Type 0 where
     pub answers : List (List (LineAnswer A))
     pub explained : AllExplained lines_of AreReplies reply next all stop from to p sessions more answers
     pub makes : all_numbers answers ≡ made
 
-  -- what workers did by the end of their phase is answered over the history of a backend that ended with what the last pass has seen
+  -- what workers did by the end of their phase is answered over the history of a backend. The last pass has seen this
+  -- history to its end
   pub outcomes_explained : (new : State) (start end last : Ticket B) (p : P) (olds news : List X) (made : List ℕ) → EndsAt state store new last → Knows last end → AllOutcomes state store (λ alone old s now t. Executed lines_of AreReplies does next Fits alone p (session_of old) s (replies_of now) t) start end olds news made → PhaseMade new.history (stop_of new) (position (history_of state store start)) (position (history_of state store end)) p (map session_of olds) (map replies_of news) made
   outcomes_explained new start end last p [] [] made ends knows os = record { answers = []; explained = tt; makes = sym os }
   outcomes_explained new start end last p [] (now ∷ news) made ends knows os = absurd os

@@ -1,4 +1,4 @@
--- How a session executes one line after the other.
+-- How a session executes its lines in order.
 use Rattle.std.proofs.Common.{◌≡◌, ℕ, suc, ◌+◌, Bool, true, false, List, [], ◌∷◌, ◌++◌, length, sum_by, sym, refl, ap, ◌∙◌, arith}
 use Rattle.std.specs.Prelude.{◌||◌}
 use Rattle.std.proofs.lemmas.List.Sums.{sum_by_push}
@@ -18,7 +18,7 @@ use Rattle.transcript.specs.declared.transcripts.Exchange.{Exchange}
 use Rattle.par_laws.specs.Walked.{Walked}
 use Rattle.par_laws.proofs.WalkedLaws.{walked_more}
 
--- as many lines as turns
+-- there are as many lines as turns
 same_lengths : {P A : Type 0} (does : P → List ℕ → ℕ → Procedure A) (next : A → P) (Fits : P → History → Type 0) (alone : Bool) (s : State) (p : P) (lines : List SessionLine) (turns : List A) (new : State) (q : P) → Walked does next Fits alone s p lines turns new q → length lines ≡ length turns
 same_lengths does next Fits alone s p [] [] new q w = refl
 same_lengths does next Fits alone s p [] (y ∷ ys) new q w = absurd w
@@ -31,7 +31,7 @@ exchanges_more name [] (t ∷ turns) line turn same = absurd cc
 exchanges_more name (l ∷ lines) [] line turn same = absurd cc
 exchanges_more name (l ∷ lines) (t ∷ turns) line turn same = ap (λ es. exchange_of name l t ∷ es) (exchanges_more name lines turns line turn cc)
 
--- rows read by one turn more
+-- the rows read by one more turn
 reads_more : {P : Type 0} (turns : List (Turn P)) (turn : Turn P) (before after : ℕ) → before ≡ raised_by (sum_by (λ t. t.reads) turns) 0 → after ≡ raised_by turn.reads before → after ≡ raised_by (sum_by (λ t. t.reads) (turns ++ turn ∷ [])) 0
 reads_more turns turn before after so_far more =
     raised_twice (sum_by (λ t. t.reads) turns) turn.reads before after so_far more ∙ ap (λ n. raised_by n 0) (sym (sum_by_push (λ t. t.reads) turns turn))
@@ -51,7 +51,7 @@ any_more (t ∷ turns) turn = first (has_fault t.said) (list_any (λ t. has_faul
 abbrev exchange : List ℕ → List ℕ → Exchange
 exchange line reply = record { line = line; reply = reply }
 
--- a line and its reply come last in what a session said, and so many rows were read by then
+-- a session's replies with one more line and its reply, when this many rows have been read
 abbrev pub with_exchange : List ℕ → Reply → ℕ → SessionReplies → SessionReplies
 with_exchange line reply reads replies = record {
   name = replies.name;
@@ -60,13 +60,14 @@ with_exchange line reply reads replies = record {
   reads = reads;
 }
 
--- what lines do by the places of their session, the block that places are in, and the places of each session at its first line
+-- what lines do by the state of their session, the block in a session state, and the state of each session at its first
+-- line
 module _ {P : Type 0} (within : P → Block) (does : P → List ℕ → ℕ → Procedure (Turn P)) (first : P) where
   -- a session before its first line
   pub begun : (alone : Bool) (name : List ℕ) (s : State) → SessionExecutedTo within does first alone (record { name = name; lines = [] }) s (record { name = name; exchanges = []; fault = false; reads = 0 }) s first
   begun alone name s = record { turns = []; walked = (refl, refl); replied = record { name = refl; exchanges = refl; fault = refl; reads = refl } }
 
-  -- a session executed one line more
+  -- a session executed one more line
   pub executed_more : (alone failed : Bool) (name : List ℕ) (lines : List SessionLine) (s : State) (replies : SessionReplies) (mid : State) (q : P) (line : SessionLine) (reply : Reply) (new : State) (places : P) (after : ℕ) → SessionExecutedTo within does first alone (record { name = name; lines = lines }) s replies mid q → HadBegun within q mid.history → Reports alone failed mid (does q line.text line.skip) name reply new places replies.reads after → SessionExecutedTo within does first alone (record { name = name; lines = lines ++ line ∷ [] }) s (with_exchange line.text reply after replies) new places
   executed_more alone failed name lines s replies mid q line reply new places after so_far fits reports =
       let turn : Turn P = record { places = places; said = reports.said; reads = reports.read } in
@@ -85,6 +86,6 @@ module _ {P : Type 0} (within : P → Block) (does : P → List ℕ → ℕ → 
         };
       }
 
-  -- and all of them
+  -- a session executed all its lines
   pub executed_all : (alone : Bool) (name : List ℕ) (lines : List SessionLine) (s : State) (replies : SessionReplies) (new : State) (places : P) → SessionExecutedTo within does first alone (record { name = name; lines = lines }) s replies new places → SessionExecuted within does first alone (record { name = name; lines = lines }) s replies new
   executed_all alone name lines s replies new places to = record { places = places; to = to }

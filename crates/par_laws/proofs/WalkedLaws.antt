@@ -1,4 +1,4 @@
--- What was walked line by line is answered over each longer history.
+-- Lines that were walked in order are answered over each longer history.
 use Rattle.std.proofs.Common.{◌≡◌, ℕ, ◌≤◌, Bool, true, List, [], ◌∷◌, ◌++◌, append_assoc, append-nil, Option, sym, refl, ap, ◌∙◌, subst, arith}
 use Rattle.std.specs.Prelude.{IsTrue}
 use Rattle.ts_model.specs.History.{History, position, Begins}
@@ -21,7 +21,7 @@ use Rattle.par_laws.specs.Laws.{AreSteady, WalkedLinesAreAnswered}
 use Rattle.par_laws.specs.Answered.{LineAnswer, ends_of, numbers_of, last_in, Answered, IsAnswered}
 
 module _ {P A : Type 0} (does : P → List ℕ → ℕ → Procedure A) (next : A → P) (Fits : P → History → Type 0) where
-  -- ---- what a walk of lines leaves continues where the walk began
+  -- ---- a walk of lines continues from the state at which it began
 
   pub goes_walked : (alone : Bool) (s : State) (p : P) (lines : List SessionLine) (ys : List A) (new : State) (q : P) → Walked does next Fits alone s p lines ys new q → GoesOn s new
   goes_walked alone s p [] [] new q w = goes_same s new w.0
@@ -56,12 +56,12 @@ module _ {P A : Type 0} (does : P → List ℕ → ℕ → Procedure A) (next : 
     rest = walked_more alone w.mid (next z) lines ys mid q line y new w.rest one;
   }
 
-  -- ---- answered
+  -- ---- answered lines
 
-  -- the replies, which give what was walked of a line over each longer history that is allowed
+  -- replies, which give any walk of a line over each longer history that is allowed
   module _ (reply : P → List ℕ → ℕ → Procedure A)
       (told : (alone failed : Bool) (all : History) (stop : Option ℕ) (at : ℕ) (old : State) (p : P) (text : List ℕ) (skip : ℕ) (new : State) (y : A) → Fits p old.history → at ≤ position old.history → all_allowed all ≡ true → Begins new.history all → StopsLater (stop_of new) stop → Walks alone failed old (does p text skip) new y → IsGivenOver all stop old new at (reply p text skip) y) where
-    -- the same of a session that had looked at a position last
+    -- the same for a session that had last read at a position
     record AnsweredFrom (all : History) (later : Option ℕ) (at : ℕ) (s new : State) (p : P) (lines : List SessionLine) (ys : List A) : Type 0 where
       answers : List (LineAnswer A)
       answered : Answered reply next all later at p lines answers

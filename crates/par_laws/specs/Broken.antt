@@ -1,4 +1,4 @@
--- Runs that may run out of memory: who ran, up to the phase in which it ran out.
+-- Runs that may run out of memory: the sessions that ran, up to the phase that ran out of memory.
 use Rattle.std.specs.Prelude.{◌≡◌, ◌≤◌, ◌⊎◌, ℕ, Bool, true, false, List, [], ◌∷◌, ◌++◌, flat_map, sum_by, Option, IsPermutation}
 use Rattle.std.specs.List.{list_any}
 use Rattle.ts_schema.specs.Counts.{raised_by}
@@ -13,8 +13,8 @@ use Rattle.ts_sessions.specs.Walks.{Breaks}
 use Rattle.par_laws.specs.Calls.{Worked}
 use Rattle.par_laws.specs.Parallel.{SessionReplies, SessionExecuted, SessionExecutedTo}
 
--- what a session did that took part: whether it ran out of memory and broke off, the numbers of the events that it
--- made, and how many stored rows it read
+-- what a session did in its phase: whether it ran out of memory and broke off, the numbers of its events, and how many
+-- stored rows it read
 pub record Part : Type 0 where
   pub broke : Bool
   pub made : List ℕ
@@ -24,7 +24,7 @@ pub record Part : Type 0 where
 abbrev pub one_broke : List Part → Bool
 one_broke parts = list_any (λ part. part.broke) parts
 
--- the events that the sessions of several phases made, and the rows that they read
+-- the events that the sessions of several phases appended, and the rows that they read
 abbrev pub all_made : List (List Part) → List ℕ
 all_made phases = flat_map (λ parts. flat_map (λ part. part.made) parts) phases
 
@@ -37,25 +37,25 @@ pub record Upto (First Rest : ℕ → Type 0) : Type 0 where
   pub first : First mid
   pub rest : Rest mid
 
--- what lines do by the places of their session, the block that places are in, and the places of each session at its
--- first line
+-- what lines do by the state of their session, the block in a session state, and the state of each session at its first
+-- line
 module _ {P : Type 0} (within : P → Block) (does : P → List ℕ → ℕ → Procedure (Turn P)) (p : P) where
   -- ---- one session
 
-  -- a session executed all its lines from a state on, and read so many rows
+  -- a session executed all its lines from a state on, and read this many rows
   pub record Finished (alone : Bool) (session : SessionScript) (s : State) (count : ℕ) (t : State) : Type 0 where
     pub replies : SessionReplies
     pub executed : SessionExecuted within does p alone session s replies t
     pub reads : count ≡ replies.reads
 
-  -- a session executed its first lines from a state on, ran out of memory in the next one, and broke off: the events
-  -- that this line had made stay
+  -- a session executed its first lines from a state on, ran out of memory in the next one, and broke off. The events of
+  -- this line remain
   pub record BrokeOff (alone : Bool) (session : SessionScript) (s : State) (count : ℕ) (t : State) : Type 0 where
     pub done : List SessionLine
     pub line : SessionLine
     pub rest : List SessionLine
     pub lines : session.lines ≡ done ++ line ∷ rest
-    -- what the first lines were replied, and the state and the places that they left
+    -- the replies to the first lines, and the store state and the session state that they left
     pub replies : SessionReplies
     pub mid : State
     pub places : P
@@ -64,14 +64,14 @@ module _ {P : Type 0} (within : P → Block) (does : P → List ℕ → ℕ → 
     pub broke : Breaks alone mid (does places line.text line.skip) t
     pub reads : replies.reads ≤ count
 
-  -- by whether it broke off
+  -- what a session did, by whether it broke off
   abbrev pub Went : Bool → Bool → SessionScript → State → ℕ → State → Type 0
   Went false alone session s count t = Finished alone session s count t
   Went true alone session s count t = BrokeOff alone session s count t
 
   -- ---- a phase
 
-  -- over a whole history, which stopped at a position if it did, a session took part in a phase between two positions
+  -- over a whole history, which stopped at `stop` if it did, a session took part in a phase between two positions
   pub record TookPart (all : History) (stop : Option ℕ) (from to : ℕ) (session : SessionScript)
       (part : Part) : Type 0 where
     -- the states that it found and left
@@ -85,7 +85,7 @@ module _ {P : Type 0} (within : P → Block) (does : P → List ℕ → ℕ → 
     pub stops : StopsLater (stop_of new) stop
     pub made : new.made ≡ part.made
 
-  -- so did each of several
+  -- each of several sessions did
   abbrev pub AllTookPart : History → Option ℕ → ℕ → ℕ → List SessionScript → List Part → Type 0
   AllTookPart all stop from to [] [] = Unit {0}
   AllTookPart all stop from to [] (part ∷ parts) = ⊥
@@ -102,7 +102,7 @@ module _ {P : Type 0} (within : P → Block) (does : P → List ℕ → ℕ → 
 
   -- ---- phases
 
-  -- phases ran in order, up to the one in which memory ran out, if it did
+  -- phases ran in order, up to the one that ran out of memory, if one did
   abbrev pub PhasesRan : History → Option ℕ → ℕ → ℕ → List (List SessionScript) → List (List Part) → Type 0
   PhasesRan all stop from to [] [] = from ≡ to
   PhasesRan all stop from to [] (parts ∷ more) = ⊥
@@ -112,12 +112,12 @@ module _ {P : Type 0} (within : P → Block) (does : P → List ℕ → ℕ → 
       ⊎ Upto (λ mid. PhaseRan all stop false from mid sessions parts)
       (λ mid. PhasesRan all stop mid to later more)
 
-  -- or none began
+  -- the same, or no phase began
   abbrev pub PhasesBegan : History → Option ℕ → ℕ → ℕ → List (List SessionScript) → List (List Part) → Type 0
   PhasesBegan all stop from to phases [] = from ≡ to
   PhasesBegan all stop from to phases (parts ∷ more) = PhasesRan all stop from to phases (parts ∷ more)
 
-  -- over an opening history phases ran until memory ran out, if it did: the sessions that took part made all events
+  -- over an opening history phases ran until memory ran out, if it did. The sessions that took part appended all events
   -- since then, and read all rows. Those of later phases did nothing
   pub record RanAsFar (opening : History) (phases : List (List SessionScript)) (new : State) (count : ℕ) : Type 0 where
     pub parts : List (List Part)
@@ -126,14 +126,14 @@ module _ {P : Type 0} (within : P → Block) (does : P → List ℕ → ℕ → 
     pub made : IsPermutation (all_made parts) (positions_between (position opening) (position new.history))
     pub reads : count ≡ raised_by (all_reads parts) 0
 
-  -- ---- workers, by the session whose lines they execute, what it replied, and whether memory ran out
+  -- ---- workers, by the session whose lines they execute, its replies, and whether they ran out of memory
 
   module _ {W : Type 0} (session_of : W → SessionScript) (replies_of : W → SessionReplies) (ran_out : W → Bool) where
-    -- where memory ran out, a worker's session broke off
+    -- the session of a worker broke off, if the worker ran out of memory
     abbrev pub Broke : Bool → W → State → W → State → Type 0
     Broke alone old s new t = ran_out new ≡ true → BrokeOff alone (session_of old) s (replies_of new).reads t
 
-    -- and otherwise executed all its lines
+    -- a worker's session broke off if the worker ran out of memory, and otherwise executed all its lines
     abbrev pub WorkedOrBroke : Bool → W → State → W → State → Type 0
     WorkedOrBroke alone old s new t =
         Worked within does p session_of replies_of ran_out alone old s new t × Broke alone old s new t

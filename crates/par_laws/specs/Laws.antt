@@ -19,7 +19,7 @@ use Rattle.par_laws.specs.Walked.{Walked}
 -- ---- lines
 
 module _ {P A : Type 0} (does reply : P → List ℕ → ℕ → Procedure A) where
-  -- what walked a line walked its reply, where the history that it left is allowed
+  -- a walk of a line is a walk of its reply, if the history that it left is allowed
   abbrev pub WalksAreReplies : Type 0
   WalksAreReplies =
       (alone failed : Bool) (old : State) (p : P) (text : List ℕ) (skip : ℕ) (new : State) (y : A)
@@ -30,8 +30,8 @@ module _ {P A : Type 0} (does reply : P → List ℕ → ℕ → Procedure A) wh
 abbrev pub AreSteady : {P A : Type 0} → (P → List ℕ → ℕ → Procedure A) → P → History → Type 0
 AreSteady reply p base = (text : List ℕ) (skip : ℕ) → Steady false base (reply p text skip)
 
--- lines that were walked in order, while others changed the store too, are answered by their replies over each longer
--- history that is allowed, also over one whose store stopped later
+-- lines walked in order, while others changed the store too, are answered by their replies over each longer history
+-- that is allowed. The store may have stopped later
 abbrev pub WalkedLinesAreAnswered : (P A : Type 0) → Type 0
 WalkedLinesAreAnswered P A =
     (does reply : P → List ℕ → ℕ → Procedure A) (next : A → P) (alone : Bool) (all : History) (later : Option ℕ)
@@ -46,7 +46,7 @@ LooksNeverFall P A =
     (lines : List SessionLine) (answers : List (LineAnswer A))
     → Answered reply next all stop at p lines answers → NeverFall at (looks_of answers) (last_in at answers)
 
--- the events that the lines of a session made are those of the history with their numbers, in their order
+-- the events of a session's lines are those of the history with their numbers, in their order
 abbrev pub AnswersGiveEvents : (P A : Type 0) → Type 0
 AnswersGiveEvents P A =
     (reply : P → List ℕ → ℕ → Procedure A) (next : A → P) (all : History) (stop : Option ℕ) (at : ℕ) (p : P)
@@ -55,8 +55,7 @@ AnswersGiveEvents P A =
 
 -- ---- sessions
 
--- sessions that ran over one store, some in parallel, result in what their lines mean over the one history that was
--- left
+-- sessions that ran on one store, some in parallel, result in what their lines mean over the one history that was left
 abbrev pub ParallelRunsHaveOneHistory : (P W : Type 0) {B : Type 0} → Bool → (B → State) → Type 0
 ParallelRunsHaveOneHistory P W {B} alone state =
     (within : P → Block) (does reply : P → List ℕ → ℕ → Procedure (Turn P)) (p : P) (session_of : W → SessionScript)

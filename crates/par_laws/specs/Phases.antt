@@ -13,16 +13,17 @@ abbrev pub all_numbers : {A : Type 0} → List (List (LineAnswer A)) → List �
 all_numbers [] = []
 all_numbers (answers ∷ others) = numbers_of answers ++ all_numbers others
 
--- sessions by their lines, and what they reply by what these ended with
+-- sessions by their lines, and their replies by the results of these
 module _ {V W P A : Type 0} (lines_of : V → List SessionLine) (AreReplies : V → W → List A → Type 0) where
-  -- a session executed its lines from a state on, which left a state and places, and replies with what they ended with
+  -- a session executed its lines from a state on, which left a store state and a session state. Its replies are the
+  -- results of the lines
   pub record ExecutedTo (does : P → List ℕ → ℕ → Procedure A) (next : A → P) (Fits : P → History → Type 0)
       (alone : Bool) (p : P) (session : V) (s : State) (replies : W) (t : State) (q : P) : Type 0 where
     pub turns : List A
     pub walked : Walked does next Fits alone s p (lines_of session) turns t q
     pub replied : AreReplies session replies turns
 
-  -- and left some places
+  -- the same, with any session state at the end
   pub record Executed (does : P → List ℕ → ℕ → Procedure A) (next : A → P) (Fits : P → History → Type 0)
       (alone : Bool) (p : P) (session : V) (s : State) (replies : W) (t : State) : Type 0 where
     pub places : P
@@ -36,7 +37,7 @@ module _ {V W P A : Type 0} (lines_of : V → List SessionLine) (AreReplies : V 
       pub within : last_in from answers ≤ to
       pub replied : AreReplies session replies (ends_of answers)
 
-    -- and those of several sessions
+    -- the same for several sessions
     abbrev pub AllExplained : History → Option ℕ → ℕ → ℕ → P → List V → List W → List (List (LineAnswer A)) → Type 0
     AllExplained all stop from to p [] [] [] = Unit {0}
     AllExplained all stop from to p [] [] (answers ∷ others) = ⊥

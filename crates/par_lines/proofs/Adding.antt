@@ -27,7 +27,7 @@ has_name name session = same_name session.name name
 -- ---- the session of a line, by the definition
 
 module _ (name : List ℕ) (line : SessionLine) where
-  -- a session that is new comes last
+  -- a new session comes last
   with_new : (scripts : List SessionScript) → appears_in name scripts ≡ false → with_line name line scripts ≡ scripts ++ record { name = name; lines = line ∷ [] } ∷ []
   with_new [] absent = refl
   with_new (x ∷ scripts) absent = by (same_name x.name name) refl absent (with_new scripts)
@@ -47,17 +47,17 @@ module _ (name : List ℕ) (line : SessionLine) where
     abbrev refused : Sorted
     refused = refuses (reply_text name (said.Fault (bare too_many_sessions))) s
 
-    -- of a session that has appeared
+    -- a line of a session that has appeared
     as_known : appears_in name s.sessions ≡ true → sorts_as name line s ≡ taken
     as_known there = ap (λ b. cond (b || nat_lt (length s.sessions) most_sessions) taken refused) there
 
-    -- of a new one, where there is room
+    -- a line of a new one, if there are fewer than 64
     as_new : length s.sessions < most_sessions → sorts_as name line s ≡ taken
     as_new few =
         let room : nat_lt (length s.sessions) most_sessions ≡ true = lt-ltb (length s.sessions) most_sessions few in
         ap (λ b. cond (appears_in name s.sessions || b) taken refused) room ∙ ap (λ b. cond b taken refused) (or-true (appears_in name s.sessions))
 
-    -- and where there is none
+    -- a line of a new one otherwise
     as_refused : appears_in name s.sessions ≡ false → most_sessions ≤ length s.sessions → sorts_as name line s ≡ refused
     as_refused absent many =
         let full : nat_lt (length s.sessions) most_sessions ≡ false = le-ltb (length s.sessions) most_sessions many in
@@ -72,7 +72,7 @@ module _ (name input : List ℕ) (place : LinePlace) where
   appears_same : (sessions : List SessionLines) → appears_in name (scripts_of input sessions) ≡ list_any (has_name name) sessions
   appears_same sessions = any_mapped (script_of input) (λ script. same_name script.name name) sessions
 
-  -- the session at the first place with its name has one line more
+  -- the session at the first index with its name has one more line
   added_at : (sessions : List SessionLines) (i : ℕ) (session new : SessionLines) → i < length sessions → session ≡ get_or sessions i session
       → has_name name session ≡ true → ((k : ℕ) → k < i → has_name name (get_or sessions k session) ≡ false)
       → new.name ≡ session.name → new.lines.items ≡ session.lines.items ++ place ∷ [] → scripts_of input (set sessions i new) ≡ with_line name line (scripts_of input sessions)

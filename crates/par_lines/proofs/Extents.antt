@@ -1,4 +1,4 @@
--- How much of an input lines are.
+-- Sizes of lines in an input.
 use Rattle.std.proofs.Common.{◌≡◌, ℕ, ◌+◌, ◌<◌, ◌≤◌, List, [], ◌∷◌, ◌++◌, length, get_or, set, Option, Some, None, sym, ap, ◌∙◌, subst, arith}
 use Rattle.std.specs.List.{All, sum_by}
 use Rattle.std.specs.Option.{IfSome, option_to_list}
@@ -11,7 +11,7 @@ use Rattle.par_lines.specs.Places.{IsLineWithin, IsWithin}
 abbrev place_len : LinePlace → ℕ
 place_len place = place.len
 
--- what is within some bytes is within more
+-- a line within some bytes is within more bytes
 line_wider : (m n : ℕ) → m ≤ n → (place : LinePlace) → IsLineWithin m place → IsLineWithin n place
 line_wider m n more place h = record { inside = omega (arith, h.inside); statement = h.statement; short = h.short }
 
@@ -24,7 +24,7 @@ wider m n more session h = record {
 pub all_wider : (m n : ℕ) → m ≤ n → (sessions : List SessionLines) → All (IsWithin m) sessions → All (IsWithin n) sessions
 all_wider m n more sessions all = All-weaker (IsWithin m) (IsWithin n) (wider m n more) sessions all
 
--- a session has one line more, which begins behind all that it had
+-- a session has one more line, which begins after all earlier ones
 longer : (n : ℕ) (place : LinePlace) (session new : SessionLines) → IsLineWithin n place → IsWithin place.from session → new.lines.items ≡ session.lines.items ++ place ∷ [] → IsWithin n new
 longer n place session new h old pushed =
     let more : place.from ≤ n = omega (arith, h.inside) in
@@ -42,7 +42,7 @@ within_set n place sessions i session new h all l at pushed =
     let old : IsWithin place.from session = subst (IsWithin place.from) (sym at) (All-get_or (IsWithin place.from) sessions i session l all) in
     All-set (IsWithin n) sessions i new (longer n place session new h old pushed) (all_wider place.from n (omega (arith, h.inside)) sessions all)
 
--- the one of a list of at most one
+-- the element of a list of at most one
 pub all_of_one : {X : Type 0} (P : X → Type 0) (o : Option X) → All P (option_to_list o) → IfSome o P
 all_of_one P None all = tt
 all_of_one P (Some x) all = all 0 x (omega arith)

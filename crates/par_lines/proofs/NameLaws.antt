@@ -104,7 +104,7 @@ named_lines n (line ∷ lines) s all = named_lines (suc n) lines (sorts n line s
 pub named_input : (input : List ℕ) → Named (sorted_lines input)
 named_input input = named_lines 1 (lines_of input) (record { refusals = []; sessions = [] }) (record { few = omega arith; named = All-nil (λ name. IsTrue (is_name name)); apart = λ i j d l m. absurd (omega arith) })
 
--- ---- the same of sessions by places
+-- ---- the same for sessions by places
 
 abbrev name_in : SessionLines → List ℕ
 name_in session = session.name

@@ -1,4 +1,4 @@
--- Sessions stay numbered, whichever has a line more.
+-- Sessions stay numbered when one of them gets one more line.
 use Rattle.std.proofs.Common.{◌≡◌, ℕ, ◌+◌, ◌<◌, List, [], ◌∷◌, ◌++◌, length, get_or, set, map, sym, ap, subst, ◌∙◌, arith}
 use Rattle.std.specs.List.{All, range_with_len}
 use Rattle.std.proofs.lemmas.List.{get_or-map, length-map, length-set, length_push, map-id, map_push}
@@ -27,14 +27,14 @@ numbered_push sessions after new pushed next are =
     ∙ sym (range_more (length sessions))
     ∙ ap (range_with_len 0) (sym (length_push sessions new) ∙ ap length (sym pushed))
 
--- one that has appeared keeps its number
+-- a session that has appeared keeps its number
 pub numbered_set : (sessions : List SessionLines) (i : ℕ) (session new : SessionLines) → session ≡ get_or sessions i session → new.number ≡ session.number → AreNumbered sessions → AreNumbered (set sessions i new)
 numbered_set sessions i session new at same are =
     map-set_same number sessions i new session (same ∙ ap number at)
     ∙ are
     ∙ ap (range_with_len 0) (sym (length-set sessions i new))
 
--- so each has its own among all
+-- so each session has its own number
 pub has_number : (input : List ℕ) (sessions : List SessionLines) → AreNumbered sessions → All (λ session. HasNumber (scripts_of input sessions) (script_of input session) session.number) sessions
 has_number input sessions are k d l =
     let session = get_or sessions k d in

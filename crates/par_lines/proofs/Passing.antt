@@ -8,7 +8,7 @@ use Rattle.std.proofs.lemmas.List.Sums.{fails_before_first}
 module _ {X : Type 0} (test : X → Bool) where
   -- ---- whether one passes
 
-  -- where no place is found, none passes
+  -- if no index is found, no item passes
   pub position_none : (xs : List X) → position test xs ≡ None → list_any test xs ≡ false
   position_none xs none =
       let many = by (ltb (position_or_len test xs) (length xs)) refl none in
@@ -18,7 +18,7 @@ module _ {X : Type 0} (test : X → Bool) where
       by true less some = absurd cc
       by false less none = ltb-false (position_or_len test xs) (length xs) less
 
-  -- where none passes, one at a place doesn't
+  -- if no item passes, the one at an index doesn't
   pub none_at : (xs : List X) → list_any test xs ≡ false → (k : ℕ) (d : X) → k < length xs → test (get_or xs k d) ≡ false
   none_at xs none k d l = by (test (get_or xs k d)) refl
     where
@@ -37,7 +37,7 @@ module _ {X : Type 0} (test : X → Bool) where
   others_step : (b : Bool) (x : X) (xs : List X) → test x ≡ b → filter fails (x ∷ xs) ≡ cond (not b) (x ∷ filter fails xs) (filter fails xs)
   others_step b x xs e = ap (λ b. cond (not b) (x ∷ filter fails xs) (filter fails xs)) e
 
-  -- where none passes
+  -- no item passes
   pub record NonePasses (xs : List X) : Type 0 where
     pub passing : filter test xs ≡ []
     pub others : filter fails xs ≡ xs
@@ -50,7 +50,7 @@ module _ {X : Type 0} (test : X → Bool) where
       by true e none rest = absurd (true≢false none)
       by false e none rest = record { passing = filter_step false x xs e ∙ (rest none).passing; others = others_step false x xs e ∙ ap (λ l. x ∷ l) (rest none).others }
 
-  -- where the one at a place passes alone
+  -- only the item at an index passes
   pub record OnePasses (xs : List X) (i : ℕ) (x : X) : Type 0 where
     pub passing : filter test xs ≡ x ∷ []
     pub others : filter fails xs ≡ take i xs ++ drop (suc i) xs
@@ -70,7 +70,7 @@ module _ {X : Type 0} (test : X → Bool) where
 -- ---- two tests
 
 module _ {X : Type 0} (p q : X → Bool) where
-  -- of those that fail one test, those that fail another too
+  -- of the items that fail one test, those that fail another too
   pub others_twice : (xs : List X) → filter (fails q) (filter (fails p) xs) ≡ filter (λ x. not (p x || q x)) xs
   others_twice [] = refl
   others_twice (x ∷ xs) = by (p x) (q x) refl refl (others_twice xs)
@@ -85,7 +85,7 @@ module _ {X : Type 0} (p q : X → Bool) where
           ap (filter (fails q)) (others_step p false x xs e) ∙ others_step q false x (filter (fails p) xs) f ∙ ap (λ l. x ∷ l) rest
           ∙ sym (λ i. cond (not (e i || f i)) (x ∷ filter (λ x. not (p x || q x)) xs) (filter (λ x. not (p x || q x)) xs))
 
-  -- those that pass a test are there where those are gone that pass another, which none of them does
+  -- if no item passes both tests, removing those that pass one keeps those that pass the other
   pub passing_others : ((x : X) → q x ≡ true → p x ≡ false) → (xs : List X) → filter q (filter (fails p) xs) ≡ filter q xs
   passing_others apart [] = refl
   passing_others apart (x ∷ xs) = by (p x) (q x) refl refl (passing_others apart xs)
@@ -97,7 +97,7 @@ module _ {X : Type 0} (p q : X → Bool) where
           ap (filter q) (others_step p false x xs e) ∙ filter_step q b x (filter (fails p) xs) f ∙ (λ i. cond b (x ∷ rest i) (rest i))
           ∙ sym (filter_step q b x xs f)
 
--- ---- a test of what items are mapped to
+-- ---- a test of mapped items
 
 module _ {X Y : Type 0} (f : X → Y) (test : Y → Bool) where
   pub filter_mapped : (xs : List X) → map f (filter (λ x. test (f x)) xs) ≡ filter test (map f xs)

@@ -42,7 +42,7 @@ module _ (sessions : List SessionLines) where
   pub all_others : (left rest : List SessionLines) → left ≡ others → rest ≡ filter (λ session. not (has_name final session)) left → rest ≡ sessions_at_once sessions
   all_others left rest l e = e ∙ ap (filter (λ session. not (has_name final session))) l ∙ others_twice (has_name setup) (has_name final) sessions
 
-  -- and their lines
+  -- the lines of this session
   pub only_script : (input name : List ℕ) → scripts_of input (only_session name sessions) ≡ only name (scripts_of input sessions)
   only_script input name = filter_mapped (script_of input) (λ script. same_name script.name name) sessions
 

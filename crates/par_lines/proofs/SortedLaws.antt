@@ -1,4 +1,4 @@
--- A line of an input is sorted by its kind, and then those behind it.
+-- Each line of an input is sorted by its kind, and then the later ones.
 use Rattle.std.proofs.Common.{◌≡◌, ℕ, suc, ◌+◌, ◌-◌, ◌≤◌, false, cond, List, ◌∷◌, ◌++◌, length, take, drop, nat_lt, sym, ap, ◌∙◌, le-ltb, arith, length-take}
 use Rattle.std.proofs.lemmas.List.{drop-drop, drop_all, take-take, take_rest}
 use Rattle.ts_io.specs.Lines.{lines_of}
@@ -18,13 +18,13 @@ use Rattle.par_lines.specs.Places.{line_at, scripts_of, IsLineWithin}
 use Rattle.par_lines.proofs.Adding.{state}
 use Rattle.stmt_tokens.proofs.StatementLines.{statement_line}
 
--- ---- a line of so many bytes from a place on
+-- ---- a line with a length, from a place on
 
 module _ (input : List ℕ) (from len n : ℕ) (short : len ≤ longest_line) (refusals : List ℕ) (sessions : List SessionLines) where
   abbrev line : List ℕ
   line = take len (drop from input)
 
-  -- the line as it is cut out of the input
+  -- the line as cut out of the input
   abbrev cut : List ℕ
   cut = take (from + len - from) (drop from input)
 
@@ -70,7 +70,7 @@ module _ (input : List ℕ) (from len n : ℕ) (short : len ≤ longest_line) (r
 
 -- ---- the lines from a place on
 
--- the bytes behind a place
+-- the bytes from a place on
 abbrev pub rest : List ℕ → ℕ → List ℕ
 rest input from = take (length input - from) (drop from input)
 

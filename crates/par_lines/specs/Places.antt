@@ -11,9 +11,9 @@ use Rattle.par_lines.specs.declared.phases.Phases.{Phases}
 use Rattle.par_lines.specs.declared.sorting.SortedLines.{SortedLines}
 use Rattle.par_lines.specs.Sorted.{Sorted, final, setup}
 
--- ---- what an input has at a place
+-- ---- the parts of an input
 
--- a line
+-- the line at a place
 abbrev pub line_at : List ℕ → LinePlace → SessionLine
 line_at input place = record { text = take place.len (drop place.from input); skip = place.skip }
 
@@ -21,11 +21,11 @@ line_at input place = record { text = take place.len (drop place.from input); sk
 abbrev pub script_of : List ℕ → SessionLines → SessionScript
 script_of input session = record { name = session.name; lines = map (line_at input) session.lines.items }
 
--- those of sessions
+-- the lines of several sessions
 abbrev pub scripts_of : List ℕ → List SessionLines → List SessionScript
 scripts_of input sessions = map (script_of input) sessions
 
--- all that was sorted
+-- all sorted lines
 abbrev pub sorted_of : List ℕ → SortedLines → Sorted
 sorted_of input lines = record { refusals = lines.refusals.items; sessions = scripts_of input lines.sessions.items }
 
@@ -33,18 +33,18 @@ sorted_of input lines = record { refusals = lines.refusals.items; sessions = scr
 abbrev pub AreNumbered : List SessionLines → Type 0
 AreNumbered sessions = map (λ session. session.number) sessions ≡ range_with_len 0 (length sessions)
 
--- ---- who runs when
+-- ---- phases
 
--- the session with a name alone, where it appears
+-- only the session with a name, if it appears
 abbrev pub only_session : List ℕ → List SessionLines → List SessionLines
 only_session name sessions = filter (λ session. same_name session.name name) sessions
 
--- those that run in parallel
+-- the sessions that run in parallel
 abbrev pub sessions_at_once : List SessionLines → List SessionLines
 sessions_at_once sessions =
     filter (λ session. not (same_name session.name setup || same_name session.name final)) sessions
 
--- ---- how much it is
+-- ---- sizes
 
 -- the line is within the first n bytes, and its statement within its text, which has at most 65,536 bytes
 pub record IsLineWithin (n : ℕ) (place : LinePlace) : Type 0 where
@@ -52,12 +52,12 @@ pub record IsLineWithin (n : ℕ) (place : LinePlace) : Type 0 where
   pub statement : place.skip ≤ place.len
   pub short : place.len ≤ longest_line
 
--- the lines of a session are within the first n bytes, and have no more bytes together
+-- the lines of a session are within the first n bytes, and have at most n bytes together
 pub record IsWithin (n : ℕ) (session : SessionLines) : Type 0 where
   pub each : All (IsLineWithin n) session.lines.items
   pub together : sum_by (λ place. place.len) session.lines.items ≤ n
 
--- so do those of each session of each phase
+-- the same for each session of each phase
 pub record AreWithin (n : ℕ) (phases : Phases) : Type 0 where
   pub setup : IfSome phases.setup (IsWithin n)
   pub at_once : All (IsWithin n) phases.at_once.items

@@ -1,4 +1,4 @@
--- The lines of an input, sorted by the sessions that they are of.
+-- The lines of an input, sorted by their sessions.
 use Rattle.std.specs.Prelude.{◌≡◌, ◌<◌, ℕ, suc, Bool, ◌||◌, not, cond, nat_lt, List, [], ◌∷◌, ◌++◌, get_or, length, take, filter}
 use Rattle.std.specs.List.{list_any}
 use Rattle.ts_io.specs.Lines.{lines_of}
@@ -31,7 +31,7 @@ pub record HasNumber (scripts : List SessionScript) (script : SessionScript) (nu
 abbrev pub refuses : List ℕ → Sorted → Sorted
 refuses text s = record s { refusals = s.refusals ++ text }
 
--- the line comes last in the session with its name; a session that is new comes last
+-- the line comes last in the session with its name, and a new session comes last
 abbrev pub with_line : List ℕ → SessionLine → List SessionScript → List SessionScript
 with_line name line [] = record { name = name; lines = line ∷ [] } ∷ []
 with_line name line (script ∷ scripts) =
@@ -42,14 +42,14 @@ with_line name line (script ∷ scripts) =
 abbrev pub appears_in : List ℕ → List SessionScript → Bool
 appears_in name scripts = list_any (λ script. same_name script.name name) scripts
 
--- a line of the session with a name: of one that has appeared, or of a new one, where there are fewer than 64
+-- a line of the session with a name: of one that has appeared, or of a new one if there are fewer than 64
 abbrev pub sorts_as : List ℕ → SessionLine → Sorted → Sorted
 sorts_as name line s =
     cond (appears_in name s.sessions || nat_lt (length s.sessions) most_sessions)
     (record s { sessions = with_line name line s.sessions })
     (refuses (reply_text name (said.Fault (bare too_many_sessions))) s)
 
--- a line of this kind, which has this number
+-- a line of this kind, with this number
 abbrev pub sorts_kind : ℕ → List ℕ → Sorted → LineKind → Sorted
 sorts_kind n line s Blank = s
 sorts_kind n line s NotAscii = refuses (line_fault_text n (bare not_ascii)) s
@@ -57,7 +57,7 @@ sorts_kind n line s NoSession = refuses (line_fault_text n (bare no_session)) s
 sorts_kind n line s (Stmt len skip end) =
     sorts_as (session_name line len skip) (record { text = take end line; skip = skip }) s
 
--- a line, which has this number
+-- a line with this number
 abbrev pub sorts : ℕ → List ℕ → Sorted → Sorted
 sorts n line s =
     cond (nat_lt longest_line (length line)) (refuses (line_fault_text n (bare line_long)) s)
@@ -74,7 +74,7 @@ sorts_all n (line ∷ lines) s = sorts_all (suc n) lines (sorts n line s)
 abbrev pub sorted_lines : List ℕ → Sorted
 sorted_lines input = sorts_all 1 (lines_of input) (record { refusals = []; sessions = [] })
 
--- ---- who runs when
+-- ---- phases
 
 -- the name `setup`
 abbrev pub setup : List ℕ
@@ -84,11 +84,11 @@ setup = 115 ∷ 101 ∷ 116 ∷ 117 ∷ 112 ∷ []
 abbrev pub final : List ℕ
 final = 102 ∷ 105 ∷ 110 ∷ 97 ∷ 108 ∷ []
 
--- the session with this name alone, where it appears
+-- only the session with this name, if it appears
 abbrev pub only : List ℕ → List SessionScript → List SessionScript
 only name scripts = filter (λ script. same_name script.name name) scripts
 
--- those that run in parallel, each by its own worker: all except `setup`, which runs before them, and `final`, which
--- runs after them
+-- the sessions that run in parallel, each with its own worker: all except `setup`, which runs before them, and `final`,
+-- which runs after them
 abbrev pub at_once : List SessionScript → List SessionScript
 at_once scripts = filter (λ script. not (same_name script.name setup || same_name script.name final)) scripts

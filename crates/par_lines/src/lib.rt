@@ -1,7 +1,6 @@
-//! The lines of a whole input, sorted by the sessions that they are of, for a run that gives each session
-//! its own worker.
+//! The lines of a whole input, sorted by their sessions, for a run that gives each session its own worker.
 //!
-//! - `sessions`: a session's lines, by their places in the input.
+//! - `sessions`: the lines of a session, by their places in the input.
 //! - `sorting`: sorts the lines of an input.
 //! - `line_ends`: where a line ends.
 //! - `names`: the names of sessions.

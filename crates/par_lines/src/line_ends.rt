@@ -17,7 +17,7 @@ pub(crate) fn first_line_len(text: &[u8]) -> usize
     }
 }
 
-/// The place of the first line end.
+/// The index of the first line end.
 fn first_end(text: &[u8]) -> Option<usize>
     ensures { result ≡ position (λ byte. byte == LINE_END) text.now }
 {

@@ -6,7 +6,7 @@ ghost use Rattle.stmt_tokens.specs.Lines.{session_name};
 use std::alloc::Global;
 use ts_schema::{Name, NoMemory};
 
-/// The session's name, which stands before the colon, the last of the bytes to skip.
+/// The name of the session, which precedes the colon, the last of the bytes to skip.
 pub(crate) fn name_in(line: &[u8], name_len: u32, skip: u32) -> &[u8]
     requires colon { suc name_len ≤ skip }
     requires within { skip ≤ length line.now }
@@ -16,7 +16,7 @@ pub(crate) fn name_in(line: &[u8], name_len: u32, skip: u32) -> &[u8]
     &line[colon - name_len as usize..colon]
 }
 
-/// A name that a text is known to be.
+/// The name with this text, which must be valid.
 pub(crate) fn name_of(alloc: Global, text: &[u8]) -> Result<Name, NoMemory>
     requires name { IsTrue (is_name text.now) }
     ensures same { IfOk result (λ name. name ≡ text.now) }

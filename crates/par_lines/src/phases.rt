@@ -8,18 +8,18 @@ ghost use Rattle.par_lines.specs.Places.{only_session, sessions_at_once, AreWith
 
 use crate::sessions::{SessionLines, place_of};
 
-/// The sessions of an input, by who runs when.
+/// The sessions of an input, by their phases.
 #[derive(Drop, Debug)]
 pub struct Phases {
     /// The session `setup`, which runs alone before all others.
     pub setup: Option<SessionLines>,
-    /// Those that run in parallel, each by its own worker.
+    /// The sessions that run in parallel, each with its own worker.
     pub at_once: Vec<SessionLines>,
     /// The session `final`, which runs alone after all others.
     pub last: Option<SessionLines>,
 }
 
-/// Splits sessions by who runs when. Those that run in parallel stay in order.
+/// Splits sessions into phases. Those that run in parallel stay in order.
 pub fn into_phases(sessions: Vec<SessionLines>) -> Phases
     requires apart { AllPairs (λ one other. one.name ≢ other.name) sessions.items }
     ensures setup { option_to_list result.setup ≡ only_session setup sessions.items }
@@ -38,7 +38,7 @@ pub fn into_phases(sessions: Vec<SessionLines>) -> Phases
     }
 }
 
-/// Takes the session with a name out of the others, which stay in order.
+/// Takes the session `name` out of the others, which stay in order.
 fn take_named(sessions: &mut Vec<SessionLines>, name: &[u8]) -> Option<SessionLines>
     requires apart { AllPairs (λ one other. one.name ≢ other.name) sessions.old.items }
     ensures taken { option_to_list result ≡ filter (λ session. same_name session.name name.now) sessions.old.items }

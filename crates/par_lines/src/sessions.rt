@@ -8,11 +8,11 @@ use ts_schema::Name;
 /// A line of a session, by its place in the input.
 #[derive(Clone, Copy, Debug, PartialEq, Eq)]
 pub struct LinePlace {
-    /// The place of its first byte, counted from 0.
+    /// The index of its first byte, counted from 0.
     pub from: u32,
     /// How many bytes it has before its comment.
     pub len: u32,
-    /// How many of these stand before its statement.
+    /// How many of these precede its statement.
     pub skip: u32,
 }
 
@@ -39,7 +39,7 @@ pub struct SessionLines {
     pub lines: Vec<LinePlace>,
 }
 
-/// The place of the first session with a name.
+/// The index of the first session with a name.
 pub(crate) fn place_of(sessions: &[SessionLines], name: &[u8]) -> Option<usize>
     ensures place { result ≡ position (λ session. same_name session.name name.now) sessions.now }
 {

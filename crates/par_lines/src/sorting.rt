@@ -29,7 +29,7 @@ pub struct SortedLines {
     pub sessions: Vec<SessionLines>,
 }
 
-/// Sorts the lines of an input by the sessions that they are of.
+/// Sorts the lines of an input by their sessions.
 pub fn sort_lines(alloc: Global, input: &[u8]) -> Result<SortedLines, NoMemory>
     requires short { length input.now ≤ INPUT_LIMIT }
     ensures sorted { IfOk result (λ lines. sorted_of input.now lines ≡ sorted_lines input.now) }
@@ -55,7 +55,7 @@ pub fn sort_lines(alloc: Global, input: &[u8]) -> Result<SortedLines, NoMemory>
 }
 
 impl SortedLines {
-    /// Adds the line with a number, which has `len` bytes from place `from` of the input on.
+    /// Adds the line with a number, which has `len` bytes of the input from `from` on.
     fn add(
         &mut self,
         alloc: Global,
@@ -99,7 +99,7 @@ impl SortedLines {
         }
     }
 
-    /// Adds a line to the session with a name.
+    /// Adds a line to the session `name`.
     fn add_to(&mut self, alloc: Global, name: &[u8], line: LinePlace) -> Result<(), NoMemory>
         requires name { IsTrue (is_name name.now) }
         ensures sorted { OnOk result ((input : List ℕ) → sorted_of input self.new
@@ -118,7 +118,7 @@ impl SortedLines {
         }
     }
 
-    /// Adds the first line of a session, if there is room for one more.
+    /// Adds the first line of a session, unless there are too many sessions.
     fn add_new(&mut self, alloc: Global, name: &[u8], line: LinePlace) -> Result<(), NoMemory>
         requires name { IsTrue (is_name name.now) }
         requires absent { list_any (λ session. same_name session.name name.now) self.old.sessions.items ≡ false }

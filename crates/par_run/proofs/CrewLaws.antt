@@ -1,4 +1,4 @@
--- How workers are made one after the other.
+-- How workers are created in order.
 use Rattle.std.proofs.Common.{◌≡◌, ℕ, ◌≤◌, Bool, List, [], ◌∷◌, ◌++◌, All, filter, length, map, Option, Some, None, ap, refl, sym, ◌∙◌, subst, arith}
 use Rattle.std.specs.Option.{IfSome, option_to_list}
 use Rattle.std.proofs.lemmas.List.{map-append}
@@ -15,11 +15,11 @@ use Rattle.par_run.specs.Crews.{scripts_in, IsCrew}
 use Rattle.ts_sessions.specs.declared.actors.Actor.{Ghosts as Actor}
 
 module _ {A G T J B : Type 0} (actors : Actor A T J) (input : List ℕ) where
-  -- nobody yet
+  -- no worker yet
   pub crew_begun : (crew : List (Slot (SessionWorker A G) B)) → crew ≡ [] → IsCrew {B = B} actors (scripts_of input []) crew
   crew_begun crew none = subst (λ c. IsCrew {B = B} actors (scripts_of input []) c) (sym none) (record { scripts = refl; ready = All-nil (IsReady actors) })
 
-  -- one worker more
+  -- one more worker
   pub crew_more : (sessions : List SessionLines) (crew : List (Slot (SessionWorker A G) B)) (session : SessionLines) (slot : Slot (SessionWorker A G) B) (now : List (Slot (SessionWorker A G) B))
       → IsCrew {B = B} actors (scripts_of input sessions) crew → worker_script actors.named slot.0 ≡ script_of input session → IsReady actors slot.0
       → now ≡ crew ++ slot ∷ [] → IsCrew {B = B} actors (scripts_of input (sessions ++ session ∷ [])) now
@@ -34,7 +34,7 @@ module _ {A G T J B : Type 0} (actors : Actor A T J) (input : List ℕ) where
         ready = subst (All (IsReady actors)) (sym (map-append (λ s. s.0) crew (slot ∷ []))) (All-push (IsReady actors) (workers_of crew) slot.0 is.ready ready);
       })
 
--- and their numbers
+-- the numbers with one more worker
 pub numbers_more : {A G B : Type 0} (numbered : A → ℕ) (sessions : List SessionLines) (crew : List (Slot (SessionWorker A G) B)) (session : SessionLines) (slot : Slot (SessionWorker A G) B) (now : List (Slot (SessionWorker A G) B))
     → map (number_of numbered) (workers_of crew) ≡ map (λ s. s.number) sessions → number_of numbered slot.0 ≡ session.number → now ≡ crew ++ slot ∷ []
     → map (number_of numbered) (workers_of now) ≡ map (λ s. s.number) (sessions ++ session ∷ [])
@@ -44,12 +44,12 @@ numbers_more numbered sessions crew session slot now so_far number same =
 
 -- ---- the sessions of an input
 
--- the one session that there is stands within the input
+-- if there is a session, its lines are within the input
 pub within_listed : (n : ℕ) (session : Option SessionLines) (sessions : List SessionLines) → sessions ≡ option_to_list session → IfSome session (IsWithin n) → All (IsWithin n) sessions
 within_listed n None sessions same within = subst (All (IsWithin n)) (sym same) (All-nil (IsWithin n))
 within_listed n (Some s) sessions same within = subst (All (IsWithin n)) (sym same) (All-cons (IsWithin n) s [] within (All-nil (IsWithin n)))
 
--- and is one at the most
+-- there is at most one session
 pub one_listed : (session : Option SessionLines) (sessions : List SessionLines) → sessions ≡ option_to_list session → length sessions ≤ 1
 one_listed None sessions same = let none = ap length same in omega arith
 one_listed (Some s) sessions same = let one = ap length same in omega arith
@@ -81,7 +81,7 @@ module _ {A G : Type 0} (named : A → List ℕ) (numbered : A → ℕ) (input :
       (subst (λ n. HasNumber appeared (worker_script named w) n) number (subst (λ x. HasNumber appeared x s.number) script (All-head (HasOwn input appeared) s sessions all)))
       (numbered_as sessions workers scripts_left numbers_left (All-tail (HasOwn input appeared) s sessions all))
 
-  -- those of a phase, whose sessions pass a test
+  -- the workers of a phase, whose sessions pass a test
   pub numbered_phase : {B : Type 0} (test : SessionLines → Bool) (sessions listed : List SessionLines) (crew : List (Slot (SessionWorker A G) B)) → All (HasOwn input appeared) sessions → listed ≡ filter test sessions
       → scripts_in named crew ≡ scripts_of input listed → map (number_of numbered) (workers_of crew) ≡ map (λ session. session.number) listed → All (IsNumbered named numbered appeared) (workers_of crew)
   numbered_phase test sessions listed crew all passed scripts numbers = numbered_as listed (workers_of crew) scripts numbers (All-same (HasOwn input appeared) listed (filter test sessions) passed (All-filter test (HasOwn input appeared) sessions all))

@@ -1,4 +1,4 @@
--- No two sessions of a sorted input have one name, also where those that run first and last stand apart.
+-- No two sessions of a sorted input have one name, also if those that run first and last come first and last.
 use Rattle.std.proofs.Common.{◌≡◌, ℕ, suc, ◌<◌, Bool, true, false, cond, not, ◌&&◌, ◌||◌, List, [], ◌∷◌, ◌++◌, length, get_or, filter, map, refl, sym, ap, ◌∙◌, subst, true≢false, arith}
 use Rattle.std.specs.List.{All, AllByRecursion, AllPairs}
 use Rattle.std.specs.Cmp.Lexicographic.{same_text}
@@ -11,7 +11,7 @@ use Rattle.par_lines.specs.Sorted.{at_once, final, only, setup, sorted_lines}
 use Rattle.par_lines.proofs.NameLaws.{named_input}
 use Rattle.transcript.specs.Shape.{are_apart, is_among}
 
--- ---- names apart
+-- ---- different names
 
 abbrev IsOther : List ℕ → List ℕ → Type 0
 IsOther a b = a ≡ b → ⊥
@@ -42,7 +42,7 @@ pub all_appended : {X : Type 0} (P : X → Type 0) (xs ys : List X) → AllByRec
 all_appended P [] ys a b = b
 all_appended P (x ∷ xs) ys a b = (a.0, all_appended P xs ys a.1 b)
 
--- names of which none is among others
+-- names that aren't among others
 apart_appended : (xs ys : List (List ℕ)) → Apart xs → Apart ys → AllByRecursion (λ x. IsNew x ys) xs → Apart (xs ++ ys)
 apart_appended [] ys a b all = b
 apart_appended (x ∷ xs) ys a b all = (all_appended (IsOther x) xs ys a.0 all.0, apart_appended xs ys a.1 b all.1)
@@ -85,7 +85,7 @@ module _ (test : SessionScript → Bool) where
       by true rest = (all_filtered (IsOther x.name) scripts all.0, rest)
       by false rest = rest
 
--- what follows from a test of a name holds of the names that pass it
+-- what follows from a test of a name is true of the names that pass it
 passing : (test : List ℕ → Bool) (P : List ℕ → Type 0) → ((name : List ℕ) → test name ≡ true → P name) → (scripts : List SessionScript) → AllByRecursion P (names_of (filter (λ script. test script.name) scripts))
 passing test P gives [] = tt
 passing test P gives (x ∷ scripts) = by (test x.name) refl (passing test P gives scripts)
@@ -111,7 +111,7 @@ named : (name other : List ℕ) → same_name other name ≡ true → other ≡ 
 named name other e = same_text other name (sym e)
 
 module _ (scripts : List SessionScript) where
-  -- none of those that run at once is named as another phase
+  -- no session that runs in parallel has the name of another phase
   others_new : (phase : List ℕ) → ((name : List ℕ) → not (same_name name setup || same_name name final) ≡ true → same_name name phase ≡ false) → IsNew phase (names_of (at_once scripts))
   others_new phase gives = passing (λ name. not (same_name name setup || same_name name final)) (IsOther phase) (λ name e same. different name phase (gives name e) (sym same)) scripts
 

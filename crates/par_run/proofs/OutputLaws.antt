@@ -1,4 +1,4 @@
--- What workers have replied, one after the other.
+-- The replies of workers in order.
 use Rattle.std.proofs.Common.{◌≡◌, ℕ, ◌+◌, ◌<◌, ◌≤◌, Bool, true, false, List, [], ◌∷◌, ◌++◌, append_assoc, append-nil, flat_map, get_or, length, map, take, nat_lt, sum_by, ap, refl, sym, ◌∙◌, subst, arith}
 use Rattle.std.specs.Prelude.{◌||◌}
 use Rattle.std.specs.List.{list_any}
@@ -15,12 +15,12 @@ use Rattle.par_run.specs.declared.outputs.Output.{Output as OutputMade}
 use Rattle.par_run.specs.Outputs.{Output, Says, output_in, refusals_only, replies_text, talk_of, with_session, with_sessions}
 use Rattle.par_run.specs.Workers.{ran_out, replies_of}
 
--- ---- the replies of one session, one after the other
+-- ---- the replies of one session in order
 
 abbrev reply : Exchange → List ℕ
 reply exchange = exchange.reply
 
--- the texts of the replies up to a place, and of the one there
+-- the texts of the replies before an index, and of the one there
 pub texts_more : (exchanges : List Exchange) (i : ℕ) (one : Exchange) (old now next : List ℕ) → i < length exchanges → one ≡ get_or exchanges i one
     → now ≡ old ++ flat_map reply (take i exchanges) → next ≡ now ++ one.reply → next ≡ old ++ flat_map reply (take (i + 1) exchanges)
 texts_more exchanges i one old now next lt same so_far more =
@@ -32,24 +32,24 @@ texts_all exchanges i old now le so_far = so_far ∙ ap (λ es. old ++ flat_map 
 
 -- ---- one session
 
--- what a session said and was replied was appended
+-- the lines and replies of a session were appended
 pub appended : (replies : SessionReplies) (old new : OutputMade) → new.text.items ≡ old.text.items ++ replies_text (talk_of replies) → new.fault ≡ (old.fault || replies.fault)
     → new.sessions.items ≡ old.sessions.items ++ talk_of replies ∷ [] → output_in new ≡ with_session replies (output_in old)
 appended replies old new text fault sessions = λ i. record { text = text i; fault = fault i; sessions = sessions i }
 
 -- ---- the output of several sessions
 
--- and of one more
+-- the output with one more session
 pub with_more : (sessions : List SessionReplies) (one : SessionReplies) (out : Output) → with_sessions (sessions ++ one ∷ []) out ≡ with_session one (with_sessions sessions out)
 with_more [] one out = refl
 with_more (s ∷ sessions) one out = with_more sessions one (with_session s out)
 
--- and of several more
+-- the output with several more sessions
 with_both : (sessions others : List SessionReplies) (out : Output) → with_sessions (sessions ++ others) out ≡ with_sessions others (with_sessions sessions out)
 with_both [] others out = refl
 with_both (s ∷ sessions) others out = with_both sessions others (with_session s out)
 
--- what stands in an output before some sessions, and what they add
+-- an output before some sessions, and what they add
 record Adds (refusals : List ℕ) (replied : List SessionReplies) (old new : Output) : Type 0 where
   text : new.text ≡ refusals ++ flat_map replies_text new.sessions
   fault : new.fault ≡ (old.fault || list_any (λ replies. replies.fault) replied)
@@ -73,7 +73,7 @@ adds refusals (s ∷ replied) old so_far =
       sessions = rest.sessions ∙ append_assoc old.sessions (talk_of s ∷ []) (map talk_of replied);
     }
 
--- what three crews replied, one after the other, is the output of all
+-- the replies of three crews, in order, are the output of all
 pub says : (refusals : List ℕ) (before between after : List SessionReplies) (out : Output) (reads : ℕ)
     → out ≡ with_sessions after (with_sessions between (with_sessions before (refusals_only refusals))) → reads ≡ raised_by (sum_by (λ replies. replies.reads) (before ++ between ++ after)) 0 → Says refusals (before ++ between ++ after) out reads
 says refusals before between after out reads is counted =
@@ -91,7 +91,7 @@ talk_names (r ∷ replied) = ap (λ l. r.name ∷ l) (talk_names replied)
 
 -- ---- rows read
 
--- a sum that saturates, and one more
+-- a sum that saturates, and one more number
 raised_sum : (m n a b : ℕ) → a ≡ raised_by m 0 → b ≡ raised_by n a → b ≡ raised_by (m + n) 0
 raised_sum m n a b e f = omega arith
 
@@ -110,13 +110,13 @@ module _ {A G B : Type 0} where
   workers_push : (crew : List (Slot (SessionWorker A G) B)) (slot : Slot (SessionWorker A G) B) → workers_of (crew ++ slot ∷ []) ≡ workers_of crew ++ slot.0 ∷ []
   workers_push crew slot = map-append (λ s. s.0) crew (slot ∷ [])
 
-  -- there was memory for one more
+  -- one more worker didn't run out of memory
   pub enough_more : (crew : List (Slot (SessionWorker A G) B)) (slot : Slot (SessionWorker A G) B) → list_any ran_out (workers_of crew) ≡ false → ran_out slot.0 ≡ false → list_any ran_out (workers_of (crew ++ slot ∷ [])) ≡ false
   enough_more crew slot so_far one =
       ap (list_any ran_out) (workers_push crew slot) ∙ list_any-append ran_out (workers_of crew) (slot.0 ∷ [])
       ∙ ap (λ b. b || (ran_out slot.0 || false)) so_far ∙ ap (λ b. b || false) one
 
-  -- and its output comes last
+  -- its output comes last
   pub output_more : (named : A → List ℕ) (crew : List (Slot (SessionWorker A G) B)) (slot : Slot (SessionWorker A G) B) (old now next : Output) → now ≡ with_sessions (map (replies_of named) (workers_of crew)) old → next ≡ with_session (replies_of named slot.0) now
       → next ≡ with_sessions (map (replies_of named) (workers_of (crew ++ slot ∷ []))) old
   output_more named crew slot old now next so_far more =
@@ -128,9 +128,9 @@ module _ {A G B : Type 0} where
   any_worker [] = refl
   any_worker (slot ∷ crew) = ap (λ b. ran_out slot.0 || b) (any_worker crew)
 
-  -- ---- rows that they read
+  -- ---- rows that workers read
 
-  -- by the workers up to a place, and the one there
+  -- the rows of the workers before an index, and of the one there
   pub reads_more : (crew : List (Slot (SessionWorker A G) B)) (i : ℕ) (slot : Slot (SessionWorker A G) B) (before after : ℕ) → i < length crew → slot ≡ get_or crew i slot
       → before ≡ raised_by (sum_by reads_by (workers_of (take i crew))) 0 → after ≡ raised_by (reads_by slot.0) before → after ≡ raised_by (sum_by reads_by (workers_of (take (i + 1) crew))) 0
   reads_more crew i slot before after lt same so_far more =
@@ -140,7 +140,7 @@ module _ {A G B : Type 0} where
   pub reads_all : (crew : List (Slot (SessionWorker A G) B)) (i reads : ℕ) → length crew ≤ i → reads ≡ raised_by (sum_by reads_by (workers_of (take i crew))) 0 → reads ≡ raised_by (sum_by reads_by (workers_of crew)) 0
   reads_all crew i reads le so_far = so_far ∙ ap (λ c. raised_by (sum_by reads_by (workers_of c)) 0) (take_all i crew le)
 
--- by those of three crews
+-- the rows of three crews
 pub reads_three : {A G : Type 0} (a b d : List (SessionWorker A G)) (one two three both all : ℕ) → one ≡ raised_by (sum_by reads_by a) 0 → two ≡ raised_by (sum_by reads_by b) 0 → three ≡ raised_by (sum_by reads_by d) 0
     → both ≡ raised_by two one → all ≡ raised_by three both → all ≡ raised_by (sum_by reads_by (a ++ b ++ d)) 0
 reads_three a b d one two three both all e f h join last =
@@ -148,7 +148,7 @@ reads_three a b d one two three both all e f h join last =
     let first = raised_join (sum_by reads_by a) (sum_by reads_by b) one two both e f join in
     raised_join (sum_by reads_by a + sum_by reads_by b) (sum_by reads_by d) both three all first h last ∙ ap (λ n. raised_by n 0) (sym whole)
 
--- what is summed of workers is that of their replies
+-- a sum over workers is the sum over their replies
 pub reads_mapped : {A G : Type 0} (named : A → List ℕ) (workers : List (SessionWorker A G)) → sum_by reads_by workers ≡ sum_by (λ replies. replies.reads) (map (replies_of named) workers)
 reads_mapped named [] = refl
 reads_mapped named (w ∷ workers) = sum_by-cons reads_by w workers ∙ ap (λ n. reads_by w + n) (reads_mapped named workers) ∙ sym (sum_by-cons (λ replies. replies.reads) (replies_of named w) (map (replies_of named) workers))

@@ -24,7 +24,7 @@ use Rattle.par_run.specs.declared.replies.Replies.{Replies}
 use Rattle.par_run.specs.Replies.{reply_in, replies_said, ExecutesNext, Keeps, KeepsEnd}
 use Rattle.par_run.specs.Workers.{nothing_said}
 
--- the reply with which a step ended was kept
+-- the reply of a step was kept
 pub kept_end : (line : List ℕ) (end : StepEnd) (reply : Reply) (result : Result (Unit {0}) NoMemory) (old new : Replies) → Some reply ≡ reply_in end → OnOk result (Keeps line reply old new) → OnOk result (KeepsEnd line end old new)
 kept_end line (steps.Reply r) reply result old new is kept = subst (λ x. OnOk result (Keeps line x old new)) (let same : reply ≡ r = cc in same) kept
 kept_end line (steps.DiskFault r) reply result old new is kept = subst (λ x. OnOk result (Keeps line x old new)) (let same : reply ≡ r = cc in same) kept
@@ -36,7 +36,7 @@ answered_kept line (steps.Reply r) old new P kept holds = holds
 answered_kept line (steps.DiskFault r) old new P kept holds = holds
 answered_kept line steps.NoMemory old new P kept holds = absurd kept
 
--- what was said, with a line and its reply more
+-- the lines and replies with one more line and its reply
 said_more : (line name own : List ℕ) (reply : Reply) (old new : Replies) (before after : ℕ) → own ≡ name → Keeps line reply old new → with_exchange line reply after (replies_said name old before) ≡ replies_said own new after
 said_more line name own reply old new before after same kept = λ i. record {
   name = sym same i;
@@ -45,18 +45,18 @@ said_more line name own reply old new before after same kept = λ i. record {
   reads = after;
 }
 
--- nothing was said where nothing was kept
+-- no line is kept if no reply was
 pub said_nothing : (name : List ℕ) (replies : Replies) (reads : ℕ) → replies.exchanges.items ≡ [] → replies.fault ≡ false → reads ≡ 0 → replies_said name replies reads ≡ nothing_said name
 said_nothing name replies reads none no_fault zero = λ i. record { name = name; exchanges = none i; fault = no_fault i; reads = zero i }
 
--- ---- where memory ran out
+-- ---- out of memory
 
--- what holds anyway holds of an error
+-- what is always true is true of an error
 pub on_error : {T E : Type 0} (P : Type 0) (result : Result T E) → P → OnErr result P
 on_error P (Ok t) holds = tt
 on_error P (Err e) holds = holds
 
--- a line broke off, or came to an end and its reply wasn't kept
+-- a line broke off, or ended without its reply being kept
 pub stepped_breaks : {P : Type 0} (alone : Bool) (old : State) (procedure : Procedure (Turn P)) (name : List ℕ) (end : StepEnd) (new : State) (q : P) (before after : ℕ) → Stepped alone old procedure name end new q before after → Breaks alone old procedure new
 stepped_breaks alone old procedure name (steps.Reply r) new q before after s = walks_break alone false old procedure new _ s.walks
 stepped_breaks alone old procedure name (steps.DiskFault r) new q before after s = walks_break alone true old procedure new _ s.walks
@@ -74,19 +74,20 @@ stepped_counts alone old procedure name steps.NoMemory new q before after s low 
 raised_low : (m n : ℕ) → n ≡ raised_by m 0 → n < 2 ^ 64
 raised_low m n raised = omega (arith, raised)
 
--- where nothing waits there is room for all that is to come
+-- a session with an empty queue can queue all operations to come
 pub idle_room : (waits more most : ℕ) → waits ≡ 0 → more ≤ most → waits + more ≤ most
 idle_room waits more most none le = omega (arith, none, le)
 
 -- ---- lines by their places in an input
 
--- the text of the line at a place has the bytes that the place says
+-- the text of the line at a place has as many bytes as the place says
 pub length_at : (input text : List ℕ) (line : LinePlace) → text ≡ (line_at input line).text → line.from + line.len ≤ length input → length text ≡ line.len
 length_at input text line same within = ap length same ∙ length-take-le line.len (drop line.from input) (omega (arith, length-drop line.from input))
 
--- what lines do by the places of their session, the block that places are in, and the places of each session at its first line
+-- what lines do by the state of their session, the block in a session state, and the state of each session at its first
+-- line
 module _ {P : Type 0} (within : P → Block) (does : P → List ℕ → ℕ → Procedure (Turn P)) (first : P) where
-  -- a line was executed whose reply was kept
+  -- a line whose reply was kept was executed
   pub next_executed : (alone : Bool) (name own : List ℕ) (line : SessionLine) (old : State) (p : P) (olds : Replies) (end : StepEnd) (new : State) (q : P) (news : Replies) (before after : ℕ)
       → own ≡ name → HadBegun within p old.history → Stepped alone old (does p line.text line.skip) name end new q before after → KeepsEnd line.text end olds news
       → ExecutesNext within does first alone name line old p (replies_said name olds before) new q (replies_said own news after)
@@ -104,7 +105,7 @@ module _ {P : Type 0} (within : P → Block) (does : P → List ℕ → ℕ → 
       subst (λ q. SessionExecutedTo within does first alone (record { name = name; lines = [] }) s replies s q) (sym fresh)
       (subst (λ r. SessionExecutedTo within does first alone (record { name = name; lines = [] }) s r s first) (sym silent) (begun within does first alone name s))
 
-  -- the line at a place is executed next
+  -- the line at an index is executed next
   pub executed_next : (alone : Bool) (name own : List ℕ) (input text : List ℕ) (lines : List LinePlace) (i : ℕ) (d : LinePlace) (s old : State) (p : P) (before : SessionReplies) (new : State) (q : P) (after : SessionReplies)
       → i < length lines → own ≡ name → text ≡ (line_at input (get_or lines i d)).text
       → SessionExecutedTo within does first alone (record { name = name; lines = map (line_at input) (take i lines) }) s before old p
@@ -117,7 +118,7 @@ module _ {P : Type 0} (within : P → Block) (does : P → List ℕ → ℕ → 
       subst (λ ls. SessionExecutedTo within does first alone (record { name = name; lines = ls }) s after new q) (sym (map_more (line_at input) lines i d lt))
       (by_text (map (line_at input) (take i lines)) s so_far)
 
-  -- and no line is left at the end
+  -- no line is left at the end
   pub executed_last : (alone : Bool) (name input : List ℕ) (lines : List LinePlace) (i : ℕ) (s : State) (replies : SessionReplies) (new : State) (q : P)
       → length lines ≤ i → SessionExecutedTo within does first alone (record { name = name; lines = map (line_at input) (take i lines) }) s replies new q
       → SessionExecuted within does first alone (record { name = name; lines = map (line_at input) lines }) s replies new
@@ -125,7 +126,7 @@ module _ {P : Type 0} (within : P → Block) (does : P → List ℕ → ℕ → 
       executed_all within does first alone name (map (line_at input) lines) s replies new q
       (subst (λ ls. SessionExecutedTo within does first alone (record { name = name; lines = map (line_at input) ls }) s replies new q) (take_all i lines le) so_far)
 
-  -- or the line at a place breaks off
+  -- the line at an index breaks off
   pub broke_next : (alone : Bool) (name input text : List ℕ) (lines : List LinePlace) (i : ℕ) (d : LinePlace) (s old : State) (p : P) (before : SessionReplies) (new : State) (after : ℕ)
       → i < length lines → text ≡ (line_at input (get_or lines i d)).text
       → SessionExecutedTo within does first alone (record { name = name; lines = map (line_at input) (take i lines) }) s before old p

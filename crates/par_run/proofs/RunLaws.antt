@@ -27,7 +27,7 @@ use Rattle.par_laws.specs.Parallel.{RanInParallel, SessionReplies}
 use Rattle.par_laws.proofs.NamedLaws.{explained_names}
 use Rattle.par_laws.proofs.OneHistory.{snapped_same}
 
--- there was memory for all that a run replied, of which these facts then hold
+-- the run has all replies, of which these facts are then true
 pub record HasReplied (A B C S : Type 0) (R E : OutputMade → Type 0) : Type 0 where
   pub output : OutputMade
   pub setup : A
@@ -52,7 +52,7 @@ pub slots_stay : {B W : Type 0} (state : B → State) (store : Shared B) (did : 
 slots_stay state store did start end olds news ran =
     sym (sym (length-map olds (λ s. s.0)) ∙ same_many state store did start end (workers_of olds) (workers_of news) ran.made ran.outcomes ∙ length-map news (λ s. s.0))
 
--- there was memory for each line of a crew
+-- no line of a crew ran out of memory
 pub enough_is : {A G B : Type 0} (slice items : List (Slot (SessionWorker A G) B)) (b : Bool) → b ≡ not (list_any ran_out (workers_of slice)) → slice ≡ items → list_any ran_out (workers_of items) ≡ false → b ≡ true
 enough_is slice items b had same enough = had ∙ ap (λ s. not (list_any ran_out (workers_of s))) same ∙ ap not enough
 
@@ -78,7 +78,7 @@ names_of_three reply p opening setup others final new before between after names
 
 -- ---- a run over the lines of an input
 
--- what ran of some refusals and sessions ran of the same
+-- a run of some refusals and sessions is a run of equal ones
 pub ran_of_same : {P : Type 0} (reply : P → List ℕ → ℕ → Procedure (Turn P)) (p : P) (opening : History) (refusals refusals_too : List ℕ) (setup setup_too others others_too final final_too : List SessionScript) (new : State) (out : Output) (reads : ℕ)
     → refusals ≡ refusals_too → setup ≡ setup_too → others ≡ others_too → final ≡ final_too
     → RanTo reply p opening refusals setup others final new out reads → RanTo reply p opening refusals_too setup_too others_too final_too new out reads
@@ -88,7 +88,7 @@ ran_of_same reply p opening refusals refusals_too setup setup_too others others_
     (subst (λ x. RanTo reply p opening refusals_too x others final new out reads) s
     (subst (λ x. RanTo reply p opening x setup others final new out reads) r ran)))
 
--- ---- where memory ran out
+-- ---- out of memory
 
 -- a worker that is ready has read nothing
 pub unread : {A G T J : Type 0} (actors : Actor A T J) (workers : List (SessionWorker A G)) → All (IsReady actors) workers → sum_by (λ w. (replies_of actors.named w).reads) workers ≡ 0

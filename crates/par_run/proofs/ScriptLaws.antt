@@ -1,4 +1,4 @@
--- The sessions of a sorted input: each has a separate, valid name, and only lines of that session.
+-- The sessions of a sorted input: each has its own valid name, and only lines of that session.
 use Rattle.std.proofs.Common.{◌≡◌, ℕ, suc, ◌≤◌, Bool, true, false, cond, not, ◌&&◌, ◌||◌, ◌==◌, List, [], ◌∷◌, ◌++◌, length, take, filter, map, nat_lt, refl, sym, ap, ◌∙◌, subst, true≢false, arith}
 use Rattle.std.specs.List.{AllByRecursion, list_all, list_any}
 use Rattle.std.specs.Cmp.Lexicographic.{same_text}
@@ -38,12 +38,12 @@ pub record IsSoundScript (script : SessionScript) : Type 0 where
   pub named : is_session_name script.name ≡ true
   pub lines : AllByRecursion (IsOwn script.name) script.lines
 
--- what holds of each, and of one more
+-- a property of each element, and of one more
 pub all_push : {X : Type 0} (P : X → Type 0) (xs : List X) (x : X) → AllByRecursion P xs → P x → AllByRecursion P (xs ++ x ∷ [])
 all_push P [] x all p = (p, tt)
 all_push P (y ∷ xs) x all p = (all.0, all_push P xs x all.1 p)
 
--- ---- one line more
+-- ---- one more line
 
 module _ (name : List ℕ) (good : is_session_name name ≡ true) (line : SessionLine) (is_own : IsOwn name line) where
   sound_with : (scripts : List SessionScript) → AllByRecursion IsSoundScript scripts → AllByRecursion IsSoundScript (with_line name line scripts)
@@ -107,7 +107,7 @@ sound_lines n (line ∷ lines) s one all = sound_lines (suc n) lines (sorts n li
 pub sound_input : (input : List ℕ) → AreSound (sorted_lines input)
 sound_input input = sound_lines 1 (lines_of input) (record { refusals = []; sessions = [] }) (lines_one input) tt
 
--- those that pass a test
+-- the sessions that pass a test
 pub sound_filter : (test : SessionScript → Bool) (scripts : List SessionScript) → AllByRecursion IsSoundScript scripts → AllByRecursion IsSoundScript (filter test scripts)
 sound_filter test [] all = tt
 sound_filter test (x ∷ scripts) all = by (test x) (sound_filter test scripts all.1)

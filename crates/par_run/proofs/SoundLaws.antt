@@ -30,7 +30,7 @@ talk_sound session replies turns sound are =
     (λ i. is_session_name (are.name i) && list_all (λ e. is_line_of (are.name i) e.line) (are.exchanges i))
     ∙ (λ i. sound.named i && lines_own session.name session.lines turns sound.lines i)
 
--- ---- those of a phase
+-- ---- the sessions of a phase
 
 module _ {P : Type 0} (reply : P → List ℕ → ℕ → Procedure (Turn P)) (all : History) (stop : Option ℕ) (from to : ℕ) (p : P) where
   talks_sound : (sessions : List SessionScript) (replies : List SessionReplies) (answers : List (List (LineAnswer (Turn P)))) → AllByRecursion IsSoundScript sessions → AllExplained lines_in AreReplies reply places_after all stop from to p sessions replies answers

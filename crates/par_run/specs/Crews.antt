@@ -34,7 +34,7 @@ module _ {A B G T J : Type 0} where
     pub at_once_are : scripts_in named crews.at_once.items ≡ at_once lines.sessions
     pub last_is : scripts_in named crews.last.items ≡ only final lines.sessions
 
-  -- each has the number of its session, where these have appeared
+  -- each has the number of its session among those that have appeared
   pub record AreNumbered (named : A → List ℕ) (numbered : A → ℕ) (appeared : List SessionScript)
       (crews : Crews A B G T J) : Type 0 where
     pub setup_is : All (IsNumbered named numbered appeared) (workers_of crews.setup.items)
@@ -47,25 +47,26 @@ module _ {A B G T J : Type 0} where
     pub at_once_are : All (IsReady actors) (workers_of crews.at_once.items)
     pub last_is : All (IsReady actors) (workers_of crews.last.items)
 
-  -- there is at most one before all others and one after them, and the others are at most as many as a script may have
+  -- there is at most one worker before all others and one after them. The others are at most as many as the sessions of
+  -- a script
   pub record AreFew (crews : Crews A B G T J) : Type 0 where
     pub setup_is : length crews.setup.items ≤ 1
     pub at_once_are : length crews.at_once.items ≤ most_sessions
     pub last_is : length crews.last.items ≤ 1
 
-  -- so many shares of a store suffice for those that run at the same time, and for one pass more
+  -- this many shares of a store suffice for the workers that run at the same time, and for one pass more
   pub record HaveShares (shares : ℕ) (crews : Crews A B G T J) : Type 0 where
     pub setup_has : length crews.setup.items < shares
     pub at_once_have : length crews.at_once.items < shares
     pub last_has : length crews.last.items < shares
 
--- the replies to lines by the places of their session, and the places of each session at its first line
+-- the replies to lines by the state of their session, and the state of each session at its first line
 module _ {P : Type 0} (reply : P → List ℕ → ℕ → Procedure (Turn P)) (p : P) where
-  -- over an opening history first the sessions of `setup` ran, then `others` in parallel, then those of `final`,
-  -- beside lines that were refused with a text. They left a state and this output, and so many stored rows were read
+  -- over an opening history first the sessions of `setup` ran, then `others` in parallel, then those of `final`. Other
+  -- lines were refused with a text. The sessions left a state and this output, and read this many stored rows
   pub record RanTo (opening : History) (refusals : List ℕ) (setup others final : List SessionScript) (new : State)
       (out : Output) (reads : ℕ) : Type 0 where
-    -- what the sessions of each phase replied
+    -- the replies of the sessions of each phase
     pub before : List SessionReplies
     pub between : List SessionReplies
     pub after : List SessionReplies
@@ -73,13 +74,13 @@ module _ {P : Type 0} (reply : P → List ℕ → ℕ → Procedure (Turn P)) (p
     pub says : Says refusals (before ++ between ++ after) out reads
     pub names : map (λ talk. talk.name) out.sessions ≡ map (λ session. session.name) (setup ++ others ++ final)
 
-  -- the sessions of the sorted lines of an input did
+  -- the same for the sessions of the sorted lines of an input
   abbrev pub LinesRan : History → Sorted → State → Output → ℕ → Type 0
   LinesRan opening lines new out reads =
       RanTo opening lines.refusals (only setup lines.sessions) (at_once lines.sessions) (only final lines.sessions) new
       out reads
 
--- workers did so
+-- the same for workers
 abbrev pub CrewsRan :
     {A S K B G T J : Type 0} → Actor A S K → History → Crews A B G T J → State → Output → ℕ → Type 0
 CrewsRan actors opening crews new out reads =
@@ -87,8 +88,8 @@ CrewsRan actors opening crews new out reads =
     (scripts_in actors.named crews.setup.items) (scripts_in actors.named crews.at_once.items)
     (scripts_in actors.named crews.last.items) new out reads
 
--- what lines do by the places of their session, the block that places are in, and the places of each session at its
--- first line
+-- what lines do by the state of their session, the block in a session state, and the state of each session at its first
+-- line
 module _ {P : Type 0} (within : P → Block) (does : P → List ℕ → ℕ → Procedure (Turn P)) (p : P) where
   -- the sessions of the sorted lines of an input ran, until memory ran out if it did
   abbrev pub LinesRanAsFar : History → Sorted → State → ℕ → Type 0
@@ -96,7 +97,7 @@ module _ {P : Type 0} (within : P → Block) (does : P → List ℕ → ℕ → 
       RanAsFar within does p opening
       (only setup lines.sessions ∷ at_once lines.sessions ∷ only final lines.sessions ∷ []) new reads
 
--- workers did so
+-- the same for workers
 abbrev pub CrewsRanAsFar : {A S K B G T J : Type 0} → Actor A S K → History → Crews A B G T J → State → ℕ → Type 0
 CrewsRanAsFar actors opening crews new reads =
     RanAsFar actors.within actors.semantics.does (actors.semantics.opening 0) opening

@@ -9,8 +9,8 @@ use Rattle.par_run.specs.Crews.{LinesRan}
 use Rattle.par_run.specs.Outputs.{Output, transcript_in}
 use Rattle.transcript.specs.Shape.{is_sound}
 
--- the transcript of a run of an input is sound, whatever its lines mean: each session has a separate, valid name, and
--- only lines of that session
+-- the transcript of a run of an input is sound, whatever its lines mean: each session has its own valid name, and only
+-- lines of that session
 abbrev pub RunsAreSound : Type 0 → Type 0
 RunsAreSound P =
     (reply : P → List ℕ → ℕ → Procedure (Turn P)) (p : P) (opening : History) (input : List ℕ) (new : State)

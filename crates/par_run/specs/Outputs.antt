@@ -1,4 +1,4 @@
--- What a run writes: the text of all replies, and what each session said and was replied.
+-- What a run writes: the text of all replies, and the lines and replies of each session.
 use Rattle.std.specs.Prelude.{◌≡◌, ℕ, Bool, ◌||◌, List, [], ◌∷◌, ◌++◌, flat_map, length, map, nat_lt, sum_by}
 use Rattle.std.specs.List.{list_any}
 use Rattle.ts_schema.specs.Counts.{raised_by}
@@ -14,11 +14,11 @@ pub record Output : Type 0 where
   pub fault : Bool
   pub sessions : List SessionTranscript
 
--- what was made of it
+-- the output in a value of the code
 abbrev pub output_in : OutputMade → Output
 output_in o = record { text = o.text.items; fault = o.fault; sessions = o.sessions.items }
 
--- what the end of a run has of it
+-- the output at the end of a run
 abbrev pub output_of : {B : Type 0} → ParEnd B → Output
 output_of end = record { text = end.text; fault = end.fault; sessions = end.sessions }
 
@@ -28,7 +28,7 @@ transcript_in start out = record { start = start; sessions = out.sessions }
 
 -- ---- one session
 
--- what a session said and was replied, as a transcript has it
+-- the lines and replies of a session, as a session transcript
 abbrev pub talk_of : SessionReplies → SessionTranscript
 talk_of replies = record { name = replies.name; replies = replies.exchanges }
 
@@ -36,7 +36,7 @@ talk_of replies = record { name = replies.name; replies = replies.exchanges }
 abbrev pub replies_text : SessionTranscript → List ℕ
 replies_text talk = flat_map (λ exchange. exchange.reply) talk.replies
 
--- it comes last
+-- the output with one more session at the end
 abbrev pub with_session : SessionReplies → Output → Output
 with_session replies out = record {
   text = out.text ++ replies_text (talk_of replies);
@@ -44,7 +44,7 @@ with_session replies out = record {
   sessions = out.sessions ++ talk_of replies ∷ [];
 }
 
--- so does what several did
+-- the output with several more sessions at the end
 abbrev pub with_sessions : List SessionReplies → Output → Output
 with_sessions [] out = out
 with_sessions (replies ∷ others) out = with_sessions others (with_session replies out)
@@ -55,8 +55,8 @@ refusals_only text = record { text = text; fault = nat_lt 0 (length text); sessi
 
 -- ---- all sessions
 
--- sessions that replied so make this output, after the refusals of lines that no session answers, and so many stored
--- rows were read
+-- sessions with these replies have this output, after the refusals of lines that no session answers, and read this many
+-- stored rows
 pub record Says (refusals : List ℕ) (replied : List SessionReplies) (out : Output) (count : ℕ) : Type 0 where
   pub text : out.text ≡ refusals ++ flat_map replies_text out.sessions
   pub fault : out.fault ≡ (nat_lt 0 (length refusals) || list_any (λ replies. replies.fault) replied)

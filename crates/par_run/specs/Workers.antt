@@ -17,15 +17,15 @@ nothing_said name = record { name = name; exchanges = []; fault = false; reads =
 
 module _ {A G : Type 0} where
   module _ (named : A → List ℕ) where
-    -- what a session has said and was replied so far
+    -- the lines and replies of a session so far
     abbrev pub said_by : Executor A G → SessionReplies
     said_by e = replies_said (named e.actor) e.replies e.steps
 
-    -- the session's name, and its lines
+    -- the name and the lines of the session
     abbrev pub worker_script : SessionWorker A G → SessionScript
     worker_script w = record { name = named w.executor.actor; lines = map (line_at w.input.now) w.lines.items }
 
-    -- what it has said and was replied so far
+    -- its lines and replies so far
     abbrev pub replies_of : SessionWorker A G → SessionReplies
     replies_of w = said_by w.executor
 
@@ -33,18 +33,18 @@ module _ {A G : Type 0} where
   abbrev pub number_of : (A → ℕ) → SessionWorker A G → ℕ
   number_of numbered w = numbered w.executor.actor
 
-  -- whether there was no memory for one of its lines
+  -- whether one of its lines ran out of memory
   abbrev pub ran_out : SessionWorker A G → Bool
   ran_out w = w.out_of_memory
 
-  -- it has the number that its session has among those that have appeared
+  -- it has the number of its session among those that have appeared
   abbrev pub IsNumbered : (A → List ℕ) → (A → ℕ) → List SessionScript → SessionWorker A G → Type 0
   IsNumbered named numbered appeared w = HasNumber appeared (worker_script named w) (number_of numbered w)
 
   -- a session is before its first line
   pub record IsReady {T J : Type 0} (actors : Actor A T J) (w : SessionWorker A G) : Type 0 where
     pub lines : All (IsLineWithin (length w.input.now)) w.lines.items
-    -- together they have no more bytes than may wait for the end of a write block
+    -- its lines together have at most as many bytes as a queue may have
     pub room : sum_by (λ line. line.len) w.lines.items ≤ most_queued
     pub fresh : actors.places w.executor.actor ≡ actors.semantics.opening 0
     pub idle : actors.waiting w.executor.actor ≡ 0

@@ -16,17 +16,17 @@ use ts_model::{Backend, Gate};
 use ts_schema::NoMemory;
 use ts_sessions::Actor;
 
-/// Workers, each with the place for its pass.
+/// Workers, each with a slot for its pass.
 pub(crate) type Crew<'a, A, B, G> = Vec<Slot<SessionWorker<'a, A, G>, B>>;
 
-/// The workers of a run by who runs when, and the refusals of the other lines of its input.
+/// The workers of a run by phase, and the refusals of the other lines of its input.
 #[derive(Drop)]
 pub(crate) struct Crews<'a, A, B: Backend, G> {
     /// The refusals of lines that no session answers, in order.
     pub refusals: Vec<u8>,
     /// The worker of `setup`, which runs before all others.
     pub setup: Crew<'a, A, B, G>,
-    /// Those that run in parallel, in order of appearance.
+    /// The workers that run in parallel, in order of appearance.
     pub at_once: Crew<'a, A, B, G>,
     /// The worker of `final`, which runs after all others.
     pub last: Crew<'a, A, B, G>,

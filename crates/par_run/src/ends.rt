@@ -7,9 +7,9 @@ use ts_schema::Seq;
 pub enum ParStop {
     /// Each line was executed.
     Done,
-    /// Each line was executed. The disk failed at an event of one, and the store had stopped from then on.
+    /// Each line was executed. The disk failed at an event of one, and from then on the store had stopped.
     DiskFault,
-    /// Out of memory. The events that lines had made by then stay in the store.
+    /// Out of memory. Events that lines had appended by then remain in the store.
     NoMemory,
 }
 
@@ -20,8 +20,9 @@ pub struct ParEnd<B> {
     pub backend: B,
     /// The position at which it began.
     pub start: u64,
-    /// The refusals of lines that no session answers, in the order of lines, and then the replies of
-    /// `setup`, of the other sessions in order of appearance, and of `final`. Empty if memory ran out.
+    /// The refusals of lines that no session answers, in the order of lines, and then the replies. Replies of `setup`
+    /// come first, then those of the other sessions in order of appearance, and those of `final` last. Empty if memory
+    /// ran out.
     pub text: Seq<u8>,
     /// Whether a reply is a FAULT. False if memory ran out.
     pub fault: bool,

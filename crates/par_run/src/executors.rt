@@ -38,7 +38,7 @@ pub(crate) struct Executor<'a, A, G> {
 }
 
 impl<'a, A: Actor, G: Gate> Executor<'a, A, G> {
-    /// Executes lines of an input in order, until there is no memory for one.
+    /// Executes lines of an input in order, until one runs out of memory.
     pub fn execute_all<R: Threads + Sync, B: Backend<Shot = A::Shot>>(
         &mut self,
         rt: &R,
@@ -69,8 +69,8 @@ impl<'a, A: Actor, G: Gate> Executor<'a, A, G> {
         Ok(())
     }
 
-    /// Executes a line, and keeps its reply. `text` is the line before its comment, and its statement
-    /// stands after the first `skip` bytes.
+    /// Executes a line, and keeps its reply. `text` is the line before its comment, and its statement begins after the
+    /// first `skip` bytes.
     fn execute<R: Threads + Sync, B: Backend<Shot = A::Shot>>(
         &mut self,
         rt: &R,

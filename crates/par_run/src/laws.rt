@@ -1,7 +1,7 @@
 //! Laws of the transcripts of runs. Each is the clause of a function that does nothing.
 ghost use Rattle.par_run.specs.Laws.{RunsAreSound};
 
-/// Each session in the transcript of a run has a separate, valid name, and only lines of that session.
+/// States the law that each session in the transcript of a run has its own valid name, and only lines of that session.
 pub fn runs_are_sound<P>()
     ensures { RunsAreSound P }
 {}

@@ -28,8 +28,8 @@ pub(crate) struct Output {
     pub sessions: Vec<SessionTranscript>,
 }
 
-/// The refusals of a run, and what its workers have replied in the order in which they ran, unless there
-/// was no memory for a line of one of them.
+/// The refusals of a run, and the replies of its workers in the order in which they ran, unless a worker ran out of
+/// memory.
 pub(crate) fn all_replies<A, B, G>(
     alloc: Global,
     crews: Crews<'_, A, B, G>,
@@ -70,8 +70,7 @@ fn has_bytes(text: &[u8]) -> bool
     !text.is_empty()
 }
 
-/// Appends what the workers of a crew have replied, in order, unless there was no memory for a line of one
-/// of them.
+/// Appends the replies of a crew's workers, in order, unless a worker ran out of memory.
 fn append_crew<A, B, G>(output: &mut Output, crew: Crew<'_, A, B, G>) -> Result<(), NoMemory>
 where
     A: Actor + Drop,
@@ -87,7 +86,7 @@ where
 }
 
 #[tactic(auto, using(crate::proofs::OutputLaws::appended))]
-/// Appends what a worker has replied, unless there was no memory for a line of it.
+/// Appends the replies of a worker, unless it ran out of memory.
 fn append_worker<A, G>(output: &mut Output, worker: SessionWorker<'_, A, G>) -> Result<(), NoMemory>
 where
     A: Actor + Drop,
@@ -127,7 +126,7 @@ fn append_texts(exchanges: &[Exchange], text: &mut Vec<u8>) -> Result<(), NoMemo
     Ok(())
 }
 
-/// Whether there was memory for each line of the workers of a crew.
+/// Whether no worker of a crew ran out of memory.
 pub(crate) fn had_memory<A, B, G>(crew: &[Slot<SessionWorker<'_, A, G>, B>]) -> bool
 where
     A: Actor + Drop,

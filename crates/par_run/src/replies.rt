@@ -17,7 +17,7 @@ pub(crate) struct Replies {
 }
 
 impl Replies {
-    /// No reply yet. It allocates no memory.
+    /// Returns an empty list of replies. It allocates no memory.
     pub fn new(alloc: Global) -> Replies
         ensures exchanges { result.exchanges.items ≡ [] }
         ensures fault { result.fault ≡ false }
@@ -28,8 +28,8 @@ impl Replies {
         }
     }
 
-    /// Keeps the reply to a line with which a step ended. A disk fault has one too: the session continues
-    /// after it.
+    /// Keeps the reply to a line, by the end of its step. After a disk fault, a line has a reply too: the session
+    /// continues.
     pub fn keep(&mut self, alloc: Global, line: &[u8], end: StepEnd) -> Result<(), NoMemory>
         ensures { OnOk result (KeepsEnd line.now end self.old self.new) }
     {
@@ -50,7 +50,7 @@ impl Replies {
     }
 }
 
-/// The reply with which a step ended, unless there was no memory.
+/// The reply of a step, unless it ran out of memory.
 fn reply_of(end: StepEnd) -> Option<Reply>
     ensures { result ≡ reply_in end }
 {

@@ -28,15 +28,14 @@ use ts_model::{Backend, Gate, Shown};
 use ts_schema::{NoMemory, Seq};
 use ts_sessions::Actor;
 
-/// Runs the lines of an input over a store that is alone and hasn't stopped. Each session has one worker,
-/// with an actor for its lines: `setup` runs alone, then all other sessions in parallel, each in its own
-/// thread, then `final` alone. It returns the store on each ending, and may wait, as the workers take turns
-/// at the store.
+/// Runs the lines of an input on a store that nobody else uses and that hasn't stopped. Each session has one worker,
+/// with an actor for its lines. `setup` runs alone, then all other sessions in parallel, each in its own thread, then
+/// `final` alone. It returns the store on each ending, and may wait, as the workers take turns at the store.
 ///
-/// The replies and the store are as if each line had been answered, as the actors report by their replies,
-/// over the one history that the store then holds, at positions that never fall from one line of a session
-/// to its next. After a disk fault the store has stopped, and the sessions continue. If memory runs out for
-/// a line, its session ends there, and no later phase begins.
+/// The replies and the store are as if each line had been answered over one history: the one that the store holds in
+/// the end. What a line does there is what the actor's `replies` say. Positions never fall from one line of a session
+/// to its next. After a disk fault the store has stopped, and the sessions continue. If a line runs out of memory, its
+/// session ends there, and no later phase begins.
 pub fn par<A, B, R, G>(rt: &R, alloc: Global, backend: B, input: &[u8], gate: &G) -> ParEnd<B>
 where
     A: Actor<Shot = B::Shot> + Drop + Send,
@@ -96,8 +95,8 @@ where
     ensures goes_on { GoesOn (B.state backend) (B.state result.backend) }
     ensures kin { B.kin result.backend ≡ B.kin backend }
 {
-    // Each worker that runs has one share, and one stays with the first pass. `setup` and `final` have at most one
-    // worker, and need two shares even where no session runs at once.
+    // Each worker of a phase has one share, and one stays with the first pass. `setup` and `final` have at most one
+    // worker, and need two shares even if no session runs in parallel.
     let shares = crews.at_once.len() as u32 + 2;
     match SharedStore::new(alloc, backend, shares) {
         MadeStore::Made { store, pass } => run_crews(rt, alloc, store, pass, start, crews),
@@ -143,14 +142,14 @@ where
     let enough = enough && had_memory(crews.at_once.as_slice());
     let pass = run_crew(rt, &store, pass, &mut crews.last, enough);
     let mut backend = store.close(pass);
-    // A look at the store tells that all its events were allowed. The snapshot itself isn't needed.
+    // Taking a snapshot proves that all events of the store were allowed. The snapshot itself isn't needed.
     let _ = backend.snap();
     let reads = all_reads(&crews);
     A::tells_replies();
     end_run(alloc, backend, start, all_replies(alloc, crews), reads)
 }
 
-/// Lets the workers of a crew work in parallel, if there was memory so far.
+/// Lets the workers of a crew work in parallel, unless memory ran out before.
 fn run_crew<W, B, R>(
     rt: &R,
     store: &SharedStore<B>,
@@ -184,7 +183,7 @@ where
     }
 }
 
-/// The end of a run that began at a position, and whose workers have replied so.
+/// The end of a run that began at a position, with these replies of its workers.
 fn end_run<B: Backend>(
     alloc: Global,
     backend: B,
@@ -229,7 +228,7 @@ fn end_run<B: Backend>(
     }
 }
 
-/// How a run ended that left this store.
+/// How a run that left this store ended.
 fn stop_at<B: Backend>(backend: &B) -> ParStop
     ensures { result ≡ stop_by (stands_still (B.state backend.now)) }
 {

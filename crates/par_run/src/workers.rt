@@ -16,13 +16,13 @@ use ts_sessions::Actor;
 /// A session with its lines of an input.
 #[derive(Drop)]
 pub(crate) struct SessionWorker<'a, A, G> {
-    /// What executes the lines.
+    /// The executor of the lines.
     pub executor: Executor<'a, A, G>,
     /// The input.
     pub input: &'a [u8],
     /// The places of the lines in the input, in order.
     pub lines: Vec<LinePlace>,
-    /// Whether there was no memory for one of them.
+    /// Whether one of them ran out of memory.
     pub out_of_memory: bool,
 }
 

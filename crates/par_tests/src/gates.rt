@@ -1,15 +1,15 @@
-//! Worker hooks that hold a worker before it finishes a refresh until another worker has reached some point.
-//! A worker is held for a limited time, and a hook keeps whether that was too short, as it is if workers run
-//! one at a time. It also keeps whether it was called for a finish at all, which no contract says.
-//! A further hook keeps the numbers of the sessions that replied.
+//! Worker hooks that hold a worker before it finishes a refresh, until another worker has reached some point. A hook
+//! holds a worker for a limited time. It records whether that was too short, as it is if workers run one at a time. It
+//! also records whether it was called for a finish at all, which no contract says. Another hook records the numbers of
+//! the sessions that replied.
 use std::hint;
 use std::sync::atomic::{AtomicBool, AtomicU64, Ordering};
 use ts_model::Gate;
 
-// How often a held worker looks whether it may go on.
+// How often a held worker checks whether it may continue.
 const TURNS: u32 = 200_000_000;
 
-/// Waits until the flag is set. False if it wasn't in time.
+/// Waits until the flag is set. Returns false if it wasn't set in time.
 fn comes(flag: &AtomicBool) -> bool {
     for _ in 0..TURNS {
         if flag.load(Ordering::SeqCst) {
@@ -60,7 +60,7 @@ impl Gate for UntilReply {
     }
 }
 
-/// Holds session 1 until session 2 is about to finish a refresh too, and the other way round.
+/// Holds each of sessions 1 and 2 until the other is about to finish a refresh too.
 #[derive(Drop)]
 pub(crate) struct UntilBoth {
     first: AtomicBool,
@@ -84,7 +84,7 @@ impl UntilBoth {
             && !self.too_late.load(Ordering::SeqCst)
     }
 
-    // Sets the flag of the one, and waits for that of the other.
+    // Sets one session's flag, and waits for the other's.
     fn meet(&self, own: &AtomicBool, other: &AtomicBool) {
         own.store(true, Ordering::SeqCst);
         if !comes(other) {
@@ -105,7 +105,7 @@ impl Gate for UntilBoth {
     fn answered(&self, _session: u32) {}
 }
 
-/// Keeps the numbers of the sessions that replied, in order, as digits. Sessions reply one at a time.
+/// Records the numbers of the sessions that replied, in order, as digits. Sessions reply one at a time.
 #[derive(Drop)]
 pub(crate) struct Answered {
     digits: AtomicU64,

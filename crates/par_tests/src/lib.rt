@@ -1,6 +1,6 @@
-//! Tests of inputs whose sessions run in parallel, only by public calls: that the workers overlap, which no
-//! contract says, and what a run prints. They have a crate without any other code, since a crate with tests
-//! is proved twice.
+//! Tests of inputs whose sessions run in parallel, only by public calls. They check that workers overlap, which no
+//! contract says, and what a run prints. They are in a crate without other code, since a crate with tests is proved
+//! twice.
 #![tactic(auto)]
 
 #[cfg(test)]

@@ -1,4 +1,4 @@
-//! Sessions that overlap, over one store with a hypertable and an aggregate.
+//! Sessions that overlap, on one store with a hypertable and an aggregate.
 use crate::gates::{UntilBoth, UntilReply};
 use crate::runs::run;
 use std::process::Abort;
@@ -35,15 +35,15 @@ fn after_base<R: Threads + Wait + Abort + Sync + AllocGlobal, G: Gate + Sync>(
     Ok((text.to_vec(rt.alloc())?, end.backend.position()))
 }
 
-/// Two sessions, each of which adds a row and then looks for it.
+/// Two sessions, each of which adds a row and then queries it.
 const TWO_INSERTS: &[u8] = b"a: INSERT INTO m VALUES (120, 1, 7)
 a: SELECT * FROM m WHERE time = 120
 b: INSERT INTO m VALUES (121, 1, 1)
 b: SELECT * FROM m WHERE time = 121
 ";
 
-/// The first row is the fourth event or the fifth, and if it is the fourth, the first session may look
-/// before the fifth or after it. The same holds of the second.
+/// The first row is the fourth event or the fifth. If it is the fourth, the first session may read before the fifth or
+/// after it. The same is true of the second row and session.
 const TWO_INSERTS_REPLIES: [&[u8]; 4] = [
     b"a: COMMIT @4 +1 -0
 a: ANSWER @4 rows 1 stale 0
@@ -90,8 +90,8 @@ w: INSERT INTO m VALUES (121, 1, 1)
 final: SELECT * FROM c WHERE b >= 100
 ";
 
-/// The row is added before the cut of the refresh, between the cut and its snapshot, or after that. Only in
-/// the last case does the refresh miss it, and its bucket is out of date.
+/// The row is added before the cut of the refresh, between the cut and its snapshot, or after that. Only in the last
+/// case does the refresh miss it, and its bucket is stale.
 const REFRESH_AND_INSERT_REPLIES: [&[u8]; 3] = [
     b"setup: COMMIT @4 +1 -0
 r: REFRESH 6 @7 snap 6 100..200

@@ -1,4 +1,4 @@
-//! What a run over an empty store prints.
+//! The output of runs on an empty store.
 ghost use Rattle.std.specs.Prelude.{◌≡◌, ◌≤◌, false, length, IsTrue};
 ghost use Rattle.std.specs.Thread.{IsSync};
 ghost use Rattle.ts_io.specs.declared.limits.TheConstants.{INPUT_LIMIT};
@@ -16,7 +16,7 @@ use ts_io::INPUT_LIMIT;
 use ts_model::{Backend, Gate, NoGate, Shown};
 use ts_sessions::Session;
 
-/// The end of a run over a store that is alone and hasn't stopped.
+/// Runs sessions on a store that nobody else uses and that hasn't stopped.
 pub(crate) fn run_sessions<B, R, G>(
     rt: &R,
     alloc: Global,
@@ -38,7 +38,7 @@ where
     par::<Session<B::Shot>, B, R, G>(rt, alloc, backend, input, gate)
 }
 
-/// How a run over an empty store in memory ends.
+/// Runs an input on an empty store in memory.
 pub(crate) fn run<R: Threads + Wait + Abort + Sync + AllocGlobal, G: Gate + Sync>(
     rt: &R,
     input: &[u8],

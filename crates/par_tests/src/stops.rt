@@ -1,4 +1,4 @@
-//! A run over a disk that fails.
+//! A run on a disk that fails.
 use crate::runs::run_sessions;
 use par_run::ParStop;
 use std::test::Fail;
@@ -6,7 +6,7 @@ use ts_disk::{DiskCall, FailDisk};
 use ts_model::{Backend, NoGate};
 use ts_store::{Started, Store};
 
-// The third sync is the last of those that put the first event on the disk.
+// The third sync is the last one that the first event needs.
 #[test]
 fn a_store_that_stopped_stands_still_for_all(rt: HostRuntime) -> Result<(), Fail> {
     let disk = FailDisk::new(rt.alloc(), Vec::new(rt.alloc()), DiskCall::Sync, 3);

@@ -1,4 +1,4 @@
--- What workers have done is so for each pass that has seen more.
+-- What workers have done is true for each pass that has seen more.
 use Rattle.std.proofs.Common.{◌≡◌, ℕ, Bool, false, List, [], ◌∷◌, Some, ap, ◌∙◌}
 use mathlib.Core.List.{IsPrefix}
 use Rattle.ts_model.specs.History.{◌▸▸◌, Begins}
@@ -11,7 +11,7 @@ use Rattle.par_workers.specs.Slots.{Knows}
 use Rattle.par_workers.specs.Outcomes.{Outcome, AllOutcomes}
 
 module _ {B : Type 0} (state : B → State) (store : Shared B) where
-  -- of two passes that have seen one after the other
+  -- the histories of two passes, of which the second has seen more
   pub begins_seen : (a b : Ticket B) → IsPrefix (seen_of a) (seen_of b) → Begins (history_of state store a) (history_of state store b)
   begins_seen a b p = begins_longer (state store.opened.value).history (seen_of a) (seen_of b) p
 

@@ -1,4 +1,4 @@
--- Passes that are handed out, used and collected.
+-- Passes that workers get, use and return.
 use Rattle.std.proofs.Common.{◌≡◌, ℕ, zero, suc, ◌+◌, ◌-◌, ◌<◌, Bool, true, false, get_or, List, [], ◌∷◌, ◌++◌, length, All, flat_map, sum_by, Option, Some, None, sym, refl, ap, ◌∙◌, subst, arith}
 use Rattle.std.proofs.lemmas.List.{length-map}
 use Rattle.std.proofs.lemmas.List.Elements.{All-cons, All-head, All-tail}
@@ -15,7 +15,7 @@ use Rattle.par_workers.specs.Outcomes.{begun_at, Outcome, AllOutcomes, Ran}
 use Rattle.par_workers.proofs.OutcomeLaws.{begins_seen}
 use Rattle.turn_lock.proofs.Gathering.{stays_then}
 
--- a pass that begins where another stands, begins where that stands however many shares it has
+-- a pass that begins at another begins there whatever the number of shares of the other
 pub fresh_alike : {B : Type 0} (store : Shared B) (a b : Ticket B) (n : ℕ) → b ≡ with_shares n a → (pass : Ticket B) → IsFresh store b pass → IsFresh store a pass
 fresh_alike store a b n same pass f = record {
   of_store = f.of_store;
@@ -48,7 +48,7 @@ module _ {W B : Type 0} where
   pub pass_of_store : (store : Shared B) (slot : Slot W B) (pass : Ticket B) → slot.1 ≡ Some pass → HasPass store slot → IsPassOf store pass
   pass_of_store store slot pass «is» has = subst (OfPass (IsPassOf store)) «is» has
 
-  -- a pass that was joined into one that the whole knows, is known to the whole
+  -- if the whole knows a pass, it knows each pass that was joined into it
   pub known_more : (whole mid pass : Ticket B) (slots : List (Slot W B)) (slot : Slot W B) (rest : List (Slot W B)) → slots ≡ slot ∷ rest → slot.1 ≡ Some pass → Knows mid pass → Knows whole mid → All (IsKnownTo whole) rest → All (IsKnownTo whole) slots
   known_more whole mid pass slots slot rest same «is» one then others =
       subst (All (IsKnownTo whole)) (sym same)
@@ -56,7 +56,7 @@ module _ {W B : Type 0} where
       (subst (OfPass (Knows whole)) (sym «is») (prefix_then (seen_of pass) (seen_of mid) (seen_of whole) one.0 then.0, stays_then whole mid pass one.1 then.1))
       others)
 
-  -- a slot that was handed a pass has it
+  -- a slot that got a pass has it
   pub fresh_has : (store : Shared B) (start : Ticket B) (slots : List (Slot W B)) → All (BeginsAt store start) slots → All (HasPass store) slots
   fresh_has store start slots all k d lt = of_pass_on (λ pass f. f.of_store) (get_or slots k d).1 (all k d lt)
 
@@ -100,7 +100,7 @@ module _ {B : Type 0} (state : B → State) (store : Shared B) where
       all = refl;
     }
 
-    -- workers that were served have their passes, which have the shares of those before
+    -- workers after their work have their passes, with the same shares as before
     pub served_have : (olds news : List (Slot W B)) → length olds ≡ length news → ((i : ℕ) (d : Slot W B) → i < length olds → Served state store did (get_or olds i d) (get_or news i d)) → All (HasPass store) news
     served_have olds news len each k d lt =
         let v = each k d (omega (arith, len, lt)) in
@@ -123,7 +123,7 @@ module _ {B : Type 0} (state : B → State) (store : Shared B) where
     same_length : (s t : List (Slot W B)) → workers_of s ≡ workers_of t → length s ≡ length t
     same_length s t same = sym (length-map s (λ (x : Slot W B). x.0)) ∙ ap length same ∙ length-map t (λ (x : Slot W B). x.0)
 
-    -- the passes that were handed out come back with all shares
+    -- the passes come back with all shares
     pub shares_back : (start mid whole : Ticket B) (s0 s1 s2 : List (Slot W B)) → mid ≡ with_shares (shares_of start - length s0) start → length s0 < shares_of start → workers_of s1 ≡ workers_of s0 → All (BeginsAt store start) s1 → AllServed state store did s1 s2 → shares_of whole ≡ shares_of mid + sum_by shares_in s2 → shares_of whole ≡ shares_of start
     shares_back start mid whole s0 s1 s2 same room workers begins served sum =
         let one : shares_of mid ≡ shares_of start - length s0 = ap shares_of same in
@@ -131,7 +131,7 @@ module _ {B : Type 0} (state : B → State) (store : Shared B) where
         let three = same_length s1 s0 workers in
         omega (arith, sum, one, two, three, served.as_many, room)
 
-    -- and what was done between is what all workers did
+    -- what was done between is what all workers did
     pub all_ran : (start mid whole : Ticket B) (n : ℕ) (s0 s1 s2 s3 : List (Slot W B)) → mid ≡ with_shares n start → workers_of s1 ≡ workers_of s0 → All (BeginsAt store start) s1 → AllServed state store did s1 s2 → All (IsKnownTo whole) s2 → made_of whole ≡ made_of mid ++ flat_map made_in s2 → workers_of s3 ≡ workers_of s2 → Ran state store did start whole (workers_of s0) (workers_of s3)
     all_ran start mid whole n s0 s1 s2 s3 same given begins served known made back = record {
       made = flat_map made_in s2;

@@ -6,7 +6,7 @@ use Rattle.ts_model.specs.States.{State}
 use Rattle.turn_lock.specs.Pass.{closed_of, made_of}
 use Rattle.shared_store.specs.Stores.{Shared, Ticket, history_of}
 
--- some events are those of the first of several, and those of the others
+-- the events are those of the first of several, and those of the others
 pub record Parted (One Rest : List ℕ → Type 0) (made : List ℕ) : Type 0 where
   pub mine : List ℕ
   pub others : List ℕ
@@ -15,7 +15,7 @@ pub record Parted (One Rest : List ℕ → Type 0) (made : List ℕ) : Type 0 wh
   pub all : made ≡ mine ++ others
 
 module _ {B : Type 0} (state : B → State) (store : Shared B) where
-  -- the state of a store handle that is where a pass is, and has made nothing
+  -- the state of a store handle at the position of a pass, without events of its own
   abbrev pub begun_at : Ticket B → State
   begun_at pass = record {
     history = history_of state store pass;
@@ -25,7 +25,7 @@ module _ {B : Type 0} (state : B → State) (store : Shared B) where
     origin = (state store.opened.value).origin;
   }
 
-  -- a worker began where one pass is, and left a state for which this was done. It made the events with these numbers.
+  -- a worker began at one pass, and left a state in which it has done this. It appended the events with these numbers.
   -- Another pass has seen all that the worker has and, if the worker found that the store has stopped, no more
   pub record Outcome (Did : State → State → Type 0) (start end : Ticket B) (made : List ℕ) : Type 0 where
     pub left : State
@@ -36,7 +36,7 @@ module _ {B : Type 0} (state : B → State) (store : Shared B) where
     pub makes : left.made ≡ made
 
   module _ {W : Type 0} (did : Bool → W → State → W → State → Type 0) where
-    -- the same of several workers, by what they were and what they are, whose events these are together
+    -- the same for several workers, before and after; the events are those of all together
     abbrev pub AllOutcomes : Ticket B → Ticket B → List W → List W → List ℕ → Type 0
     AllOutcomes start end [] [] made = made ≡ []
     AllOutcomes start end [] (new ∷ news) made = ⊥

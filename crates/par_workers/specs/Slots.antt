@@ -7,7 +7,7 @@ use Rattle.turn_lock.specs.Pass.{shares_of, seen_of, closed_of, made_of, StaysIn
 use Rattle.shared_store.specs.Stores.{Shared, Ticket, IsPassOf, history_of}
 use Rattle.shared_store.specs.Desks.{desk_state, fresh_desk}
 
--- a pass begins where another is: it has seen as much and has made nothing
+-- a pass begins at another: it has seen as much and has appended nothing
 pub record IsFresh {B : Type 0} (store : Shared B) (start : Ticket B) (pass : Ticket B) : Type 0 where
   pub of_store : IsPassOf store pass
   pub shares : shares_of pass ≡ 1
@@ -16,12 +16,12 @@ pub record IsFresh {B : Type 0} (store : Shared B) (start : Ticket B) (pass : Ti
   pub made : made_of pass ≡ []
 
 module _ {B : Type 0} where
-  -- P holds of the pass that there is
+  -- P is true of the pass, if there is one
   abbrev pub OfPass : (Ticket B → Type 0) → Option (Ticket B) → Type 0
   OfPass P None = ⊥
   OfPass P (Some pass) = P pass
 
-  -- a whole has seen what the pass has and, if the pass had seen that the store has stopped, no more
+  -- the whole has seen what the pass has and, if the pass had seen that the store has stopped, no more
   abbrev pub Knows : Ticket B → Ticket B → Type 0
   Knows whole pass = IsPrefix (seen_of pass) (seen_of whole) × StaysIn whole pass
 
@@ -51,14 +51,14 @@ module _ {W B : Type 0} where
   abbrev pub HasPass : Shared B → Slot W B → Type 0
   HasPass store slot = OfPass (IsPassOf store) slot.1
 
-  -- its pass begins where another is
+  -- its pass begins at another
   abbrev pub BeginsAt : Shared B → Ticket B → Slot W B → Type 0
   BeginsAt store start slot = OfPass (IsFresh store start) slot.1
 
   abbrev pub IsKnownTo : Ticket B → Slot W B → Type 0
   IsKnownTo whole slot = OfPass (Knows whole) slot.1
 
-  -- a worker has done its work at a store handle for its pass, and the handle was left
+  -- a worker has done its work at a store handle for its pass, and has left the handle
   pub record Served (state : B → State) (store : Shared B) (did : Bool → W → State → W → State → Type 0)
       (old new : Slot W B) : Type 0 where
     pub before : Ticket B
@@ -73,7 +73,7 @@ module _ {W B : Type 0} where
     pub stops : (e : Event) → left.failed ≡ Some e → closed_of after ≡ Some e
     pub made : left.made ≡ made_of after
 
-  -- each worker has
+  -- each worker has done so
   pub record AllServed (state : B → State) (store : Shared B) (did : Bool → W → State → W → State → Type 0)
       (olds news : List (Slot W B)) : Type 0 where
     pub as_many : length olds ≡ length news

@@ -59,8 +59,8 @@ where
     );
 }
 
-/// Lets all workers work in parallel, each in its own thread, at a store whose pass has more shares than
-/// there are workers. Returns the pass that has seen what they all have, and has made what they all made.
+/// Lets all workers work in parallel, each in its own thread, at a store whose pass has more shares than there are
+/// workers. Returns the pass that has seen what they all have, and has appended what they all appended.
 pub fn run_at_once<W, B, R>(
     rt: &R,
     store: &SharedStore<B>,

@@ -1,5 +1,5 @@
-//! Workers that use one store in parallel, each in its own thread and through its own store handle, and the
-//! pass that knows what they all did.
+//! Workers that use one store in parallel, each in its own thread and through its own store handle. The pass that comes
+//! back knows what they all did.
 #![tactic(auto)]
 
 mod crews;

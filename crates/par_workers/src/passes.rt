@@ -1,4 +1,4 @@
-//! How passes are handed out to workers, and collected from them.
+//! Gives passes to workers, and collects them.
 ghost use Rattle.std.specs.Prelude.{◌≡◌, ◌+◌, ◌-◌, ◌<◌, ◌++◌, All, IsSome, Some, length, flat_map, sum_by};
 ghost use mathlib.Core.List.{IsPrefix};
 ghost use Rattle.turn_lock.specs.Pass.{shares_of, seen_of, made_of, with_shares, StaysIn};

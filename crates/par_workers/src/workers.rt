@@ -11,11 +11,11 @@ pub trait Worker {
     /// The snapshots of the stores at which it works.
     type Shot: Shown;
 
-    // Whether it may begin.
+    // The condition under which it may begin.
     ghost ready: { Self → Type 0 };
 
-    // What it did at a store that is alone or not: the worker and the state of the store before, and both
-    // after.
+    // What it did at a store, by whether nobody else uses the store: the worker and the state of the store before, and
+    // both after.
     ghost did: { Bool → Self → State → Self → State → Type 0 };
 
     /// Does its work.

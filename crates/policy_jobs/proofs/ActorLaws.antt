@@ -1,4 +1,4 @@
--- What the replies of sessions with policies tell of what their lines do, by those of the actors in them.
+-- What the replies of sessions with policies say about what their lines do, by those of the actors in them.
 use Rattle.std.proofs.Common.{◌≡◌, ◌∙◌, ℕ, suc, ◌≤◌, ◌&&◌, ℤ, Bool, true, false, cond, List, [], ◌∷◌, ◌++◌, append-nil, length, Option, Some, None, sym, refl, ap, subst, arith}
 use Rattle.std.specs.Prelude.{Result, Ok, Err, ◌||◌, not, nat_le}
 use Rattle.std.specs.List.{AllByRecursion}
@@ -51,7 +51,7 @@ use Rattle.policy_jobs.specs.Words.{begins}
 use Rattle.policy_jobs.proofs.OtherLines.{events_begin_otherwise}
 use Rattle.policy_jobs.proofs.RunLaws.{made_behind, or_false}
 
--- ---- procedures with something else said of their end
+-- ---- procedures with a function of their result
 
 pub record EndedAs {A B : Type 0} (g : A → B) (alone failed : Bool) (old : State) (d : Procedure A) (new : State) (y : B) : Type 0 where
   pub end : A
@@ -73,7 +73,7 @@ given_as g all stop old new at r a y e one =
     subst (λ z. IsGivenOver all stop old new at (ending_as g r) z) (sym e)
     (given_then all stop old new new at r (λ x. ends (g x)) a (g a) one (given_ended all stop new one.last (g a) one.within))
 
--- what is given of the end of a procedure
+-- what is given of the result of a procedure
 ends_parts : {A : Type 0} (all : History) (stop : Option ℕ) (at : ℕ) (x : A) (looks : List (Option ℕ)) (last : ℕ) (given : List (ℕ × Event)) (y : A) → Gives all stop at [] (ends x) looks last given y → (last ≡ at) × (given ≡ []) × (y ≡ x)
 ends_parts all stop at x [] last given y g = g
 ends_parts all stop at x (p ∷ ps) last given y g = absurd g
@@ -99,7 +99,7 @@ parts_as g all stop at d looks last given y gives =
 steady_look : {A : Type 0} (base : History) (f : History → A) → Steady false base (looks (λ h. ends (f h)))
 steady_look base f = λ h on. (λ _. tt, λ no. absurd (true≢false no))
 
--- ---- a policy that is added leaves the places of the actor
+-- ---- a policy that is added leaves the state of the actor
 
 added_inner : {P : Type 0} (p : PolicyPlaces P) (at : ℕ) (policy : Policy) (o : Option Refusal) → (turn_of_adding p at policy o).places.inner ≡ p.inner
 added_inner p at policy None = refl
@@ -152,7 +152,7 @@ misread_not_stop (faults.NoToken p) e = omega (arith, e)
 misread_not_stop (faults.Syntax p) e = omega (arith, e)
 misread_not_stop (faults.BadNumber p) e = omega (arith, e)
 
--- ---- lines that are E24 only at stops, and name the events that were made
+-- ---- lines that are E24 only at stops, and name the events that were appended
 
 abbrev IsGood : Option ℕ → List (ℕ × Event) → List Said → Type 0
 IsGood stop given lines = AllByRecursion (StopsAt stop) lines × (numbers given ≡ made_in lines)
@@ -195,7 +195,7 @@ stays_outside within does law alone failed old p text skip new y out event w =
     ap (λ z. within z.places.inner) e.is ∙ law alone failed old p.inner text skip new e.end out event e.walks
 
 module _ {P : Type 0} (within : P → Block) (does reply : P → List ℕ → ℕ → Procedure (Turn P)) (tells : TellsReplies within does reply) (alone : Bool) (old : State) where
-  -- after whatever is walked the block of the actor had begun
+  -- after any walk the block of the actor had begun
   abbrev Begun : Procedure (Turn P) → Type 0
   Begun d = (failed : Bool) (new : State) (y : Turn P) → Walks alone failed old d new y → HadBegun within y.places new.history
 
@@ -213,7 +213,7 @@ module _ {P : Type 0} (within : P → Block) (does reply : P → List ℕ → �
   begun_end : (y : Turn P) → HadBegun within y.places old.history → Begun (ends y)
   begun_end y begun failed new z w = subst (λ s. HadBegun within z.places s.history) (sym w.1) (subst (λ x. HadBegun within x.places old.history) (sym w.2) begun)
 
-  -- the same of a session with policies
+  -- the same for a session with policies
   abbrev InnerBegun : Procedure (Turn (PolicyPlaces P)) → Type 0
   InnerBegun d = (failed : Bool) (new : State) (y : Turn (PolicyPlaces P)) → Walks alone failed old d new y → HadBegun within y.places.inner new.history
 
@@ -261,10 +261,10 @@ module _ {P : Type 0} (within : P → Block) (does reply : P → List ℕ → �
         | false ↦ inner_beside p.policies (does p.inner text skip) (λ failed new y w. tells.began alone failed old p.inner text skip new y begun w)
       ]
 
-  -- ---- what was walked is given
+  -- ---- walks are given
 
   module _ (all : History) (stop : Option ℕ) (at : ℕ) (le : at ≤ position old.history) (ok : all_allowed all ≡ true) where
-    -- a reply gives whatever was walked
+    -- a reply gives any walk
     abbrev Told : {A : Type 0} → Procedure A → Procedure A → Type 0
     Told {A} d r = (failed : Bool) (new : State) (y : A) → Begins new.history all → StopsLater (stop_of new) stop → Walks alone failed old d new y → IsGivenOver all stop old new at r y
 

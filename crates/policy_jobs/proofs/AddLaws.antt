@@ -23,7 +23,7 @@ use Rattle.policy_jobs.proofs.TurnLaws.{line_stepped}
 
 -- ---- refusals
 
--- what a snapshot says of a policy the history says
+-- a snapshot refuses a policy exactly as its history does
 pub adding_at : (h : History) (pos : ℕ) (r : Roster) (many : ℕ) (job : Job) (every : ℤ) (o : Option Refusal) → pos ≡ position h → r ≡ roster h → o ≡ adding_refusal pos r many job every → adding_refusal (position h) (roster h) many job every ≡ o
 adding_at h pos r many job every o at same e =
     subst (λ x. adding_refusal x (roster h) many job every ≡ o) at (subst (λ x. adding_refusal pos x many job every ≡ o) same (sym e))
@@ -65,7 +65,7 @@ pub kept_ticked : (now : ℤ) (ps : List Policy) → AreKept ps → AreKept (pol
 kept_ticked now [] k = tt
 kept_ticked now (p ∷ ps) k = (k.0, kept_ticked now ps k.1)
 
--- ---- answers
+-- ---- replies
 
 pub if_answered : (end : StepEnd) (X Y : Type 0) → (X → Y) → IfAnswered end X → IfAnswered end Y
 if_answered (steps.Reply r) X Y f x = f x
@@ -77,7 +77,7 @@ always (steps.Reply r) X x = x
 always (steps.DiskFault r) X x = x
 always steps.NoMemory X x = tt
 
--- a policy was added where nothing refuses it
+-- a policy was added if no check refuses it
 pub added_stepped : {P : Type 0} (alone : Bool) (s : State) (name : List ℕ) (p q : PolicyPlaces P) (at : ℕ) (policy : Policy) (end : StepEnd) (n : ℕ) → n < 2 ^ 64
     → AnswersSo name (said.Policy (suc (length p.policies)) at ∷ []) false end → IfAnswered end (q ≡ record p { policies = p.policies ++ policy ∷ [] })
     → Stepped alone s (ends (turn_of_adding p at policy None)) name end s q n n

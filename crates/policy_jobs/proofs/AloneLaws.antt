@@ -15,7 +15,7 @@ ending_then (sees shown d) f h = ending_then (d h) f h
 ending_then (adds e next stop) f h = ending_then next f (h ▸ e)
 ending_then (ends a) f h = refl
 
--- a store that is alone and hasn't stopped is left with what the procedure gives
+-- a store that nobody else uses, and that hasn't stopped, is left with the result of the procedure
 pub record WalksAlone {A : Type 0} (d : Procedure A) (old : State) : Type 0 where
   pub new : State
   pub walks : Walks true false old d new (end_of_walk d old.history)
@@ -33,6 +33,6 @@ walks_alone (adds e next stop) old going =
     }
 walks_alone (ends a) old going = record { new = old; walks = (refl, refl, refl) }
 
--- a store of a history
+-- the state of a store with a history
 abbrev pub store_of : History → State
 store_of h = record { history = h; failed = None; faults = 0; made = []; origin = record { faults = 0; opening = h; moment = 0 } }

@@ -1,4 +1,4 @@
--- Texts in which no comment begins, of ASCII, with few bytes, and lines of a session that are made of them.
+-- Texts of ASCII with few bytes in which no comment begins, and lines of a session with such texts.
 use lib.Signed.{mag}
 use Rattle.std.proofs.Common.{◌≡◌, ◌∙◌, refl, sym, ap, subst, ℕ, suc, ◌+◌, ◌-◌, ◌<◌, ◌≤◌, ◌^◌, ℤ, pos, negsuc, Bool, true, false, cond, eqb, not, ◌&&◌, ◌||◌, ◌==◌, List, [], ◌∷◌, ◌++◌, length, take, drop, codes, nat_le, true≢false, arith, length-take, length-drop, drop-drop}
 use Rattle.std.specs.Prelude.{decimal, if◌then◌else◌}
@@ -21,7 +21,7 @@ use Rattle.stmt_tokens.specs.Tokens.{begins_with, blank_len}
 use Rattle.stmt_tokens.specs.declared.lines.LineKind.TheVariants.{Blank, NotAscii, NoSession, Stmt}
 use Rattle.policy_jobs.proofs.TokenLaws.{IsDigit, digit_in_front, not_blank}
 
--- no comment begins in a text, whatever stands behind it; it is ASCII, and has at most so many bytes
+-- no comment begins in a text, whatever text follows; it is ASCII, and has at most `most` bytes
 pub record IsClean (most : ℕ) (text : List ℕ) : Type 0 where
   pub comment : (rest : List ℕ) → comment_at (text ++ rest) ≡ length text + comment_at rest
   pub ascii : list_all is_ascii text ≡ true
@@ -40,7 +40,7 @@ nothing = record { comment = λ rest. omega arith; ascii = refl; bytes = omega a
 pub less : (m n : ℕ) (text : List ℕ) → m ≤ n → IsClean m text → IsClean n text
 less m n text fewer clean = record { comment = clean.comment; ascii = clean.ascii; bytes = omega (arith, clean.bytes) }
 
--- a byte that begins no comment stands in front
+-- a text with one more byte at the beginning, which begins no comment
 onto : (b m : ℕ) (text : List ℕ) → ((rest : List ℕ) → (eqb b 45 && begins_with 45 (text ++ rest)) ≡ false) → b < 128 → IsClean m text → IsClean (suc m) (b ∷ text)
 onto b m text none small clean = record {
   comment = λ rest. ap (λ t. cond t 0 (1 + comment_at (text ++ rest))) (none rest) ∙ omega (arith, clean.comment rest);
@@ -84,7 +84,7 @@ closing = record { comment = λ rest. omega arith; ascii = refl; bytes = omega a
 
 -- ---- names
 
--- bytes none of which is a minus, and each of which is ASCII
+-- bytes of ASCII that aren't minuses
 pub plain_clean : (test : ℕ → Bool) → ((b : ℕ) → test b ≡ true → (eqb b 45 ≡ false) × (b < 128)) → (text : List ℕ) → list_all test text ≡ true → IsClean (length text) text
 plain_clean test plain [] all = nothing
 plain_clean test plain (b ∷ text) all =
@@ -135,7 +135,7 @@ all_continue (b ∷ bytes) =
       | false ↦ λ e. refl
     ] refl
 
--- and as far as nothing else does behind it
+-- the name ends where no byte continues it
 ends_there : (name rest : List ℕ) → list_all continues_session name ≡ true → session_len rest ≡ 0 → session_len (name ++ rest) ≡ length name
 ends_there [] rest all none = none
 ends_there (b ∷ name) rest all none =
@@ -163,7 +163,7 @@ of_bytes (b ∷ bytes) h =
 
 -- ---- the session of a line
 
--- what follows of the kind of a line that is a statement
+-- the parts of a line whose kind is a statement
 record Parts (session : Bool) (n s e len skip end : ℕ) : Type 0 where
   has : session ≡ true
   lens : n ≡ len
@@ -199,7 +199,7 @@ session_of_line line len skip end h =
 colon : IsClean 2 (codes ": ")
 colon = record { comment = λ rest. omega arith; ascii = refl; bytes = omega arith }
 
--- the name of a session and a colon, and whatever is behind them
+-- the name of a session and a colon, and any text after them
 module _ (b : ℕ) (bs behind : List ℕ) (letter : begins_session b ≡ true) (rest : list_all continues_session (b ∷ bs) ≡ true) (short : length (b ∷ bs) ≤ 16) where
   abbrev said_name : List ℕ
   said_name = b ∷ bs
@@ -236,14 +236,14 @@ module _ (b : ℕ) (bs behind : List ℕ) (letter : begins_session b ≡ true) (
       ∙ ap (λ n. Stmt n (0 + n + 1) (length said_line)) slen
       ∙ ap (λ n. Stmt (length said_name) n (length said_line)) skip
 
--- a clean line of a session, none of which is comment
+-- a clean line of a session has no comment
 pub kind_of_clean : (most : ℕ) (name behind : List ℕ) → IsSession name → IsClean most (name ++ 58 ∷ behind) → line_kind (name ++ 58 ∷ behind) ≡ Stmt (length name) (length name + 1) (length (name ++ 58 ∷ behind))
 kind_of_clean most [] behind is clean = absurd (let none = is.is in cc)
 kind_of_clean most (b ∷ bs) behind is clean =
     let same : is.head ≡ b = (let e = is.is in cc) in
     kind_here b bs behind (subst (λ x. begins_session x ≡ true) same is.letter) is.rest is.short most clean
 
--- a line that a session says, none of which is comment: its parts
+-- the parts of a line that gives a session a text, without a comment
 pub record IsSaidBy (most : ℕ) (name text : List ℕ) : Type 0 where
   pub kind : line_kind (name ++ (codes ": " ++ text)) ≡ Stmt (length name) (length name + 1) (length (name ++ (codes ": " ++ text)))
   pub session : session_name (name ++ (codes ": " ++ text)) (length name) (length name + 1) ≡ name
@@ -251,7 +251,7 @@ pub record IsSaidBy (most : ℕ) (name text : List ℕ) : Type 0 where
   pub within : length name + 1 ≤ length (name ++ (codes ": " ++ text))
   pub bytes : length (name ++ (codes ": " ++ text)) ≤ 18 + most
 
--- a clean text that a session says
+-- a clean text in a line of a session
 pub said_by : (most : ℕ) (name text : List ℕ) → IsSession name → IsClean most text → IsSaidBy most name text
 said_by most name text is clean =
     let named : IsClean 16 name = less (length name) 16 name is.short (plain_clean continues_session (λ b e. (continues_no_minus b e, continues_small b e)) name is.rest) in

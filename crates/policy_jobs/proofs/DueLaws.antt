@@ -1,4 +1,4 @@
--- What a tick leaves due, what lines leave of the policies, and the statements that policies run.
+-- What is due after a tick, what lines leave of the policies, and the statements that policies run.
 use Rattle.std.proofs.Common.{◌≡◌, ◌∙◌, ℕ, ◌≤◌, ℤ, ◌-ℤ◌, Bool, true, false, cond, int_le, List, [], ◌∷◌, ◌++◌, append-nil, length, map, Option, Some, None, refl, sym, ap, subst, arith}
 use Rattle.std.specs.Prelude.{Result, Ok, Err}
 use Rattle.std.specs.List.{list_any}
@@ -55,7 +55,7 @@ due_texts_are_statements now p t is =
 
 -- ---- what is due after a tick
 
--- an interval hasn't passed at once
+-- an interval has not passed at once
 not_yet : (now every : ℤ) → is_interval every ≡ true → int_le every (now -ℤ now) ≡ false
 not_yet now every i = grind (arith, ints)
 
@@ -80,14 +80,14 @@ all_due now (p ∷ new) never =
 pub only_new_ones_are_due : OnlyNewOnesAreDue
 only_new_ones_are_due now old new are never = none_due now old new are ∙ all_due now new never
 
--- where none is due a tick runs nothing
+-- if no policy is due, a tick runs nothing
 pub idle_due : (now : ℤ) (ps : List Policy) → list_any (is_due now) ps ≡ false → due now ps ≡ []
 idle_due now [] e = refl
 idle_due now (p ∷ ps) e =
     let k = or_parts (is_due now p) (list_any (is_due now) ps) e in
     ap (λ t. cond t (p ∷ due now ps) (due now ps)) k.0 ∙ idle_due now ps k.1
 
--- and marks nothing
+-- if no policy is due, a tick marks nothing
 pub idle_marked : (now : ℤ) (ps : List Policy) → list_any (is_due now) ps ≡ false → policies_after_tick now ps ≡ ps
 idle_marked now [] e = refl
 idle_marked now (p ∷ ps) e =
@@ -105,7 +105,7 @@ marked_twice now (p ∷ ps) are =
 
 -- ---- names that are read
 
--- its relation is a name
+-- the relation of a statement on policies is a name
 abbrev NamesIt : PolicyStmt → Type 0
 NamesIt (stmts.Add job every) = IsName (relation_in job)
 NamesIt (stmts.Tick now) = Unit {0}
@@ -141,7 +141,7 @@ names_said : (text : List ℕ) (skip : ℕ) (s : PolicyStmt) → IsSaid rule.sta
 names_said text skip s (ts, p, e, l) none =
     statement_names.holds (plain ts) s (stream_proper text skip ts p e (fit_statement rule.statement (stream text skip) ts p e none)) l
 
--- the relation of what is read is a name
+-- the relation of the statement that was read is a name
 abbrev NamesWhatIsRead : Result (PolicyStmt × Stream) Fault → Type 0
 NamesWhatIsRead (Ok read) = NamesIt read.0
 NamesWhatIsRead (Err f) = Unit {0}
@@ -163,7 +163,7 @@ policies_ticked : (now : ℤ) (ps : List Policy) → ArePolicies ps → ArePolic
 policies_ticked now [] are = tt
 policies_ticked now (p ∷ ps) are = (record { named = are.0.named; offsets = are.0.offsets; interval = are.0.interval }, policies_ticked now ps are.1)
 
--- whatever is walked ends with policies of which this is so
+-- any walk ends with policies that have a property
 module _ {P : Type 0} (alone : Bool) (R : List Policy → Type 0) where
   abbrev Leaves : Procedure (Turn (PolicyPlaces P)) → Type 0
   Leaves d = (failed : Bool) (old new : State) (y : Turn (PolicyPlaces P)) → Walks alone failed old d new y → R y.places.policies
@@ -187,7 +187,7 @@ module _ {P : Type 0} (alone : Bool) (R : List Policy → Type 0) where
           | false ↦ λ _. leaves_look (λ h. refuses p (refusal bad_time h 0)) (λ h. same)
         ] marked
 
-    -- of a statement: what adding it leaves, or what its tick does
+    -- what a statement leaves: by what it adds, or by what its tick does
     abbrev IsLeft : PolicyStmt → Type 0
     IsLeft (stmts.Add job every) =
         (h : History) → adding_refusal (position h) (roster h) (length p.policies) job every ≡ None → R (p.policies ++ (record { job = job; every = every; ran = None }) ∷ [])
@@ -223,7 +223,7 @@ module _ {P : Type 0} (alone : Bool) (R : List Policy → Type 0) where
           | false ↦ leaves_beside p.policies (does p.inner text skip) same
         ]
 
--- a policy that passed is one
+-- a policy that passed the checks is valid
 passed_is : (h : History) (many : ℕ) (job : Job) (every : ℤ) → IsName (relation_in job) → adding_refusal (position h) (roster h) many job every ≡ None → ArePolicies (record { job = job; every = every; ran = None } ∷ [])
 passed_is h many job every n e =
     (record { named = n; offsets = offsets_passed (position h) (roster h) many job every e; interval = interval_passed (position h) (roster h) many job every e }, tt)
@@ -242,7 +242,7 @@ module _ {P : Type 0} (does : P → List ℕ → ℕ → Procedure (Turn P)) (al
   left_longer within (Ok (stmts.Tick now, left)) no_tick = absurd cc
   left_longer within (Err f) no_tick = tt
 
-  -- a tick at a time ends with those that were due marked, whatever it came to
+  -- a tick at a time ends with the due policies marked, whatever its outcome
   module _ (failed : Bool) (old : State) (now : ℤ) (new : State) (y : Turn (PolicyPlaces P)) (time : is_time now ≡ true) (w : Walks alone failed old (ticks does p now) new y) where
     pub due_marked : y.places.policies ≡ policies_after_tick now p.policies
     due_marked =
@@ -250,7 +250,7 @@ module _ {P : Type 0} (does : P → List ℕ → ℕ → Procedure (Turn P)) (al
         let there = subst (λ t. Walks alone failed old (cond t (ending_as (beside (policies_after_tick now p.policies)) d) (misses_time p)) new y) time w in
         ap (λ z. z.places.policies) (ended_as (beside (policies_after_tick now p.policies)) alone failed old d new y there).is
 
--- a tick at which nothing is due, and which marks nothing, is its line alone
+-- a tick at which nothing is due, and which marks nothing, is only its line
 pub idle : {P : Type 0} (does : P → List ℕ → ℕ → Procedure (Turn P)) (q : PolicyPlaces P) (now : ℤ) → is_time now ≡ true → due now q.policies ≡ [] → policies_after_tick now q.policies ≡ q.policies → ticks does q now ≡ ends (turns q (said.Tick now 0))
 idle does q now time none same =
     ap (λ t. cond t (ending_as (beside (policies_after_tick now q.policies)) (runs_due does now q.inner q.policies)) (misses_time q)) time

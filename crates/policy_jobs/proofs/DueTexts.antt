@@ -31,16 +31,16 @@ use Rattle.policy_jobs.proofs.TokenLaws.{Comes, behind_space, comes, ends_at, fi
 
 -- ---- ends of windows
 
--- the time so long before another is a number of 63 bits with its sign
+-- the time this long before another is a number of 63 bits with its sign
 end_small : (now before : ℤ) → is_time now ≡ true → is_from (pos 0) before ≡ true → mag (end_of now before) < 2 ^ 62 + 1
 end_small now before t f = grind (arith, ints)
 
--- an end that isn't given, or is one
+-- an end of a window is open, or its time is at most 2^62 in magnitude
 abbrev pub IsEnd : ℤ → Option ℤ → Type 0
 IsEnd now None = Unit {0}
 IsEnd now (Some before) = mag (end_of now before) < 2 ^ 62 + 1
 
--- the token that it is
+-- the token of an end
 abbrev end_token : ℤ → Option ℤ → Token
 end_token now None = word (codes "null")
 end_token now (Some before) = number_at (end_of now before)
@@ -80,12 +80,12 @@ refresh_is_read now view None (Some to) a b c d e f g h i p s t = rw (small_word
 refresh_is_read now view (Some from) None a b c d e f g h i p s t = rw (small_word (end_of now from) s) refl
 refresh_is_read now view (Some from) (Some to) a b c d e f g h i p s t = rw (small_word (end_of now from) s, small_word (end_of now to) t) refl
 
--- what is read of a text behind its first bytes
+-- what is read from a text after its first bytes
 pub record Reads (text : List ℕ) (skip : ℕ) (s : Stmt) : Type 0 where
   pub left : Stream
   pub is : statement (stream text skip) ≡ Ok (s, left)
 
--- the tokens of a refresh come one after the other
+-- the tokens of a refresh in order
 refresh_tokens : (text : List ℕ) (skip : ℕ) (view r1 r2 r3 r4 r5 r6 r7 r8 : List ℕ) (t u : Token) (begins : Comes text skip (word (codes "call")) r1) (two : Comes text begins.end (word (codes "refresh_continuous_aggregate")) r2)
     → (three : Comes text two.end (mark Open) r3) (four : Comes text three.end (quoted view) r4) (five : Comes text four.end (mark Comma) r5) (six : Comes text five.end t r6)
     → (seven : Comes text six.end (mark Comma) r7) (eight : Comes text seven.end u r8) (nine : Comes text eight.end (mark Close) [])
@@ -93,7 +93,7 @@ refresh_tokens : (text : List ℕ) (skip : ℕ) (view r1 r2 r3 r4 r5 r6 r7 r8 : 
 refresh_tokens text skip view r1 r2 r3 r4 r5 r6 r7 r8 t u begins two three four five six seven eight nine =
     rw (begins.is, two.is, three.is, four.is, five.is, six.is, seven.is, eight.is, nine.is, ends_at text nine.end nine.left) refl
 
--- what stands behind CALL
+-- the text after CALL
 abbrev refresh_rest : ℤ → List ℕ → Option ℤ → Option ℤ → List ℕ
 refresh_rest now view from to =
     codes " refresh_continuous_aggregate('" ++ (view ++ 39 ∷ 44 ∷ 32 ∷ (end_text now from ++ 44 ∷ 32 ∷ (end_text now to ++ 41 ∷ [])))
@@ -141,7 +141,7 @@ drop_tokens : (text : List ℕ) (skip : ℕ) (table r1 r2 r3 r4 r5 r6 : List ℕ
 drop_tokens text skip table r1 r2 r3 r4 r5 r6 z begins two three four five six seven =
     rw (begins.is, two.is, three.is, four.is, five.is, six.is, seven.is, ends_at text seven.end seven.left) refl
 
--- what stands behind SELECT
+-- the text after SELECT
 abbrev retention_rest : ℤ → List ℕ → ℤ → List ℕ
 retention_rest now table after = codes " drop_chunks('" ++ (table ++ 39 ∷ 44 ∷ 32 ∷ (signed_decimal (end_of now after) ++ 41 ∷ []))
 
@@ -172,7 +172,7 @@ end_given : (now : ℤ) (o : Option ℤ) → is_time now ≡ true → is_offset 
 end_given now None t f = tt
 end_given now (Some before) t f = end_small now before t f
 
--- the text of what a job runs is read as its statement, where it stands alone and where it stands behind a space
+-- the text of what a job runs is read as its statement, also after a space
 pub record ReadsDue (now : ℤ) (job : Job) : Type 0 where
   pub alone : Reads (due_text now job) 0 (due_statement now job)
   pub behind : (text : List ℕ) (skip : ℕ) → skip ≤ length text → drop skip text ≡ 32 ∷ due_text now job → Reads text skip (due_statement now job)
@@ -197,7 +197,7 @@ due_reads now (jobs.Drop table after) n t o =
       behind = λ text skip within left. retention_reads text skip now table after n s (comes text (32 ∷ (codes "SELECT" ++ rest)) rest skip (word (codes "select")) (record { within = within; left = left ∙ ap (λ bytes. 32 ∷ bytes) same }) refl);
     }
 
--- the length of a text is that of its pieces
+-- the length of a text is the sum of the lengths of its pieces
 two_len : (a b : List ℕ) (n : ℕ) → length a ≤ n → length (a ++ b) ≤ n + length b
 two_len a b n le = let whole = length-append a b in omega (arith, whole, le)
 
@@ -231,12 +231,12 @@ retention_runs now table after n t f =
       event = subst ReadsEvent (sym reads.is) refl;
     }
 
--- a text that was made so may be run
+-- such a text may be run
 pub runs_as : {text : List ℕ} (r : Result (List ℕ) NoMemory) → IfOk r (λ t. t ≡ text) → IsRunnable text → IfOk r IsRunnable
 runs_as (Ok t) e runs = subst IsRunnable (sym e) runs
 runs_as (Err x) e runs = tt
 
--- ---- without a comment
+-- ---- no comment
 
 end_clean : (now : ℤ) (o : Option ℤ) → IsEnd now o → IsClean 21 (end_text now o)
 end_clean now None s = record { comment = λ rest. omega arith; ascii = refl; bytes = omega arith }

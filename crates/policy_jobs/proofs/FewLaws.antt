@@ -1,4 +1,4 @@
--- How many events a tick makes, and what lines leave of the policies that are refused.
+-- How many events a tick appends, and what refused lines leave of the policies.
 use Rattle.std.proofs.Common.{◌≡◌, ◌∙◌, ℕ, ◌+◌, ◌*◌, ◌≤◌, ℤ, Bool, true, false, cond, List, [], ◌∷◌, ◌++◌, length, Option, Some, None, refl, sym, ap, subst, arith}
 use Rattle.std.specs.Prelude.{Result, Ok, Err}
 use Rattle.std.proofs.lemmas.List.{length-append, length-map}
@@ -38,7 +38,7 @@ use Rattle.policy_jobs.proofs.RunLaws.{made_behind}
 none_few : (n : ℕ) → 0 ≤ n
 none_few n = omega arith
 
--- whatever is walked names at most so many events
+-- any walk names at most this many events
 module _ (lines_make_few_events : LinesMakeFewEvents) (alone : Bool) where
   abbrev Few : {P : Type 0} → ℕ → Procedure (Turn P) → Type 0
   Few {P} n d = (failed : Bool) (old new : State) (y : Turn P) → Walks alone failed old d new y → length (made_in y.said) ≤ n
@@ -87,16 +87,16 @@ ticks_make_few_events lines alone failed old p now new y w = few_ticks lines alo
 
 -- ---- refusals
 
--- lines begin with one
+-- lines begin with this one
 abbrev Leads : Said → List Said → Type 0
 Leads line lines = (rest : List Said) × (lines ≡ line ∷ rest)
 
--- the line of a tick is no refusal
+-- the line of a tick isn't a refusal
 no_refusal : (now : ℤ) (n : ℕ) (r : Refusal) (lines : List Said) → Leads (said.Tick now n) lines → lines ≡ said.Fault r ∷ [] → ⊥
 no_refusal now n r lines leads is = let same : said.Tick now n ∷ leads.0 ≡ said.Fault r ∷ [] = sym leads.1 ∙ is in cc same
 
 module _ {P : Type 0} (does : P → List ℕ → ℕ → Procedure (Turn P)) (alone : Bool) where
-  -- whatever is walked says this line first
+  -- the reply of any walk begins with this line
   abbrev Begins : Said → Procedure (Turn P) → Type 0
   Begins line d = (failed : Bool) (old new : State) (y : Turn P) → Walks alone failed old d new y → Leads line y.said
 
@@ -112,7 +112,7 @@ module _ {P : Type 0} (does : P → List ℕ → ℕ → Procedure (Turn P)) (al
   begins_all line (text ∷ texts) d first = begins_all line texts (and_then does d text) (begins_then line d text first)
 
   module _ (p : PolicyPlaces P) where
-    -- whatever is walked leaves the policies where it says one refusal
+    -- any walk whose reply is one refusal leaves the policies as they are
     abbrev Stays : Procedure (Turn (PolicyPlaces P)) → Type 0
     Stays d = (failed : Bool) (old new : State) (y : Turn (PolicyPlaces P)) (r : Refusal) → Walks alone failed old d new y → y.said ≡ said.Fault r ∷ [] → y.places.policies ≡ p.policies
 
@@ -128,7 +128,7 @@ module _ {P : Type 0} (does : P → List ℕ → ℕ → Procedure (Turn P)) (al
         let e = ended_as (beside p.policies) alone failed old d new y w in
         subst (λ x. x.places.policies ≡ p.policies) (sym e.is) refl
 
-    -- a tick that ran says its line first
+    -- the reply of a tick that ran begins with its line
     stays_run : (now : ℤ) → Stays (ending_as (beside (policies_after_tick now p.policies)) (runs_due does now p.inner p.policies))
     stays_run now failed old new y r w is =
         let n = length (due now p.policies) in

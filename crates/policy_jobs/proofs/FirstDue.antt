@@ -1,4 +1,4 @@
--- Before the first of some policies is due none of them is.
+-- Before the earliest time at which one of some policies is due, none of them is.
 use Rattle.std.proofs.Common.{◌≡◌, ◌∙◌, ℤ, ◌+ℤ◌, ◌-ℤ◌, ◌<ℤ◌, true, false, int_le, int_lt, List, [], ◌∷◌, Option, Some, None, FitsSigned, w64, ap, refl, arith}
 use Rattle.std.specs.Prelude.{◌||◌}
 use Rattle.std.specs.Int.{int_min}
@@ -14,7 +14,7 @@ before_first now a b h = grind (arith, ints)
 before_second : (now a b : ℤ) → now <ℤ int_min a b → now <ℤ b
 before_second now a b h = grind (arith, ints)
 
--- too soon after a last run
+-- a time too soon after the last run
 too_soon : (now every last : ℤ) → now <ℤ (last +ℤ every) → int_le every (now -ℤ last) ≡ false
 too_soon now every last h = grind (arith, ints)
 

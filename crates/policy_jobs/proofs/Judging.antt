@@ -1,4 +1,4 @@
--- What is answered of a text is what the grammar says of it.
+-- Reading a text returns what the grammar says of it.
 use Rattle.std.proofs.Common.{◌≡◌, ℕ, Bool, true, false, ◌&&◌, ◌||◌, List, [], ◌∷◌, ◌++◌, Result, Ok, Err, refl, sym, ap, subst, ◌∙◌, inl, inr}
 use Rattle.std.proofs.lemmas.Bool.{both_ways}
 use Rattle.stmt_tokens.specs.Tokens.{Token}
@@ -42,7 +42,7 @@ verdict s r = subst (λ x. Verdict statement s x) (sym (statement_is s)) (verdic
 pub reads_by_the_grammar : ReadsByTheGrammar
 reads_by_the_grammar text skip le = verdict (stream text skip) (stream_rises text skip le)
 
--- ---- what a statement begins with
+-- ---- the beginning of a statement
 
 or_right : (b : Bool) → (b || true) ≡ true
 or_right true = refl
@@ -70,7 +70,7 @@ begins_select (x ∷ y ∷ zs) p t u rest e k l =
     let m : y.token ≡ u = cc in
     second_way _ _ _ (ap (λ z. is_keyword kw.Select (seen_token z)) h ∙ k) (ap (λ z. adds (seen_token z)) m ∙ l)
 
--- a form begins as a statement on policies does
+-- each form begins as a statement on policies
 begins_form : (ts : List Placed) (p : ℕ) (us vs : List Token) (a : PolicyStmt) → plain ts ≡ us ++ vs → form us a → begins (onto ts (ends p)) ≡ true
 unfolding form sequence either token_rule
 begins_form ts p us vs a e (inl (xs, ys, u, e1, (t, t-is, k), (zs, ws, w, e2, (r, r-is, l), m))) =
@@ -84,7 +84,7 @@ begins_said : (s : Stream) (a : PolicyStmt) → IsSaid statement s a → begins 
 unfolding statement sequence
 begins_said s a (ts, p, e, (us, vs, b, e1, l, m)) = subst (λ y. begins y ≡ true) (sym e) (begins_form ts p us vs b e1 l)
 
--- ---- the answer
+-- ---- the result
 
 pub judged : (s : Stream) (answer : PolicyRead) (r : Result (PolicyStmt × Stream) Fault) → Answers answer (begins s) r → Verdict statement s r → Judges s answer
 judged s (reads.Stmt a) (Ok x) e v = (subst (λ y. IsSaid statement s y) e.1 v.0, v.1)

@@ -1,4 +1,4 @@
--- A statement that makes an event is none on policies.
+-- A statement that appends an event isn't one on policies.
 use Rattle.std.proofs.Common.{◌≡◌, ℕ, true, false, List, codes, refl, subst}
 use Rattle.std.specs.Prelude.{◌||◌, ◌&&◌}
 use Rattle.std.specs.Str.{bytes_eq}
@@ -19,7 +19,7 @@ no_tick : (at : ℕ) (s : Stream) → ReadsEvent (statement ((record { at = at; 
 unfolding statement form bind takes token_parser block
 no_tick at s e = e
 
--- nor with SELECT and a name that is no word of the grammar
+-- no statement begins with SELECT and a name that isn't a word of the grammar
 no_refresh : (at to : ℕ) (s : Stream) → ReadsEvent (statement ((record { at = at; token = word (codes "select") }) then ((record { at = to; token = word (codes "add_continuous_aggregate_policy") }) then s))) → ⊥
 unfolding statement form bind takes token_parser select_rest fold_rest bucket
 no_refresh at to s e = e

@@ -1,4 +1,4 @@
--- A line sees the places of its session only.
+-- A line depends only on the state of its own session.
 use Rattle.std.proofs.Common.{◌≡◌, ◌∙◌, ℕ, suc, true, false, cond, List, [], ◌∷◌, ◌++◌, length, take, Option, Some, None, refl, sym, ap, subst}
 use Rattle.std.specs.Prelude.{◌||◌, ◌+◌, nat_lt}
 use Rattle.std.specs.List.{AllByRecursion}
@@ -31,14 +31,14 @@ itself a = (bytes_eq-Decides a a).1 refl
 turned_round : (a b : List ℕ) → same_name a b ≡ false → same_name b a ≡ false
 turned_round a b e = false_from_ne_true (same_name b a) (λ is. true≢false (sym (subst (λ x. same_name x b ≡ true) (same_text b a is) (itself b)) ∙ e))
 
--- what is called as the one is not called as the other
+-- a session with one name doesn't have another
 not_named : (other name x : List ℕ) → same_name other name ≡ false → same_name x other ≡ true → same_name x name ≡ false
 not_named other name x apart e = subst (λ y. same_name y name ≡ false) (sym (same_text x other e)) apart
 
 -- ---- sessions by their names
 
 module _ {P : Type 0} where
-  -- a session that was put there is found
+  -- a session whose state was set is found
   pub found : (name : List ℕ) (p : P) (sessions : List (List ℕ × P)) → places_of name (with_places name p sessions) ≡ Some p
   found name p [] = ap (λ t. cond t (Some p) None) (itself name)
   found name p (entry ∷ sessions) =
@@ -47,7 +47,7 @@ module _ {P : Type 0} where
         | false ↦ λ e. ap (λ t. cond t (Some entry.1) (places_of name (with_places name p sessions))) e ∙ found name p sessions
       ] refl
 
-  -- the last of two stands
+  -- the later of two states stays
   pub put_twice : (name : List ℕ) (p q : P) (sessions : List (List ℕ × P)) → with_places name q (with_places name p sessions) ≡ with_places name q sessions
   put_twice name p q [] = ap (λ t. cond t ((name, q) ∷ []) ((name, p) ∷ (name, q) ∷ [])) (itself name)
   put_twice name p q (entry ∷ sessions) =
@@ -70,7 +70,7 @@ module _ {P : Type 0} where
           | false ↦ λ e. ap (λ o. cond (same_name entry.0 name) (Some entry.1) o) (found_still q sessions)
         ] refl
 
-    -- the one and the other, in either order, where the other had appeared
+    -- two states set in either order, if the other session had appeared
     put_later : (q r : P) (entry : List ℕ × P) (sessions : List (List ℕ × P)) → same_name entry.0 other ≡ false → with_places name r (with_places other q sessions) ≡ with_places other q (with_places name r sessions)
         → with_places name r (entry ∷ with_places other q sessions) ≡ with_places other q (with_places name r (entry ∷ sessions))
     put_later q r entry sessions e rest =
@@ -93,7 +93,7 @@ module _ {P : Type 0} where
           | false ↦ λ e left. put_later q r entry sessions e (put_both p q r sessions left)
         ] refl there
 
-  -- as many have appeared
+  -- the same number of sessions has appeared
   as_many : (other : List ℕ) (p q : P) (sessions : List (List ℕ × P)) → places_of other sessions ≡ Some p → length (with_places other q sessions) ≡ length sessions
   as_many other p q [] there = absurd cc
   as_many other p q (entry ∷ sessions) there =
@@ -105,11 +105,11 @@ module _ {P : Type 0} where
 -- ---- one line
 
 module _ {P : Type 0} (semantics : Semantics P) (other : List ℕ) (p q : P) where
-  -- the same result, with the other places
+  -- the same result, with the other session state
   abbrev moved : LineResult P → LineResult P
   moved r = record r { script_state = with_session r.script_state other q }
 
-  -- the line moves, and the session keeps its places
+  -- the line does the same, and the session keeps its state
   record Moves (there_result here_result : LineResult P) : Type 0 where
     moves : there_result ≡ moved here_result
     keeps : places_of other here_result.script_state.sessions ≡ Some p

@@ -134,7 +134,7 @@ reads_semicolon : (n : ℕ) → Reads n base.semicolon grammar.semicolon on_semi
 unfolding base.semicolon
 reads_semicolon n = takes_mark n marks.Semicolon (λ m. reads_gives m tt) (reads_gives n tt) (avoids_means _ _ _)
 
--- what may go on with a statement
+-- what may continue a statement
 abbrev pub on_statement : Seen → Bool
 on_statement = any on_form on_semicolon
 

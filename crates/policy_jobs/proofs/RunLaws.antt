@@ -1,4 +1,4 @@
--- Statements that were run one after the other: what was reported, and where they broke off.
+-- Statements that were run in order: what was reported, and where they broke off.
 use Rattle.std.proofs.Common.{◌≡◌, ◌∙◌, ℕ, ◌+◌, ◌≤◌, ◌<◌, ◌^◌, Bool, true, false, List, [], ◌∷◌, ◌++◌, ◌-◌, length, take, drop, get_or, sym, refl, ap, subst, arith}
 use Rattle.std.specs.Prelude.{Ok, Err, Result, OnOk, ◌||◌}
 use Rattle.std.specs.Result.{IsErr}
@@ -24,7 +24,7 @@ use Rattle.policy_jobs.specs.declared.runs.TickOutcome.{TickOutcome}
 use Rattle.policy_jobs.specs.Runs.{GoesOnBy, IsBehind, IsRunnable, RunsTo}
 use Rattle.policy_jobs.specs.Turns.{and_all, and_then, behind}
 
--- ---- lines behind one another
+-- ---- lines in order
 
 pub text_behind : (name : List ℕ) (xs ys : List Said) → text_of name (xs ++ ys) ≡ text_of name xs ++ text_of name ys
 text_behind name [] ys = refl
@@ -53,10 +53,10 @@ or_true false = refl
 raised_twice : (a b n : ℕ) → raised_by b (raised_by a n) ≡ raised_by (a + b) n
 raised_twice a b n = omega arith
 
--- ---- one after the other
+-- ---- statements in order
 
 module _ {P : Type 0} (does : P → List ℕ → ℕ → Procedure (Turn P)) (alone : Bool) (old : State) (first : Procedure (Turn P)) (name : List ℕ) where
-  -- what was reported of something, and of a statement after it, is reported of both
+  -- reports of a procedure and of a statement after it are a report of both
   reports_then : (failed then : Bool) (reply more whole : Reply) (mid : State) (p : P) (text : List ℕ) (new : State) (q : P) (before between after : ℕ)
       → Reports alone failed old first name reply mid p before between → Reports alone then mid (does p text 0) name more new q between after → IsBehind reply more whole
       → Reports alone (failed || then) old (and_then does first text) name whole new q before after
@@ -74,7 +74,7 @@ module _ {P : Type 0} (does : P → List ℕ → ℕ → Procedure (Turn P)) (al
         counted = s.counted ∙ ap (raised_by s.read) r.counted ∙ raised_twice r.read s.read before;
       }
 
-  -- what was reported may have broken off there
+  -- a procedure that was reported may have broken off there
   reports_break : (failed then : Bool) (reply more : Reply) (mid : State) (p : P) (text : List ℕ) (new : State) (q : P) (before between after : ℕ)
       → Reports alone failed old first name reply mid p before between → Reports alone then mid (does p text 0) name more new q between after
       → Breaks alone old (and_then does first text) new
@@ -90,7 +90,7 @@ module _ {P : Type 0} (does : P → List ℕ → ℕ → Procedure (Turn P)) (al
       let y : Turn P = record { places = p; said = r.said; reads = r.read } in
       break_together alone failed old first mid y (λ x. ending_as (behind x) (does x.places text 0)) new r.walks (breaks_first alone mid (does p text 0) (λ z. ends (behind y z)) new b)
 
-  -- so may whatever broke off before others follow
+  -- a procedure that broke off did so whatever statements would follow it
   pub breaks_all : (texts : List (List ℕ)) (so_far : Procedure (Turn P)) (new : State) → Breaks alone old so_far new → Breaks alone old (and_all does so_far texts) new
   breaks_all [] so_far new b = b
   breaks_all (text ∷ texts) so_far new b = breaks_all texts (and_then does so_far text) new (breaks_first alone old so_far (λ y. ending_as (behind y) (does y.places text 0)) new b)
@@ -126,7 +126,7 @@ pub broken_run : {P : Type 0} (alone : Bool) (s : State) (d : Procedure (Turn P)
 broken_run alone s d name (Ok run) new q before after i b le = absurd (true≢false (sym i))
 broken_run alone s d name (Err e) new q before after i b le = (b, le)
 
--- ---- what the actor is like after a statement
+-- ---- the actor after a statement
 
 module _ {P : Type 0} (within : P → Block) (does : P → List ℕ → ℕ → Procedure (Turn P)) where
   outside_after : (alone failed : Bool) (mid : State) (p : P) (text name : List ℕ) (reply : Reply) (new : State) (q : P) (between after : ℕ)
@@ -142,7 +142,7 @@ module _ {P : Type 0} (within : P → Block) (does : P → List ℕ → ℕ → 
   outside_then alone run steps.NoMemory (Ok next) mid p text name new q between after law out runs s g = absurd g
   outside_then alone run end (Err e) mid p text name new q between after law out runs s g = tt
 
--- and what holds where it answered
+-- the same for what is true if it replied
 pub held_then : (run : TickOutcome) (end : StepEnd) (result : Result TickOutcome NoMemory) (H : Type 0) → GoesOnBy run end result → IfAnswered end H → OnOk result H
 held_then run (steps.Reply r) (Ok next) H g h = h
 held_then run (steps.DiskFault r) (Ok next) H g h = h

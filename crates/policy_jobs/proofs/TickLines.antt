@@ -36,9 +36,9 @@ use Rattle.policy_jobs.proofs.OtherLines.{events_begin_otherwise}
 use Rattle.policy_jobs.proofs.PlaceLaws.{found, put_twice}
 use Rattle.policy_jobs.proofs.RunLaws.{fault_behind, or_behind, or_false, text_behind}
 
--- ---- one statement after the other
+-- ---- statements in order
 
--- what statements came to so far: a history, and one turn
+-- the outcome of the statements so far: a history, and one turn
 record Came (P : Type 0) : Type 0 where
   history : History
   turn : Turn P
@@ -72,23 +72,22 @@ module _ {P : Type 0} (does : P → List ℕ → ℕ → Procedure (Turn P)) whe
 
 -- ---- one line
 
--- two procedures come to the same over a history
+-- two procedures have the same result over a history
 record ComeTogether {A : Type 0} (d e : Procedure A) (h : History) : Type 0 where
   history : history_after d h ≡ history_after e h
   end : end_of_walk d h ≡ end_of_walk e h
 
--- the places of a session outside a block
+-- the state of a session outside a block
 abbrev outside : Option ℕ → List (ℕ × ℕ) → Places
 outside cut held = record { block = none; cut = cut; held = held }
 
--- a statement that a policy runs does the same wherever it was read, since it takes nothing of the bytes that it was
--- read from
+-- a statement that a policy runs does the same in any text, since it doesn't depend on the bytes from which it was read
 module _ (text other : List ℕ) (skip from : ℕ) (cut : Option ℕ) (held : List (ℕ × ℕ)) (h : History) where
   due_by : (now : ℤ) (job : Job) (l m : Stream) → any_statement (stream text skip) ≡ Ok (due_statement now job, l) → any_statement (stream other from) ≡ Ok (due_statement now job, m) → ComeTogether (step (outside cut held) text skip) (step (outside cut held) other from) h
   due_by now (jobs.Refresh view lo hi) l m a b = record { history = rw (a, b) refl; end = rw (a, b) refl }
   due_by now (jobs.Drop table after) l m a b = record { history = rw (a, b) refl; end = rw (a, b) refl }
 
--- a text that a policy runs, and the line that says it
+-- a text that a policy runs, and the line that has it
 record IsDueLine (name text : List ℕ) : Type 0 where
   said_so : IsSaidBy 600 name text
   event : ReadsEvent (any_statement (stream text 0))
@@ -123,10 +122,10 @@ due_line_each name now (p ∷ ps) session time are =
       | false ↦ rest
     ]
 
--- ---- lines one after the other
+-- ---- lines in order
 
 module _ (stays : StaysOutside (λ (p : Places). p.block) step) (name : List ℕ) (policies : List Policy) (sessions : List (List ℕ × PolicyPlaces Places)) where
-  -- the script where the statements have come to
+  -- the state of the script after the statements so far
   abbrev script_at : Came Places → ScriptState (PolicyPlaces Places)
   script_at c = record { history = c.history; sessions = with_places name (record { inner = c.turn.places; policies = policies }) sessions }
 
@@ -175,7 +174,7 @@ module _ (stays : StaysOutside (λ (p : Places). p.block) step) (name : List ℕ
         ∙ ap (executes_as policy_sessions s name line skip) (found name (record { inner = c.turn.places; policies = policies }) sessions)
         ∙ turn_taken
 
-  -- what is written of all of them
+  -- what all of them write
   record AreLines (c : Came Places) (n : ℕ) (texts : List (List ℕ)) : Type 0 where
     text : text_of name (come step c texts).turn.said ≡ text_of name c.turn.said ++ output policy_sessions (script_at c) n (map (line_of name) texts)
     fault : has_fault (come step c texts).turn.said ≡ (has_fault c.turn.said || is_refused policy_sessions (script_at c) n (map (line_of name) texts))

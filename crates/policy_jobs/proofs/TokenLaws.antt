@@ -1,4 +1,4 @@
--- The tokens of a text, one after the other, by the bytes that are left.
+-- The tokens of a text in order, by the bytes that are left.
 use Rattle.std.proofs.Common.{◌≡◌, ◌∙◌, refl, sym, ap, subst, ℕ, suc, ◌+◌, ◌<◌, ◌≤◌, ◌^◌, ℤ, pos, negsuc, neg_ℤ, Bool, true, false, cond, eqb, leb, ◌&&◌, List, [], ◌∷◌, ◌++◌, length, take, drop, get_or, Option, Some, None, arith}
 use lib.Signed.{mag}
 use Rattle.std.specs.Prelude.{decimal}
@@ -23,23 +23,23 @@ use Rattle.stmt_tokens.proofs.Flow.{stream_is_flow, flow}
 use Rattle.stmt_tokens.proofs.Lexemes.{Fits, blank_len-le-length, lexeme_fits}
 use Rattle.stmt_tokens.proofs.Named.{lower_name}
 
--- ---- the token in front
+-- ---- the first token
 
--- a lexeme's token, and the bytes behind it
+-- the token of a lexeme, and the bytes after it
 abbrev pub behind : List ℕ → Option Lexeme → Option (Token × List ℕ)
 behind bytes None = None
 behind bytes (Some l) = Some (l.token, drop l.len bytes)
 
--- the token in front of bytes, and the bytes behind it
+-- the first token of bytes, and the bytes after it
 abbrev pub first_token : List ℕ → Option (Token × List ℕ)
 first_token bytes = let here = drop (blank_len bytes) bytes in behind here (lexeme_at here)
 
--- a place of a text, and the bytes that are left there
+-- a byte of a text, and the bytes that are left there
 pub record IsAt (text : List ℕ) (skip : ℕ) (bytes : List ℕ) : Type 0 where
   pub within : skip ≤ length text
   pub left : drop skip text ≡ bytes
 
--- a token comes next at a place, and these bytes are left behind it
+-- a token comes next at a byte, and these bytes are left after it
 pub record Comes (text : List ℕ) (skip : ℕ) (t : Token) (rest : List ℕ) : Type 0 where
   pub at : ℕ
   pub end : ℕ
@@ -54,7 +54,7 @@ abbrev rest_in : Option (Token × List ℕ) → List ℕ
 rest_in None = []
 rest_in (Some x) = x.1
 
--- the same where no blank stands
+-- the same if no blank precedes it
 record ComesHere (begin : ℕ) (bytes : List ℕ) (t : Token) (rest : List ℕ) : Type 0 where
   len : ℕ
   is : next_here begin bytes ≡ token t begin (begin + len)
@@ -90,11 +90,11 @@ comes_at text skip t rest within e =
       };
     }
 
--- the token in front of what is left comes next
+-- the first token of the bytes that are left comes next
 pub comes : (text bytes rest : List ℕ) (skip : ℕ) (t : Token) → IsAt text skip bytes → first_token bytes ≡ Some (t, rest) → Comes text skip t rest
 comes text bytes rest skip t at e = comes_at text skip t rest at.within (ap first_token at.left ∙ e)
 
--- where nothing is left, the tokens end
+-- if no bytes are left, the tokens end
 pub ends_at : (text : List ℕ) (skip : ℕ) → IsAt text skip [] → stream text skip ≡ ends (skip + 1)
 ends_at text skip at =
     let n : ℕ = blank_len (drop skip text) in
@@ -112,7 +112,7 @@ not_blank b bytes no_space no_return =
     let none : prefix_len is_space (b ∷ bytes) ≡ 0 = rw no_space refl in
     ap (λ n. cond (is_return (drop n (b ∷ bytes))) (n + 1) n) none ∙ ap (λ t. cond t 1 0) (return_not b bytes no_return)
 
--- no blank stands in front
+-- no blank precedes
 pub first_here : (b : ℕ) (bytes : List ℕ) → is_space b ≡ false → eqb b 13 ≡ false → first_token (b ∷ bytes) ≡ behind (b ∷ bytes) (lexeme_at (b ∷ bytes))
 first_here b bytes no_space no_return = ap (λ n. let here = drop n (b ∷ bytes) in behind here (lexeme_at here)) (not_blank b bytes no_space no_return)
 
@@ -120,7 +120,7 @@ one_blank_more : (r : Bool) (n : ℕ) → cond r (suc n + 1) (suc n) ≡ suc (co
 one_blank_more true n = omega arith
 one_blank_more false n = refl
 
--- a space in front changes nothing
+-- a space at the beginning changes nothing
 pub behind_space : (bytes : List ℕ) → first_token (32 ∷ bytes) ≡ first_token bytes
 behind_space bytes =
     let n : ℕ = prefix_len is_space bytes in
@@ -143,7 +143,7 @@ comma (b ∷ rest) = refl
 
 -- ---- numbers
 
--- what a digit is, and isn't
+-- properties of a digit
 pub record IsDigit (d : ℕ) : Type 0 where
   pub low : 48 ≤ d
   pub high : d ≤ 57
@@ -186,7 +186,7 @@ number_here sign text ds rest sign-is digits-are len numeral none =
     ∙ ap (λ t. Some (number (signed_digits_value 10 t), drop (length text) bytes)) (take-append_seam text rest)
     ∙ ap (λ r. Some (number (signed_digits_value 10 text), r)) (drop-append_seam text rest)
 
--- digits alone
+-- digits only
 digits_here : (ds rest : List ℕ) → IsNumeral 10 ds → prefix_len is_ascii_digit rest ≡ 0 → first_token (ds ++ rest) ≡ Some (number (pos (digits_value 10 ds)), rest)
 digits_here [] rest numeral none = absurd (omega (arith, numeral.0))
 digits_here (d ∷ ds) rest numeral none =
@@ -207,7 +207,7 @@ minus_here ds rest numeral none =
     first_here 45 (ds ++ rest) refl refl
     ∙ number_here 1 (45 ∷ ds) ds rest refl refl (sym (one-add (length ds))) numeral none
 
--- the text of a number, and no digit behind it
+-- the text of a number, with no digit after it
 pub number_token : (z : ℤ) (rest : List ℕ) → mag z < 2 ^ 63 → prefix_len is_ascii_digit rest ≡ 0 → first_token (signed_decimal z ++ rest) ≡ Some (number z, rest)
 number_token (pos n) rest small none =
     let k = decimal_is_IsNumeral n (omega arith) in
@@ -216,7 +216,7 @@ number_token (negsuc n) rest small none =
     let k = decimal_is_IsNumeral (suc n) (omega arith) in
     minus_here (decimal (suc n)) rest k.0 none ∙ ap (λ m. Some (number (neg_ℤ (pos m)), rest)) k.1
 
--- the same of a number without a sign behind a space
+-- the same for a number without a sign after a space
 pub decimal_token : (n : ℕ) (rest : List ℕ) → n < 2 ^ 63 → prefix_len is_ascii_digit rest ≡ 0 → first_token (32 ∷ (decimal n ++ rest)) ≡ Some (number (pos n), rest)
 decimal_token n rest small none = behind_space (decimal n ++ rest) ∙ number_token (pos n) rest small none
 
@@ -246,7 +246,7 @@ tails_in_front (b ∷ bs) rest all none =
     ∙ one-add (prefix_len continues_word (bs ++ rest))
     ∙ ap suc (tails_in_front bs rest k.1 none)
 
--- a name in quotes, by how many bytes go on with a word
+-- a name in quotes, by how many bytes continue a word
 abbrev quoted_by : Bool → ℕ → List ℕ → Option Lexeme
 quoted_by begins n bytes =
     cond (begins && leb n 63 && begins_with 39 (drop n bytes)) (Some (record { token = quoted (lower (take n bytes)); len = n + 2 })) None
@@ -258,7 +258,7 @@ past_quotes name rest =
     ∙ sym (drop-drop 1 (length name) (name ++ 39 ∷ rest))
     ∙ ap (drop 1) (drop-append_seam name (39 ∷ rest))
 
--- a name in quotes, and whatever is behind it
+-- a name in quotes, and any text after it
 pub quoted_token : (name rest : List ℕ) → is_name name ≡ true → first_token (39 ∷ (name ++ 39 ∷ rest)) ≡ Some (quoted name, rest)
 quoted_token [] rest e = absurd (true≢false (sym e))
 quoted_token (b ∷ bs) rest e =

@@ -24,7 +24,7 @@ use Rattle.policy_jobs.specs.Turns.{beside}
 
 -- ---- one line
 
--- a line that names no event was said
+-- a reply of one line that names no event
 pub line_reported : {P : Type 0} (alone : Bool) (s : State) (name : List ℕ) (p : P) (line : Said) (reply : Reply) (n : ℕ) → n < 2 ^ 64 → made_by line ≡ [] → IsReply name (line ∷ []) reply → Reports alone false s (ends (turns p line)) name reply s p n n
 line_reported alone s name p line reply n short no_event is =
     let nothing : reply.events ≡ [] = is.names ∙ ap (λ m. m ++ []) no_event in
@@ -44,7 +44,7 @@ line_stepped alone s name p line (steps.Reply r) n short no_event a = line_repor
 line_stepped alone s name p line (steps.DiskFault r) n short no_event a = absurd (true≢false (sym a.0))
 line_stepped alone s name p line steps.NoMemory n short no_event a = (refl, omega arith)
 
--- ---- after a look
+-- ---- after a read
 
 reports_seen : {P : Type 0} (alone failed : Bool) (old mid : State) (shown : History → Bool) (f : History → Procedure (Turn P)) (name : List ℕ) (reply : Reply) (new : State) (q : P) (before after : ℕ) → Sees alone old mid → Reports alone failed mid (f mid.history) name reply new q before after → Reports alone failed old (sees shown f) name reply new q before after
 reports_seen alone failed old mid shown f name reply new q before after s r = record {
@@ -63,7 +63,7 @@ seen_stepped alone old mid shown f name (steps.Reply r) new q before after s t =
 seen_stepped alone old mid shown f name (steps.DiskFault r) new q before after s t = reports_seen alone true old mid shown f name r new q before after s t
 seen_stepped alone old mid shown f name steps.NoMemory new q before after s t = (record { mid = mid; first = s; rest = t.0 }, t.1)
 
--- ---- with the policies beside it
+-- ---- with the policies in the session state
 
 reports_beside : {P : Type 0} (policies : List Policy) (alone failed : Bool) (old : State) (d : Procedure (Turn P)) (name : List ℕ) (reply : Reply) (new : State) (q : P) (before after : ℕ) → Reports alone failed old d name reply new q before after → Reports alone failed old (ending_as (beside policies) d) name reply new (record { inner = q; policies = policies }) before after
 reports_beside policies alone failed old d name reply new q before after r = record {

@@ -1,9 +1,9 @@
--- Numbers of 64 bits as 128 bits have them, and their sums and differences.
+-- Numbers of 64 bits in 128 bits, and their sums and differences.
 use Rattle.std.proofs.Common.{◌≡◌, ◌+ℤ◌, ◌-ℤ◌, ℤ, FitsSigned, arith, of_z, to_z, w64}
 use Rattle.std.proofs.lemmas.Int.{ints}
 use mir.Syntax.{w128}
 
--- a number as 128 bits have it
+-- a number in 128 bits
 abbrev pub wide : ℤ → ℤ
 wide z = to_z w128 (of_z w128 (to_z w64 (of_z w64 z)))
 

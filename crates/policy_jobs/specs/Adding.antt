@@ -14,7 +14,7 @@ use Rattle.policy_jobs.specs.declared.jobs.Job.{Job}
 use Rattle.policy_jobs.specs.declared.jobs.Job.TheVariants as jobs
 use Rattle.policy_jobs.specs.declared.policies.Policy.{Policy}
 
--- the most policies of a session
+-- the greatest number of policies in a session
 abbrev pub most_policies : ℕ
 most_policies = 64
 
@@ -22,16 +22,16 @@ most_policies = 64
 abbrev pub longest : ℤ
 longest = pos (2 ^ 50)
 
--- a number from a least one on and up to the greatest
+-- a number is at least `least` and at most the greatest
 abbrev pub is_from : ℤ → ℤ → Bool
 is_from least z = int_le least z && int_le z longest
 
--- an offset is NULL, or from 0 on
+-- an offset is NULL, or at least 0
 abbrev pub is_offset : Option ℤ → Bool
 is_offset None = true
 is_offset (Some z) = is_from (pos 0) z
 
--- an interval is from 1 on
+-- an interval is at least 1
 abbrev pub is_interval : ℤ → Bool
 is_interval every = is_from (pos 1) every
 
@@ -50,7 +50,7 @@ abbrev pub has_offsets : Job → Bool
 has_offsets (jobs.Refresh view from to) = is_offset from && is_offset to
 has_offsets (jobs.Drop table after) = is_from (pos 0) after
 
--- policies whose offsets are
+-- policies whose offsets are within bounds
 abbrev pub AreKept : List Policy → Type 0
 AreKept policies = AllByRecursion (λ p. has_offsets p.job ≡ true) policies
 
@@ -59,13 +59,13 @@ abbrev pub fits_step : Roster → Job → Bool
 fits_step r (jobs.Refresh view from to) = is_wide (view_found r (found_in r view)) from to
 fits_step r (jobs.Drop table after) = true
 
--- what it refreshes is an aggregate, and what it drops chunks of a hypertable
+-- a refresh policy needs an aggregate, and a retention policy a hypertable
 abbrev pub relation_refusal : ℕ → Roster → Job → Option Refusal
 relation_refusal at r (jobs.Refresh view from to) = view_refusal at (found_in r view)
 relation_refusal at r (jobs.Drop table after) = hypertable_refusal at (found_in r table)
 
--- why a policy is refused at a position, of a session with so many: first by its relation, then by its numbers, and
--- then because there are as many as there may be
+-- the refusal of a policy at a position, in a session that has this many policies: first by its relation, then by its
+-- numbers, and then because the session can't have more policies
 abbrev pub adding_refusal : ℕ → Roster → ℕ → Job → ℤ → Option Refusal
 adding_refusal at r many job every =
     relation_refusal at r job

@@ -37,7 +37,7 @@ use Rattle.policy_jobs.specs.declared.statements.PolicyStmt.TheVariants as stmts
 
 -- ---- what is due
 
--- an end of a window, where there is one
+-- an end of a window, if it has one
 abbrev pub bound_of : ℤ → Option ℤ → Option ℤ
 bound_of now None = None
 bound_of now (Some before) = Some (end_of now before)
@@ -52,7 +52,7 @@ abbrev pub relation_in : Job → List ℕ
 relation_in (jobs.Refresh view from to) = view
 relation_in (jobs.Drop table after) = table
 
--- a policy as it is added: its relation is a name, and its numbers are within bounds
+-- a valid policy: its relation is a name, and its numbers are within bounds
 pub record IsPolicy (p : Policy) : Type 0 where
   pub named : IsTrue (is_name (relation_in p.job))
   pub offsets : has_offsets p.job ≡ true
@@ -71,7 +71,7 @@ DueTextsAreStatements =
     (now : ℤ) (p : Policy) → is_time now ≡ true → IsPolicy p
     → IsSaid any_statement (stream (due_text now p.job) 0) (due_statement now p.job)
 
--- after a tick, the policies that are due at the next tick of the same time are those that were added since
+-- after a tick, the policies that are due at another tick at the same time are those that were added since
 abbrev pub OnlyNewOnesAreDue : Type 0
 OnlyNewOnesAreDue =
     (now : ℤ) (old new : List Policy) → ArePolicies old → NeverRan new → due now (policies_after_tick now old ++ new) ≡ new
@@ -83,19 +83,19 @@ abbrev pub tick_time : PolicyStmt → Option ℤ
 tick_time (stmts.Add job every) = None
 tick_time (stmts.Tick now) = Some now
 
--- the time of what was read as a tick
+-- the time of a statement that was read, if it is a tick
 abbrev pub tick_read : Result (PolicyStmt × Stream) Fault → Option ℤ
 tick_read (Ok read) = tick_time read.0
 tick_read (Err f) = None
 
--- the same policies, and behind them others that never ran
+-- the same policies, and then others that never ran
 pub record IsLonger (old new : List Policy) : Type 0 where
   pub added : List Policy
   pub whole : new ≡ old ++ added
   pub never : NeverRan added
 
--- over any store, a line leaves valid policies. A line that isn't a tick keeps those that existed, and may append new
--- ones. A tick, whatever the outcome of its statements, marks those that were due
+-- on any store, a line leaves valid policies. A line that isn't a tick keeps those that existed, and may append new
+-- ones. A tick marks those that were due, whatever the outcome of its statements
 pub record LinesKeepPolicies (P : Type 0) : Type 0 where
   pub policies :
       (within : P → Block) (does : P → List ℕ → ℕ → Procedure (Turn P)) (alone failed : Bool) (old : State)
@@ -112,14 +112,14 @@ pub record LinesKeepPolicies (P : Type 0) : Type 0 where
       (does : P → List ℕ → ℕ → Procedure (Turn P)) (alone failed : Bool) (old : State) (p : PolicyPlaces P) (now : ℤ)
       (new : State) (y : Turn (PolicyPlaces P))
       → is_time now ≡ true → Walks alone failed old (ticks does p now) new y → y.places.policies ≡ policies_after_tick now p.policies
-  -- where the reply is a refusal and nothing more, all policies stay as they were
+  -- if the reply is only a refusal, all policies stay as they were
   pub refused :
       (within : P → Block) (does : P → List ℕ → ℕ → Procedure (Turn P)) (alone failed : Bool) (old : State)
       (p : PolicyPlaces P) (text : List ℕ) (skip : ℕ) (new : State) (y : Turn (PolicyPlaces P)) (r : Refusal)
       → Walks alone failed old (policy_does does within p text skip) new y → y.said ≡ said.Fault r ∷ []
       → y.places.policies ≡ p.policies
 
--- a tick of a session creates at most three events for each policy that is due
+-- a tick of a session appends at most three events for each policy that is due
 abbrev pub TicksMakeFewEvents : Type 0
 TicksMakeFewEvents =
     (alone failed : Bool) (old : State) (p : PolicyPlaces Places) (now : ℤ) (new : State)
@@ -127,8 +127,8 @@ TicksMakeFewEvents =
     → Walks alone failed old (ticks step p now) new y
     → length (made_in y.said) ≤ 3 * length (due now p.policies)
 
--- after a tick over any store, whatever the outcome of its statements, another tick at the same time is only its
--- line, and the session stays as it is
+-- a second tick at the same time, on any store, is only its line, and the session stays as it is. The outcome of the
+-- first tick's statements doesn't matter
 abbrev pub SecondTicksAreIdle : Type 0 → Type 0
 SecondTicksAreIdle P =
     (does : P → List ℕ → ℕ → Procedure (Turn P)) (alone failed : Bool) (old : State) (p : PolicyPlaces P) (now : ℤ)
@@ -158,11 +158,11 @@ pub record IsTickLine (name : List ℕ) (now : ℤ) (line : List ℕ) : Type 0 w
   pub left : Stream
   pub read : statement (stream (take end line) skip) ≡ Ok (stmts.Tick now, left)
 
--- a script in which a session has these places
+-- a script in which a session has this state
 abbrev pub with_session : {P : Type 0} → ScriptState P → List ℕ → P → ScriptState P
 with_session s name p = record s { sessions = with_places name p s.sessions }
 
--- the outcome of a line is one line and then what a script writes, from a state on and from any line number on
+-- the result of a line is one line of text and then what a script writes, from a state on, with any line number
 pub record IsLineAndScript {P : Type 0} (semantics : Semantics P) (result : LineResult P) (first : List ℕ)
     (s : ScriptState P) (n : ℕ) (lines : List (List ℕ)) : Type 0 where
   pub text : result.text ≡ first ++ output semantics s n lines
@@ -174,8 +174,8 @@ pub record IsLineAndScript {P : Type 0} (semantics : Semantics P) (result : Line
 abbrev pub policy_sessions : Semantics (PolicyPlaces Places)
 policy_sessions = policy_semantics (λ p. p.block) session_semantics
 
--- a tick of a session outside a block is its line, and then what the script writes that has each due statement as a
--- line of that session, where the policies that are due have run: the same text, faults, reads, places and history
+-- a tick of a session outside a block is its line, and then a script of the due statements as lines of that session.
+-- The due policies are marked as run. Both have the same text, faults, reads, session states and history
 abbrev pub TicksAreTheirLines : Type 0
 TicksAreTheirLines =
     (s : ScriptState (PolicyPlaces Places)) (n k : ℕ) (name line : List ℕ) (now : ℤ) (p : PolicyPlaces Places)
@@ -185,7 +185,7 @@ TicksAreTheirLines =
     (reply_text name (said.Tick now (length (due now p.policies))))
     (with_session s name (record p { policies = policies_after_tick now p.policies })) k (due_lines name now p.policies)
 
--- ---- sessions beside one another
+-- ---- sessions and other sessions
 
 -- a line of this kind is one of the session with a name
 abbrev pub is_of_kind : List ℕ → List ℕ → LineKind → Bool
@@ -196,8 +196,8 @@ is_of_kind name line other = false
 abbrev pub is_line_of : List ℕ → List ℕ → Bool
 is_line_of name line = is_of_kind name line (line_kind line)
 
--- what lines of other sessions write, over any semantics of lines, is the same whatever a session carries: its block,
--- its queue, and its policies. They leave it that
+-- what lines of other sessions write, for any meaning of lines, is the same whatever a session carries: its block, its
+-- queue, and its policies. These lines don't change what the session carries
 pub record OthersSeeNoPlaces {P : Type 0} (semantics : Semantics P) (other : List ℕ) (p q : P) (s : ScriptState P)
     (n : ℕ) (lines : List (List ℕ)) : Type 0 where
   pub text : output semantics (with_session s other q) n lines ≡ output semantics s n lines

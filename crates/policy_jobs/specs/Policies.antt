@@ -8,36 +8,36 @@ use Rattle.policy_jobs.specs.declared.jobs.Job.{Job}
 use Rattle.policy_jobs.specs.declared.jobs.Job.TheVariants as jobs
 use Rattle.policy_jobs.specs.declared.policies.Policy.{Policy}
 
--- ---- which are due
+-- ---- due policies
 
--- its last run lies this interval back or further
+-- its last run is at least this interval ago
 abbrev pub is_back : ℤ → ℤ → Option ℤ → Bool
 is_back now every None = true
 is_back now every (Some last) = int_le every (now -ℤ last)
 
--- it never ran, or its last run lies its interval back or further
+-- it never ran, or its last run is at least its interval ago
 abbrev pub is_due : ℤ → Policy → Bool
 is_due now p = is_back now p.every p.ran
 
--- those that are due, in the order of adding
+-- the due policies, in the order in which they were added
 abbrev pub due : ℤ → List Policy → List Policy
 due now ps = filter (is_due now) ps
 
--- ---- from when on one is due
+-- ---- the earliest time at which a policy is due
 
--- from when on one is due that ran then, or never, of the numbers of 64 bits
+-- the earliest time at which a policy is due, by its interval and its last run
 abbrev pub due_after : ℤ → Option ℤ → ℤ
 due_after every None = least
 due_after every (Some last) = last +ℤ every
 
--- from when on the first of these is due. Of none it is the greatest number of 64 bits
+-- the earliest time at which one of these is due, or the greatest number of 64 bits if there is none
 abbrev pub first_due : List Policy → ℤ
 first_due [] = greatest
 first_due (p ∷ ps) = int_min (due_after p.every p.ran) (first_due ps)
 
--- ---- the statement of one that is due
+-- ---- the statement of a due policy
 
--- the time so long before another, or the least time where it would lie below that
+-- the time this long before another, but at least the lowest time
 abbrev pub end_of : ℤ → ℤ → ℤ
 end_of now before = int_max min_time (now -ℤ before)
 
@@ -61,16 +61,16 @@ abbrev pub due_text : ℤ → Job → List ℕ
 due_text now (jobs.Refresh view from to) = refresh_text now view from to
 due_text now (jobs.Drop table after) = retention_text now table after
 
--- the texts of the statements that those which are due run, in the order of adding
+-- the texts of the statements that due policies run, in the order in which they were added
 abbrev pub due_texts : ℤ → List Policy → List (List ℕ)
 due_texts now ps = map (λ p. due_text now p.job) (due now ps)
 
 -- ---- their last runs
 
--- one that is due ran at this time
+-- a due policy ran at this time
 abbrev pub ticked_one : ℤ → Policy → Policy
 ticked_one now p = record p { ran = cond (is_due now p) (Some now) p.ran }
 
--- so did each that is due
+-- each due policy ran at this time
 abbrev pub policies_after_tick : ℤ → List Policy → List Policy
 policies_after_tick now ps = map (ticked_one now) ps

@@ -15,25 +15,25 @@ use Rattle.ts_sessions.specs.declared.replies.StepEnd.{StepEnd}
 use Rattle.ts_sessions.specs.declared.replies.StepEnd.TheVariants as steps
 use Rattle.policy_jobs.specs.declared.runs.TickOutcome.{TickOutcome}
 
--- a text that is short enough, and a statement that makes an event
+-- a text is short enough, and a statement that appends an event
 pub record IsRunnable (text : List ℕ) : Type 0 where
   pub short : length text ≤ longest_line
   pub event : ReadsEvent (statement (stream text 0))
 
--- a run has reported a procedure so far, with or without an I/O error of its disk, or ended because memory ran out
+-- a run has reported a procedure so far, with an I/O error of its disk or without, or it ran out of memory
 abbrev pub RunsTo :
     {P : Type 0} → Bool → State → Procedure (Turn P) → List ℕ → Result TickOutcome NoMemory → State → P → ℕ → ℕ → Type 0
 RunsTo alone old procedure name (Ok run) new places before after =
     Reports alone run.failed old procedure name run.reply new places before after
 RunsTo alone old procedure name (Err e) new places before after = Breaks alone old procedure new × (before ≤ after)
 
--- a reply with another behind it
+-- a reply and then another
 pub record IsBehind (first then whole : Reply) : Type 0 where
   pub text : whole.text ≡ first.text ++ then.text
   pub fault : whole.fault ≡ (first.fault || then.fault)
   pub events : whole.events ≡ first.events ++ then.events
 
--- a run, and the end of one statement more behind it
+-- a run, and the outcome of one more statement
 abbrev pub GoesOnBy : TickOutcome → StepEnd → Result TickOutcome NoMemory → Type 0
 GoesOnBy run (steps.Reply r) (Ok next) = IsBehind run.reply r next.reply × (next.failed ≡ run.failed)
 GoesOnBy run (steps.DiskFault r) (Ok next) = IsBehind run.reply r next.reply × (next.failed ≡ true)

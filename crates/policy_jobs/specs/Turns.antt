@@ -23,17 +23,17 @@ use Rattle.policy_jobs.specs.Policies.{due, due_texts, policies_after_tick}
 use Rattle.policy_jobs.specs.Reading.{statement}
 use Rattle.policy_jobs.specs.Words.{begins}
 
--- what a session with policies carries from one line to the next: the places of the actor in it, and its policies in
--- the order of adding
+-- the state of a session with policies: the state of the actor in it, and its policies in the order in which they were
+-- added
 pub record PolicyPlaces (P : Type 0) : Type 0 where
   pub inner : P
   pub policies : List Policy
 
--- these policies beside the places after a turn
+-- a turn with these policies in its session state
 abbrev pub beside : {P : Type 0} → List Policy → Turn P → Turn (PolicyPlaces P)
 beside policies y = record { places = record { inner = y.places; policies = policies }; said = y.said; reads = y.reads }
 
--- the lines and the rows of a turn come behind those of another
+-- the lines and the rows read of two turns in order
 abbrev pub behind : {P : Type 0} → Turn P → Turn P → Turn P
 behind y z = record { places = z.places; said = y.said ++ z.said; reads = y.reads + z.reads }
 
@@ -51,19 +51,19 @@ adds_policy p job every =
     looks (λ h. ends (turn_of_adding p (position h) (record { job = job; every = every; ran = None })
     (adding_refusal (position h) (roster h) (length p.policies) job every)))
 
--- a time out of range
+-- a time out of range is refused
 abbrev pub misses_time : {P : Type 0} → PolicyPlaces P → Procedure (Turn (PolicyPlaces P))
 misses_time p = looks (λ h. ends (refuses p (refusal bad_time h 0)))
 
 -- what the lines of the actor do
 module _ {P : Type 0} (does : P → List ℕ → ℕ → Procedure (Turn P)) where
-  -- ---- statements one after the other
+  -- ---- statements in order
 
-  -- something, and then the statement with this text, by the places that it came to
+  -- a procedure, and then the statement with this text, in the session state that the procedure left
   abbrev pub and_then : Procedure (Turn P) → List ℕ → Procedure (Turn P)
   and_then first text = followed_by first (λ y. ending_as (behind y) (does y.places text 0))
 
-  -- something, and then the statements with these texts, in order
+  -- a procedure, and then the statements with these texts, in order
   abbrev pub and_all : Procedure (Turn P) → List (List ℕ) → Procedure (Turn P)
   and_all first [] = first
   and_all first (text ∷ texts) = and_all (and_then first text) texts
@@ -75,7 +75,7 @@ module _ {P : Type 0} (does : P → List ℕ → ℕ → Procedure (Turn P)) whe
   runs_due now p policies =
       and_all (ends (turns p (said.Tick now (length (due now policies))))) (due_texts now policies)
 
-  -- a tick at a time: the policies that are due run and are marked, whatever the outcome
+  -- a tick at a time: the due policies run and are marked, whatever the outcome
   abbrev pub ticks : PolicyPlaces P → ℤ → Procedure (Turn (PolicyPlaces P))
   ticks p now =
       cond (is_time now) (ending_as (beside (policies_after_tick now p.policies)) (runs_due now p.inner p.policies)) (misses_time p)
@@ -87,12 +87,12 @@ module _ {P : Type 0} (does : P → List ℕ → ℕ → Procedure (Turn P)) whe
   performs p (stmts.Add job every) = adds_policy p job every
   performs p (stmts.Tick now) = ticks p now
 
-  -- one that a block refuses, or lets pass
+  -- a statement on policies that a block refuses, or lets pass
   abbrev pub lets_pass : PolicyPlaces P → PolicyStmt → Option Refusal → Procedure (Turn (PolicyPlaces P))
   lets_pass p stmt (Some r) = ends (refuses p r)
   lets_pass p stmt None = performs p stmt
 
-  -- what was read as a statement on policies: a block refuses it as it refuses a statement that makes a relation
+  -- what was read as a statement on policies. A block refuses it like a statement that creates a relation
   abbrev pub reads_as : PolicyPlaces P → Block → Result (PolicyStmt × Stream) Fault → Procedure (Turn (PolicyPlaces P))
   reads_as p b (Ok read) = lets_pass p read.0 (block_refusal b Defines)
   reads_as p b (Err f) = ends (refuses p (misread f))
@@ -103,7 +103,8 @@ module _ {P : Type 0} (does : P → List ℕ → ℕ → Procedure (Turn P)) whe
       cond (begins (stream text skip)) (reads_as p (within p.inner) (statement (stream text skip)))
       (ending_as (beside p.policies) (does p.inner text skip))
 
--- what the lines of a session with policies mean, by what those of the actor in it mean. It begins with none
+-- what the lines of a session with policies mean, by what those of the actor in it mean. The session begins without
+-- policies
 abbrev pub policy_semantics : {P : Type 0} → (P → Block) → Semantics P → Semantics (PolicyPlaces P)
 policy_semantics within s = record {
   opening = λ number. record { inner = s.opening number; policies = [] };

@@ -30,6 +30,6 @@ after_word = codes "drop_after"
 abbrev pub adds : Seen → Bool
 adds t = is_spelled refresh_word t || is_spelled retention_word t
 
--- whether tokens begin as a statement on policies does: with TICK, or with SELECT and one of the two names
+-- whether tokens begin as a statement on policies: with TICK, or with SELECT and one of the two names
 unfoldable pub begins : Stream → Bool
 begins s = heads (is_spelled tick_word) s || (heads (is_keyword kw.Select) s && heads adds (tail s))

@@ -1,4 +1,4 @@
-//! Makes a session with policies an actor, so that it can execute the lines of a session.
+//! Implements `Actor` for a session with policies, so that it can execute the lines of a session.
 use crate::kept::KeptPolicies;
 use crate::reading::{PolicyRead, read_policy};
 use crate::sessions::{PolicySession, misread, refuse};

@@ -8,13 +8,13 @@ use crate::jobs::Job;
 use ts_catalog::{Found, find};
 use ts_model::{Refusal, Roster, ViewDef, codes};
 
-/// The most policies of a session.
+/// The greatest number of policies in a session.
 pub(crate) const MOST_POLICIES: usize = 64;
 
 /// The greatest offset and the greatest interval, 2 ^ 50.
 const LONGEST: i64 = 1_125_899_906_842_624;
 
-/// The refusal of a policy at a position, in a session that has so many policies, or `None`.
+/// The refusal of a policy at a position, in a session that has this many policies, or `None`.
 pub(crate) fn adding_refusal(
     pos: u64,
     roster: &Roster,

@@ -40,7 +40,7 @@ impl KeptPolicies {
         }
     }
 
-    /// How many there are.
+    /// The number of policies.
     pub fn len(&self) -> usize
         ensures len { result ≡ length self.now }
         ensures small { result < 2 ^ 63 }

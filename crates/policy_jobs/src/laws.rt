@@ -5,35 +5,35 @@ use ts_model::Shown;
 use ts_sessions::laws::lines_make_at_most_three_events;
 use ts_sessions::{Actor, Session};
 
-/// The text that a policy runs is its statement, by the grammar of all statements.
+/// States the law that the text that a policy runs is its statement, by the grammar of all statements.
 pub fn due_texts_are_statements()
     ensures { DueTextsAreStatements }
 {}
 
-/// After a tick, the policies that are due at the next tick of the same time are those that were added since.
+/// States the law that after a tick, another tick at the same time runs only the policies that were added since.
 pub fn only_new_ones_are_due()
     ensures { OnlyNewOnesAreDue }
 {}
 
-/// A line keeps the policies that exist, and may add new ones after them; a tick marks those that were due. A line
-/// that is refused changes no policy.
+/// States the law that a line keeps the policies that exist, and may add new ones after them. A tick marks those that
+/// were due. A line that is refused changes no policy.
 pub fn lines_keep_policies<P>()
     ensures { LinesKeepPolicies P }
 {}
 
-/// A tick of a session creates at most three events for each policy that is due.
+/// States the law that a tick of a session appends at most three events for each policy that is due.
 pub fn ticks_make_few_events()
     ensures { TicksMakeFewEvents }
 {
     lines_make_at_most_three_events();
 }
 
-/// After a tick, another tick at the same time is only its line.
+/// States the law that after a tick, another tick at the same time is only its line.
 pub fn second_ticks_are_idle<P>()
     ensures { SecondTicksAreIdle P }
 {}
 
-/// A tick of a session is its line and then the lines of its due statements.
+/// States the law that a tick of a session is its line and then the lines of its due statements.
 pub fn ticks_are_their_lines<T: Shown + Drop>()
 where
     T::Job: Drop,
@@ -42,7 +42,7 @@ where
     Session::<T>::stays_outside();
 }
 
-/// Lines of other sessions write the same, whatever a session carries, including its policies.
+/// States the law that lines of other sessions write the same, whatever a session carries, including its policies.
 pub fn lines_see_their_own_places<P>()
     ensures { LinesSeeTheirOwnPlaces P }
 {}

@@ -25,7 +25,7 @@ pub struct Policy {
 }
 
 impl Policy {
-    /// Whether it is due at a time: it never ran, or its last run is at least its interval ago.
+    /// Whether the policy is due at a time: it never ran, or its last run is at least its interval ago.
     pub fn is_due(&self, now: i64) -> bool
         ensures due { result ≡ is_due now self.now }
     {
@@ -35,7 +35,7 @@ impl Policy {
         }
     }
 
-    /// Marks it as run at a time, if it is due then.
+    /// Marks the policy as run at a time, if it is due then.
     fn mark(&mut self, now: i64)
         ensures ran { self.new ≡ ticked_one now self.old }
     {
@@ -44,19 +44,19 @@ impl Policy {
         }
     }
 
-    /// The statement that it runs at a time.
+    /// The statement that the policy runs at a time.
     pub fn text(&self, alloc: Global, now: i64) -> Result<Seq<u8>, NoMemory>
         ensures text { IfOk result (λ text. text ≡ due_text now self.now.job) }
         ensures runnable { is_time now ≡ true → has_offsets self.now.job ≡ true → IfOk result IsRunnable }
     {
         match &self.job {
             Job::Refresh { view, from, to } => {
-                // Reading a name tells that it is one.
+                // Reading a name proves that it is one.
                 let _name = view.bytes();
                 refresh_at(alloc, now, view, *from, *to)
             }
             Job::Drop { table, after } => {
-                // Reading a name tells that it is one.
+                // Reading a name proves that it is one.
                 let _name = table.bytes();
                 retention_at(alloc, now, table, *after)
             }
@@ -184,7 +184,7 @@ fn put_end(now: i64, offset: Option<i64>, out: &mut Vec<u8>) -> Result<(), NoMem
     Ok(())
 }
 
-/// The time so long before another, but at least the lowest time.
+/// The time this long before another, but at least the lowest time.
 fn end_at(now: i64, before: i64) -> i128
     ensures { result ≡ end_of now before }
 {

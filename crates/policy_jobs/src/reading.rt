@@ -41,7 +41,7 @@ pub enum PolicyRead {
     Fault(Fault),
     /// It doesn't begin as a statement on policies.
     Other,
-    /// Memory ran out.
+    /// Out of memory.
     NoMemory,
 }
 
@@ -50,7 +50,7 @@ pub fn read_policy(alloc: Global, text: &[u8], skip: u32) -> PolicyRead
     requires short { length text.now ≤ longest_line }
     requires within { skip ≤ length text.now }
 
-    // What reading from left to right gives, where the text begins so.
+    // What reading from left to right returns, if the text begins as a statement on policies.
     ensures exact { Answers result (begins (stream text.now skip)) (statement (stream text.now skip)) }
 
     // What the grammar says.
@@ -207,8 +207,8 @@ fn read_interval_rest(reader: &mut Reader<'_>) -> Result<i64, ReadError>
     reader.number()
 }
 
-/// States that what reading gives of each text is what the grammar says of it: its statement where
-/// nothing is wrong, and else the first thing that is. It does nothing.
+/// States the law that reading a text returns what the grammar says: its statement if it is one, or the first fault. It
+/// does nothing: its clause is the law.
 pub fn policy_reading_law()
     ensures { ReadsByTheGrammar }
 {}

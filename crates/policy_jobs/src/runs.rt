@@ -24,8 +24,8 @@ pub(crate) struct TickOutcome {
     pub failed: bool,
 }
 
-/// Executes statements in order, and appends their replies. After a disk fault the remaining statements are
-/// executed too.
+/// Executes statements in order, and appends their replies. After a disk fault it executes the remaining statements
+/// too.
 pub(crate) fn run_all<A, R, B, G, L>(
     rt: &R,
     alloc: Global,

@@ -134,7 +134,7 @@ impl<A: Actor> PolicySession<A> {
         ensures reply { IfOk result (λ r. IsReply (A.named self.old.actor)
             (PolicyLine (suc (length self.old.policies)) pos ∷ []) r) }
         ensures policies { OnOk result (self.new.policies ≡ self.old.policies ++ policy ∷ []) }
-        // Where memory ran out none was added, since none was answered.
+        // If it runs out of memory, it adds no policy, since no reply reports one.
         ensures kept { OnErr result (self.new.policies ≡ self.old.policies) }
         ensures actor { self.new.actor ≡ self.old.actor }
     {
@@ -281,7 +281,7 @@ fn barrier(block: Block) -> Option<Refusal>
     }
 }
 
-/// The refusal of a text that can't be read, at its place.
+/// The refusal of a text that can't be read, with the place of its first fault.
 pub(crate) fn misread(fault: Fault) -> Refusal
     ensures { result ≡ misread_as fault }
 {
@@ -292,14 +292,14 @@ pub(crate) fn misread(fault: Fault) -> Refusal
     }
 }
 
-/// Ends a statement of the session with a name by a refusal.
+/// Ends a statement of the session `name` with a refusal.
 pub(crate) fn refuse(alloc: Global, name: &Name, refusal: Refusal) -> StepEnd
     ensures { AnswersSo name.now (FaultLine refusal ∷ []) false result }
 {
     say(alloc, name, Said::Fault(refusal))
 }
 
-/// Ends a statement of the session with a name by this one line.
+/// Ends a statement of the session `name` with this one line.
 fn say(alloc: Global, name: &Name, line: Said) -> StepEnd
     ensures { AnswersSo name.now (line ∷ []) false result }
 {
@@ -309,7 +309,7 @@ fn say(alloc: Global, name: &Name, line: Said) -> StepEnd
     }
 }
 
-/// The reply of the session with a name that has only this line.
+/// The reply of the session `name` with only this line.
 fn write_line(alloc: Global, name: &Name, line: Said) -> Result<Reply, NoMemory>
     ensures { IfOk result (λ r. IsReply name.now (line ∷ []) r) }
 {

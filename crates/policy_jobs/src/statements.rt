@@ -7,6 +7,6 @@ pub enum PolicyStmt {
     /// `SELECT add_continuous_aggregate_policy` or `SELECT add_retention_policy`: a job, and the least interval
     /// between two runs of it.
     Add { job: Job, every: i64 },
-    /// `TICK`: the current time is this.
+    /// `TICK`, with the current time.
     Tick(i64),
 }

@@ -2,7 +2,7 @@
 use Rattle.std.proofs.Common.{◌≡◌, ℕ, ◌+◌, ◌<◌, ◌≤◌, ◌^◌, arith}
 use Rattle.ts_schema.specs.Counts.{raised_by}
 
--- one after the other
+-- two counts in order
 pub raised_twice : (m k n mid after : ℕ) → mid ≡ raised_by m n → after ≡ raised_by k mid → after ≡ raised_by (m + k) n
 raised_twice m k n mid after e f = omega arith
 

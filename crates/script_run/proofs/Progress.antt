@@ -1,4 +1,4 @@
--- How far a run has come.
+-- The progress of a run.
 use Rattle.std.proofs.Common.{◌≡◌, ℕ, suc, ◌+◌, ◌<◌, ◌≤◌, ◌^◌, Bool, false, true, ◌||◌, List, [], ◌∷◌, ◌++◌, length, Option, refl, sym, ap, ◌∙◌, subst, arith, append-nil, append_assoc, length-append}
 use Rattle.std.specs.Io.KnownBytes.{Appends}
 use Rattle.std.proofs.KnownBytes.{Appends-nil, Appends-trans}
@@ -23,12 +23,13 @@ use Rattle.script_run.proofs.LineLaws.{line_begins, long_line}
 use Rattle.script_run.proofs.ScriptLaws.{final-append, output-append, reads-append, refused-append}
 use Rattle.ts_sessions.proofs.NameCheckWalks.{unraised}
 
--- a script with these sessions at what a store has seen
+-- a script with these sessions at the history of a store
 abbrev pub script_state_at : {P : Type 0} → State → List (List ℕ × P) → ScriptState P
 script_state_at s sessions = record { history = s.history; sessions = sessions }
 
--- of the lines of a script over a history the first ones are done and these are left: the next line has number n and finds this state of the script, the replies to those done were written, one of them is a FAULT or
--- not, and the rows that they looked at were counted
+-- the first lines of a script over a history are done and the others are left. The next line has number n and finds
+-- this state of the script. The replies to the lines done were written, and the flag says whether one of them is a
+-- FAULT. The rows that these lines read were counted
 pub record Progress {P : Type 0} (semantics : Semantics P) (h : History) (lines rest : List (List ℕ)) (left : Left) (sessions : List (List ℕ × P)) (n : ℕ) (refused : Bool) : Type 0 where
   pub done : List (List ℕ)
   pub split : lines ≡ done ++ rest
@@ -38,13 +39,13 @@ pub record Progress {P : Type 0} (semantics : Semantics P) (h : History) (lines 
   pub fault : has_fault semantics h done ≡ refused
   pub counted : left.read ≡ raised_by (reads_of semantics h done) left.read_before
 
--- the same, by what the run found and what it has come to
+-- the same, by the store and the sink before the run and now
 abbrev pub Come : {P : Type 0} → Semantics P → History → Option (List ℕ) → ℕ → State → Option (List ℕ) → ℕ → List (List ℕ × P) → ℕ → Bool → List (List ℕ) → List (List ℕ) → Type 0
 Come semantics h before read_before s w read sessions n refused lines rest =
     Progress semantics h lines rest (record { store = s; written_before = before; written = w; read_before = read_before; read = read }) sessions n refused
 
 module _ {P : Type 0} (semantics : Semantics P) (h : History) where
-  -- what is done is followed by a line
+  -- a line follows the lines that are done
   module _ (done : List (List ℕ)) (line : List ℕ) (n : ℕ) (script_state : ScriptState P) (e : suc (length done) ≡ n) (f : script_state_after semantics h done ≡ script_state) where
     number : 1 + length done ≡ n
     number = omega (arith, e)
@@ -76,11 +77,11 @@ module _ {P : Type 0} (semantics : Semantics P) (h : History) where
         ∙ (λ i. reads_of semantics h done + ((executes semantics (f i) (number i) line).reads + 0))
         ∙ plus_none (reads_of semantics h done) (executes semantics script_state n line).reads
 
-    -- the result of the line there
+    -- the result of that line
     executed_then : executes semantics (script_state_after semantics h done) (suc (length done)) line ≡ executes semantics script_state n line
     executed_then = (λ i. executes semantics (f i) (e i) line)
 
-  -- at the start nothing is done
+  -- at the start no line is done
   pub starts : (lines : List (List ℕ)) (s : State) (w : Option (List ℕ)) (read : ℕ) (sessions : List (List ℕ × P)) (n : ℕ) (refused : Bool) → s.history ≡ h → read < 2 ^ 64 → sessions ≡ [] → n ≡ 1 → refused ≡ false
       → Come semantics h w read s w read sessions n refused lines lines
   starts lines s w read sessions n refused there small nobody first quiet = record {
@@ -98,7 +99,7 @@ module _ {P : Type 0} (semantics : Semantics P) (h : History) where
     left_at s w read = record { store = s; written_before = before; written = w; read_before = read_before; read = read }
 
     module _ (s t : State) (w v : Option (List ℕ)) (read after : ℕ) (sessions later : List (List ℕ × P)) (n m : ℕ) (was is : Bool) (p : Progress semantics h lines (line ∷ rest) (left_at s w read) sessions n was) where
-      -- a line more
+      -- one more line
       pub goes_on : m ≡ n + 1 → LineWritten (executes semantics (script_state_at s sessions) n line) (script_state_at t later) w v was is read after → Progress semantics h lines rest (left_at t v after) later m is
       goes_on e l =
           let script_state = script_state_at s sessions in
@@ -114,7 +115,7 @@ module _ {P : Type 0} (semantics : Semantics P) (h : History) where
                 ∙ ap (λ k. raised_by k read_before) (sym (reads_then p.done line n script_state p.numbered p.reached));
           }
 
-      -- the run stopped at the line, of whose reply a part was written
+      -- the run stopped at the line, with a part of its reply written
       pub stops_writing : ReplyCut (executes semantics (script_state_at s sessions) n line) (script_state_at t later) w v read after → StoppedWriting semantics h lines (left_at t v after)
       stops_writing l =
           let script_state = script_state_at s sessions in
@@ -133,7 +134,7 @@ module _ {P : Type 0} (semantics : Semantics P) (h : History) where
                 ∙ ap (λ k. raised_by k read_before) (sym (reads_then p.done line n script_state p.numbered p.reached));
           }
 
-      -- where the script is before the line, and after it
+      -- the history before the line, and after it
       from_here : (X : History → Type 0) → X s.history → X (history_of semantics h p.done)
       from_here X x = subst X (sym (ap (λ q. q.history) p.reached)) x
 
@@ -152,7 +153,7 @@ module _ {P : Type 0} (semantics : Semantics P) (h : History) where
         counted = subst (λ k. k ≤ after) p.counted l.counted;
       }
 
-      -- there was no memory for the line
+      -- the line ran out of memory
       pub stops_within : LineGivenUp (executes semantics (script_state_at s sessions) n line) s t w v read after → StoppedWithin semantics h lines (left_at t v after)
       stops_within l = record {
         done = p.done;
@@ -208,7 +209,7 @@ module _ {P : Type 0} (semantics : Semantics P) (h : History) where
     counted = subst (λ k. k ≤ read) (unraised read small) (omega arith);
   }
 
--- a run that came to the end of its input
+-- a run that ended at the end of its input
 pub end_ran : {P : Type 0} (refused : Bool) (semantics : Semantics P) (h : History) (input : List ℕ) (rest : Option (List ℕ)) (left : Left) → ReadWhole input rest → Executed semantics h (executed_lines input) left → has_fault semantics h (executed_lines input) ≡ refused
     → Ran (end_of_input refused) semantics h input rest left
 end_ran true semantics h input rest left whole done fault = (whole, done, fault)

@@ -1,4 +1,4 @@
--- What is left of an input, where the source tells its bytes.
+-- The rest of an input, if the source knows its bytes.
 use Rattle.std.proofs.Common.{◌≡◌, ℕ, ◌+◌, ◌<◌, List, [], ◌∷◌, ◌++◌, Option, Some, None, IfSome, length, refl, sym, ap, subst, arith}
 use Rattle.std.specs.Prelude.{⊤}
 use Rattle.std.specs.Io.KnownBytes.{prepend_known}
@@ -8,7 +8,7 @@ use Rattle.ts_io.specs.declared.limits.TheConstants.{INPUT_LIMIT, LINE_LIMIT}
 use Rattle.ts_io.specs.declared.line_reader.LineEnd.TheVariants.{Line, LineLong, End, InputLong}
 use Rattle.script_run.specs.Runs.{ReadWhole, executed_lines}
 
--- as many bytes of the input are gone as of its limit, and R holds of the lines that are executed and of those that are left
+-- as many bytes are gone from the input as from its limit. R is true of the lines to execute and of those that are left
 abbrev pub OfInput : Option (List ℕ) → ℕ → Option (List ℕ) → (List (List ℕ) → List (List ℕ) → Type 0) → Type 0
 OfInput None n now R = ⊤
 OfInput (Some input) n None R = ⊥
@@ -28,10 +28,10 @@ end_of_all : (xs ys : List ℕ) → xs ++ ys ≡ [] → ys ≡ []
 end_of_all [] ys e = e
 end_of_all (x ∷ xs) ys e = absurd (omega (arith, ap length e))
 
--- ---- what each answer of the reader leaves
+-- ---- what each result of the reader leaves
 
 module _ (R : List (List ℕ) → List (List ℕ) → Type 0) (n m : ℕ) where
-  -- the line that was given is the next
+  -- the line that was read is the next
   pub input_line : (S : List (List ℕ) → List (List ℕ) → Type 0) (start left new : Option (List ℕ)) (line shown : List ℕ) → shown ≡ line → ReadsLine Line n left m new line → SpendsAlike n left m new
       → ((all rest : List (List ℕ)) → R all (shown ∷ rest) → S all rest) → OfInput start n left R → OfInput start m new S
   input_line S None left new line shown e reads alike step t = tt
@@ -56,13 +56,13 @@ module _ (R : List (List ℕ) → List (List ℕ) → Type 0) (n m : ℕ) where
       (omega (arith, alike, t.0), skipped S (executed_lines input) (lines_within n text) (lines_within m rest) reads step t.1)
 
   module _ (Q : List ℕ → Type 0) where
-    -- a run that ends, whatever is left
+    -- a run that ends, whatever lines are left
     pub ends_anywhere : (start left : Option (List ℕ)) → ((input : List ℕ) (rest : List (List ℕ)) → R (executed_lines input) rest → Q input) → OfInput start n left R → IfSome start Q
     ends_anywhere None left end t = tt
     ends_anywhere (Some input) None end t = absurd t
     ends_anywhere (Some input) (Some text) end t = end input (lines_within n text) t.1
 
-    -- a run that ends at the line that was given
+    -- a run that ends at the line that was read
     pub ends_at_line : (start left new : Option (List ℕ)) (line shown : List ℕ) → shown ≡ line → ReadsLine Line n left m new line
         → ((input : List ℕ) (rest : List (List ℕ)) → R (executed_lines input) (shown ∷ rest) → Q input) → OfInput start n left R → IfSome start Q
     ends_at_line None left new line shown e reads end t = tt
@@ -83,7 +83,7 @@ module _ (R : List (List ℕ) → List (List ℕ) → Type 0) (n m : ℕ) where
     ends_at_long_line (Some input) (Some text) None line reads end t = absurd reads
     ends_at_long_line (Some input) (Some text) (Some rest) line reads end t = skipped_last input (lines_within n text) (lines_within m rest) reads end t.1
 
-    -- a run that ends where no line is left
+    -- a run that ends with no line left
     pub ends_last : (start left rest : Option (List ℕ)) (held line : List ℕ) → ReadsLine End n left m (prepend_known held rest) line
         → ((input : List ℕ) → ReadWhole input rest → R (executed_lines input) [] → Q input) → OfInput start n left R → IfSome start Q
     ends_last None left rest held line reads end t = tt

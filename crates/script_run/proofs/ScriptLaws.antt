@@ -1,4 +1,4 @@
--- Scripts, one part after the other.
+-- Scripts in parts, in order.
 use Rattle.std.proofs.Common.{◌≡◌, ℕ, suc, ◌+◌, Bool, ◌||◌, false, true, List, [], ◌∷◌, ◌++◌, length, refl, sym, ap, ◌∙◌, append_assoc, arith}
 use Rattle.ts_sessions.specs.Script.{Semantics, ScriptState, executes, output, is_refused, reads_in, final_script_state}
 
@@ -42,7 +42,7 @@ module _ {P : Type 0} (semantics : Semantics P) where
       ap (λ b. fault || b) (refused-append t (suc n) xs ys ∙ ap (λ k. is_refused semantics t (suc n) xs || is_refused semantics (final_script_state semantics t (suc n) xs) k ys) (counts_on n (length xs)))
       ∙ or_join fault (is_refused semantics t (suc n) xs) (is_refused semantics (final_script_state semantics t (suc n) xs) (n + suc (length xs)) ys)
 
-  -- the rows looked at by lines and by further lines
+  -- the rows read by lines and by further lines
   pub reads-append : (s : ScriptState P) (n : ℕ) (xs ys : List (List ℕ)) → reads_in semantics s n (xs ++ ys) ≡ reads_in semantics s n xs + reads_in semantics (final_script_state semantics s n xs) (n + length xs) ys
   reads-append s n [] ys = ap (λ k. reads_in semantics s k ys) (let e : n ≡ n + 0 = omega arith in e) ∙ none_plus (reads_in semantics s (n + 0) ys)
   reads-append s n (x ∷ xs) ys =

@@ -1,4 +1,4 @@
--- The sessions that contracts see, and the map that it is kept in.
+-- The sessions that contracts see, and the map that stores them.
 use Rattle.std.proofs.Common.{◌≡◌, ℕ, zero, suc, ◌+◌, ◌≤◌, Bool, true, false, cond, List, [], ◌∷◌, length, slice_get, position, Some, None, Result, Ok, OnOk, refl, sym, ap, ◌∙◌, subst, true≢false, unwrap_or, is_some, nat_eq, arith, if◌then◌else◌}
 use Rattle.std.proofs.lemmas.Cmp.{nat_list_eq_equiv}
 use Rattle.std.specs.Cmp.Lexicographic.{pointwise, same_text}
@@ -28,7 +28,7 @@ some_none e = true≢false (ap is_some e)
 either_way : (name : List ℕ) (key : Vec ℕ) → same_name key.items name ≡ is_key name key
 either_way name key = nat_list_eq_equiv.symm key.items name
 
--- the names are as many as the entries
+-- there are as many names as entries
 pub length-sessions : {A P : Type 0} (places : A → P) (entries : List (Vec ℕ × A)) → length (sessions_of places entries) ≡ length entries
 length-sessions places [] = refl
 length-sessions places (e ∷ entries) = ap suc (length-sessions places entries)
@@ -36,7 +36,7 @@ length-sessions places (e ∷ entries) = ap suc (length-sessions places entries)
 -- ---- look-ups
 
 module _ {A P : Type 0} (places : A → P) (name : List ℕ) where
-  -- the places of a name are those of the one that the look-up finds
+  -- the state under a name is that of the session that the look-up finds
   pub places_found : (entries : List (Vec ℕ × A)) → places_of name (sessions_of places entries) ≡ option_map places (lookup (is_key name) entries)
   places_found [] = refl
   places_found (e ∷ entries) = by (is_key name e.0) refl (places_found entries)
@@ -77,28 +77,28 @@ module _ {A : Type 0} (name : List ℕ) (entries : List (Vec ℕ × A)) (i : ℕ
       let found = Found-position (is_key name) entries i place in
       same_text name e.0.items (sym (found_passes (is_key name) entries e.0 (found.key ∙ slice_keys entries i e at)))
 
-  -- and its places are those of the name
+  -- its state is the one under the name
   pub places_at : {P : Type 0} (places : A → P) → position (is_key name) (keys_of entries) ≡ Some i → slice_get entries i ≡ Some e → places_of name (sessions_of places entries) ≡ Some (places e.1)
   places_at places place at =
       let found = Found-position (is_key name) entries i place in
       places_found places name entries ∙ ap (option_map places) (found.value ∙ slice_values entries i e at)
 
--- a name that isn't found has no places
+-- a name that isn't found has no state
 pub no_places_found : {A P : Type 0} (places : A → P) (name : List ℕ) (entries : List (Vec ℕ × A)) → is_some (lookup (is_key name) entries) ≡ false → places_of name (sessions_of places entries) ≡ None
 no_places_found places name entries missing = places_found places name entries ∙ ap (option_map places) (none_there (lookup (is_key name) entries) missing)
 
--- what is so where a call was well is so
+-- what is true if a call succeeded is true
 pub at_ok : {X E : Type 0} (r : Result X E) (x : X) (P : Type 0) → r ≡ Ok x → OnOk r P → P
 at_ok r x P e p = subst (λ r. OnOk r P) e p
 
 -- ---- changes
 
 module _ {A P : Type 0} (places : A → P) (name : List ℕ) (key : Vec ℕ) (own : key.items ≡ name) (actor : A) where
-  -- the entries with one more, or with another in the place of the one that has this name
+  -- the entries with one more, or with another instead of the one that has this name
   abbrev put : List (Vec ℕ × A) → List (Vec ℕ × A)
   put entries = insert_entry (λ k. is_key name) entries key actor
 
-  -- the one with this name is there now as it is
+  -- the session with this name now has this state
   put_by : (entries : List (Vec ℕ × A)) → sessions_of places (put entries) ≡ with_places name (places actor) (sessions_of places entries)
   put_by [] = ap (λ n. (n, places actor) ∷ []) own
   put_by (e ∷ entries) = by (is_key name e.0) refl (put_by entries)
@@ -120,7 +120,7 @@ put_same : {A : Type 0} (entries : List (Vec ℕ × A)) (key : Vec ℕ) (actor :
 put_same [] key actor = refl
 put_same (e ∷ entries) key actor = ap (λ l. if is_key key.items e.0 then (e.0, actor) ∷ entries else e ∷ l) (put_same entries key actor)
 
--- an insert under a key puts it at the key's name
+-- an insert under a key sets the session with the key's name
 pub put_sessions : {A P : Type 0} (places : A → P) (entries : List (Vec ℕ × A)) (key : Vec ℕ) (actor : A)
     → sessions_of places (insert_entry (λ a b. pointwise nat_eq a.items b.items) entries key actor) ≡ with_places key.items (places actor) (sessions_of places entries)
 put_sessions places entries key actor = ap (sessions_of places) (put_same entries key actor) ∙ put_by places key.items key refl actor entries
@@ -132,7 +132,7 @@ pub put_kept : {A P : Type 0} (places : A → P) (name : List ℕ) (before kept 
 put_kept places name before kept after key actor same own put =
     ap (sessions_of places) put ∙ put_sessions places kept key actor ∙ (λ i. with_places (own i) (places actor) (sessions_of places (same i)))
 
--- so does a write at the place where a name is found
+-- a write at the index of a name sets the session, too
 pub set_sessions : {A P : Type 0} (places : A → P) (name : List ℕ) (entries : List (Vec ℕ × A)) (i : ℕ) (e : Vec ℕ × A) (actor : A)
     → position (is_key name) (keys_of entries) ≡ Some i → slice_get entries i ≡ Some e
     → sessions_of places (set_value_at entries i actor) ≡ with_places name (places actor) (sessions_of places entries)
@@ -143,7 +143,7 @@ set_sessions places name entries i e actor place at =
 
 -- ---- what each session knows and holds
 
--- a name that is not among sessions is not that of the first, nor in the others
+-- a name that isn't among sessions isn't that of the first, nor among the others
 record Elsewhere {A P : Type 0} (places : A → P) (name : List ℕ) (entry : Vec ℕ × A) (entries : List (Vec ℕ × A)) : Type 0 where
   other : is_key name entry.0 ≡ false
   missing : places_of name (sessions_of places entries) ≡ None
@@ -159,7 +159,7 @@ module _ {A T J : Type 0} (actors : Actor A T J) where
   from_there : (s : State) (n m : ℕ) (e : Vec ℕ × A) → n ≡ m → IsMember actors s n e → IsMember actors s m e
   from_there s n m e same known = subst (λ k. IsMember actors s k e) same known
 
-  -- one at a place
+  -- a session at an index
   pub sessions_at : (s : State) (n : ℕ) (entries : List (Vec ℕ × A)) (i : ℕ) (e : Vec ℕ × A) → AreSessionsFrom actors s n entries → slice_get entries i ≡ Some e → IsMember actors s (n + i) e
   sessions_at s n [] i e c at = absurd (some_none (sym at))
   sessions_at s n (x ∷ xs) zero e c at = from_there s n (n + 0) e (omega arith) (subst (λ e. IsMember actors s n e) (some_same at) c.0)
@@ -169,12 +169,12 @@ module _ {A T J : Type 0} (actors : Actor A T J) where
     member_on : (n : ℕ) (e : Vec ℕ × A) → IsMember actors g n e → IsMember actors h n e
     member_on n e m = record { name = m.name; number_known = m.number_known; holds_well = on e.1 g h went m.holds_well }
 
-    -- as the store continues
+    -- the sessions fit the store as it continues
     pub sessions_on : (n : ℕ) (entries : List (Vec ℕ × A)) → AreSessionsFrom actors g n entries → AreSessionsFrom actors h n entries
     sessions_on n [] c = tt
     sessions_on n (x ∷ xs) c = (member_on n x c.0, sessions_on (suc n) xs c.1)
 
-    -- and as one of them has a line
+    -- the sessions fit after a line of one of them
     pub sessions_set : (n : ℕ) (entries : List (Vec ℕ × A)) (i : ℕ) (e : Vec ℕ × A) (actor : A) → AreSessionsFrom actors g n entries → slice_get entries i ≡ Some e
         → actors.named actor ≡ actors.named e.1 → actors.numbered actor ≡ actors.numbered e.1 → actors.holds actor h → AreSessionsFrom actors h n (set_value_at entries i actor)
     sessions_set n [] i e actor c at own number has = tt
@@ -189,7 +189,7 @@ module _ {A T J : Type 0} (actors : Actor A T J) where
         )
     sessions_set n (x ∷ xs) (suc i) e actor c at own number has = (member_on n x c.0, sessions_set (suc n) xs i e actor c.1 at own number has)
 
-    -- and as a new one comes
+    -- the sessions fit after a new one
     pub sessions_put : {P : Type 0} (places : A → P) (n : ℕ) (entries : List (Vec ℕ × A)) (key : Vec ℕ) (actor : A) → AreSessionsFrom actors g n entries → places_of key.items (sessions_of places entries) ≡ None
         → actors.named actor ≡ key.items → actors.numbered actor ≡ n + length entries → actors.holds actor h → AreSessionsFrom actors h n (insert_entry (λ k. is_key key.items) entries key actor)
     sessions_put places n [] key actor c none own number has = (record { name = own; number_known = number ∙ (let e : n + 0 ≡ n = omega arith in e); holds_well = has }, tt)
@@ -209,23 +209,23 @@ module _ {A T J : Type 0} (actors : Actor A T J) where
         subst (λ l. AreSessions actors h l) (sym (new ∙ put_same kept key actor))
         (sessions_put places 0 kept key actor c_kept none_kept (known ∙ sym own) number_kept has)
 
--- ---- what waits
+-- ---- queues
 
 module _ {A : Type 0} (waiting : A → ℕ) where
-  -- one has no more waiting than all
+  -- the queue of one session has at most the bytes of all queues
   pub waiting_at : (entries : List (Vec ℕ × A)) (i : ℕ) (e : Vec ℕ × A) → slice_get entries i ≡ Some e → waiting e.1 ≤ waiting_in waiting entries
   waiting_at [] i e at = absurd (some_none (sym at))
   waiting_at (x ∷ xs) zero e at = let first : waiting x.1 ≡ waiting e.1 = ap (λ p. waiting p.1) (some_same at) in omega arith
   waiting_at (x ∷ xs) (suc i) e at = let rest = waiting_at xs i e at in omega arith
 
-  -- where one has more waiting, all have
+  -- if the queue of one session grows, all queues grow as much
   pub waiting_set : (entries : List (Vec ℕ × A)) (i : ℕ) (e : Vec ℕ × A) (actor : A) (more : ℕ) → slice_get entries i ≡ Some e → waiting actor ≤ waiting e.1 + more
       → waiting_in waiting (set_value_at entries i actor) ≤ waiting_in waiting entries + more
   waiting_set [] i e actor more at few = absurd (some_none (sym at))
   waiting_set (x ∷ xs) zero e actor more at few = let first : waiting x.1 ≡ waiting e.1 = ap (λ p. waiting p.1) (some_same at) in omega arith
   waiting_set (x ∷ xs) (suc i) e actor more at few = let rest = waiting_set xs i e actor more at few in omega arith
 
-  -- a new one adds what it has
+  -- a new session adds its queue
   waiting_put : (entries : List (Vec ℕ × A)) (key : Vec ℕ) (actor : A) → waiting_in waiting (insert_entry (λ a b. pointwise nat_eq a.items b.items) entries key actor) ≤ waiting_in waiting entries + waiting actor
   waiting_put [] key actor = omega arith
   waiting_put (x ∷ xs) key actor = by (pointwise nat_eq key.items x.0.items) (waiting_put xs key actor)

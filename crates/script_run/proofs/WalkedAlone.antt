@@ -1,4 +1,4 @@
--- How a procedure runs on a store that is alone and hasn't stopped.
+-- How a procedure runs on a store that nobody else uses and that hasn't stopped.
 use Rattle.std.proofs.Common.{◌≡◌, Bool, true, false, None, sym, refl, ap, ◌∙◌, subst, inl, inr}
 use Rattle.std.specs.Prelude.{IsTrue, is_some, ◌⊎◌}
 use Rattle.std.proofs.lemmas.Bool.{true≢false}
@@ -11,7 +11,7 @@ use Rattle.ts_sessions.specs.Procedures.{Procedure, sees, adds, ends}
 use Rattle.ts_sessions.specs.Walks.{Walks, Breaks, Sees, history_after, end_of_walk}
 use Rattle.script_run.specs.RunStates.{WentOn, IsBetween, FailedBetween}
 
--- ---- how a store that is alone is left
+-- ---- how a store that nobody else uses is left
 
 pub went_trans : (failed : Bool) (a b c : State) → WentOn false a b → WentOn failed b c → WentOn failed a c
 went_trans failed a b c f g = record {
@@ -33,7 +33,7 @@ went_failed e a b f = record { still = ap is_some f.failed; faults = f.faults; o
 goes : {X : Type 0} {b : Bool} → b ≡ false → IsTrue b → X
 goes going still = absurd (true≢false (sym still ∙ going))
 
--- a look finds it as it was
+-- a read finds it as it was
 seen_alone : (old found : State) → Sees true old found → found ≡ old
 seen_alone old found (inl e) = e
 seen_alone old found (inr f) = f.alone_found refl
@@ -62,13 +62,13 @@ still_breaks old (ends a) new s b = b
 
 -- ---- what a procedure leaves
 
--- it begins with what it found
+-- the history after a procedure begins with the history before it
 pub begins_after : {A : Type 0} (procedure : Procedure A) (h : History) → Begins h (history_after procedure h)
 begins_after (sees shown f) h = begins_after (f h) h
 begins_after (adds e next stop) h = begins_trans (further same) (begins_after next (h ▸ e))
 begins_after (ends a) h = same
 
--- a procedure came to its end
+-- a procedure ended
 pub record WalkedWhole {A : Type 0} (procedure : Procedure A) (old new : State) (y : A) : Type 0 where
   pub history : new.history ≡ history_after procedure old.history
   pub end : y ≡ end_of_walk procedure old.history
@@ -79,13 +79,13 @@ pub record WalkedFailed {A : Type 0} (procedure : Procedure A) (old new : State)
   pub failed : FailedBetween old.history (history_after procedure old.history) new
   pub went : WentOn true old new
 
--- it was broken off
+-- it broke off
 pub record WalkedBroken {A : Type 0} (procedure : Procedure A) (old new : State) : Type 0 where
   pub between : IsBetween old.history (history_after procedure old.history) new
   pub went : WentOn false old new
 
 module _ {A : Type 0} (e : Event) (next stop : Procedure A) (old mid new : State) where
-  -- an event was made, and the rest went on from there
+  -- an event was appended, and the rest continued from there
   made_whole : (y : A) → Makes e old mid → WalkedWhole next mid new y → WalkedWhole (adds e next stop) old new y
   made_whole y m w = record {
     history = w.history ∙ ap (history_after next) m.history;
@@ -113,7 +113,7 @@ module _ {A : Type 0} (e : Event) (next stop : Procedure A) (old mid new : State
     went = went_trans false old mid new (went_made e old mid m) w.went;
   }
 
-  -- the disk failed at the event, and the store was left as it had stopped
+  -- the disk failed at the event, and the store stayed as it had stopped
   failed_here : Fails e old mid → new ≡ mid → WalkedFailed (adds e next stop) old new
   failed_here f left =
       let there : new.history ≡ old.history = ap (λ s. s.history) left ∙ f.history in
@@ -130,7 +130,7 @@ module _ {A : Type 0} (e : Event) (next stop : Procedure A) (old mid new : State
   failed_still : Fails e old mid → IsTrue (stands_still mid)
   failed_still f = ap is_some f.failed
 
--- it wasn't begun, or came to nothing
+-- it wasn't begun, or did nothing
 not_gone : {A : Type 0} (old : State) (procedure : Procedure A) (new : State) → stands_still old ≡ false → new ≡ old → WalkedBroken procedure old new
 not_gone old procedure new going e = record {
   between = record {

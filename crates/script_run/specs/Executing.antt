@@ -12,8 +12,8 @@ use Rattle.ts_sessions.specs.Sessions.{IfAnswered}
 use Rattle.script_run.specs.LineEnds.{LineExecuted}
 use Rattle.script_run.specs.Sessions.{AreSessions, script_over, waiting_in}
 
--- sessions can execute a line of so many bytes: their store is alone and hasn't stopped, and there is room in their
--- queues. So many rows were read before
+-- sessions can execute a line of this many bytes. Nobody else uses their store, which hasn't stopped. Their queues can
+-- hold the operations, and this many rows were read before
 pub record AreReady {A T J : Type 0} (actors : Actor A T J) (alone : Bool) (s : State) (entries : List (Vec ℕ × A))
     (bytes read : ℕ) : Type 0 where
   pub by_itself : IsTrue alone
@@ -23,8 +23,8 @@ pub record AreReady {A T J : Type 0} (actors : Actor A T J) (alone : Bool) (s : 
   pub sessions : AreSessions actors s entries
   pub room : waiting_in actors.waiting entries + bytes ≤ most_queued
 
--- they took it: the line came to what it should come to, they go with what their store has seen, and no more waits than
--- the bytes of the line
+-- the sessions executed the line, which had its outcome. What they hold fits the state of their store, and the texts of
+-- their queues grew by at most the bytes of the line
 pub record HaveTaken {A T J B U K : Type 0} (actors : Actor A T J) (backend : Backend B U K) (old : B)
     (entries : List (Vec ℕ × A)) (bytes : ℕ) (line_result : LineResult actors.Places) (end : StepEnd) (new : B)
     (entries_then : List (Vec ℕ × A)) (before after : ℕ) : Type 0 where

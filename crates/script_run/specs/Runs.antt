@@ -1,4 +1,4 @@
--- How a run ends, and what it has then done.
+-- How a run ends, and what it has done by then.
 use Rattle.std.specs.Prelude.{◌≡◌, ℕ, suc, ◌<◌, ◌≤◌, Bool, true, false, List, [], ◌∷◌, ◌++◌, Option, length, take}
 use Rattle.std.specs.Io.KnownBytes.{Appends, IsAtEnd}
 use Rattle.ts_schema.specs.Counts.{raised_by}
@@ -17,32 +17,32 @@ executed_lines input = lines_within INPUT_LIMIT input
 
 -- ---- a script over a history, whose lines count from 1
 
--- the script state that it leads to
+-- the state of the script after its lines
 abbrev pub script_state_after : {P : Type 0} → Semantics P → History → List (List ℕ) → ScriptState P
 script_state_after semantics h lines = final_script_state semantics (opening_script_state h) 1 lines
 
--- the history then
+-- the history after its lines
 abbrev pub history_of : {P : Type 0} → Semantics P → History → List (List ℕ) → History
 history_of semantics h lines = (script_state_after semantics h lines).history
 
--- its text
+-- the text of its replies
 abbrev pub output_of : {P : Type 0} → Semantics P → History → List (List ℕ) → List ℕ
 output_of semantics h lines = output semantics (opening_script_state h) 1 lines
 
--- a reply is a FAULT
+-- whether one of its replies is a FAULT
 abbrev pub has_fault : {P : Type 0} → Semantics P → History → List (List ℕ) → Bool
 has_fault semantics h lines = is_refused semantics (opening_script_state h) 1 lines
 
--- how many stored rows it looks at
+-- how many stored rows it reads
 abbrev pub reads_of : {P : Type 0} → Semantics P → History → List (List ℕ) → ℕ
 reads_of semantics h lines = reads_in semantics (opening_script_state h) 1 lines
 
--- the result of a line that follows these
+-- the result of a line after these lines
 abbrev pub result_after : {P : Type 0} → Semantics P → History → List (List ℕ) → List ℕ → LineResult P
 result_after semantics h lines line =
     executes semantics (script_state_after semantics h lines) (suc (length lines)) line
 
--- ---- what a run left
+-- ---- what a run leaves
 
 -- the state of the store, the bytes written before and after, and the count of rows read before and after
 pub record Left : Type 0 where
@@ -57,14 +57,14 @@ pub record ReadWhole (input : List ℕ) (rest : Option (List ℕ)) : Type 0 wher
   pub within : length input ≤ INPUT_LIMIT
   pub at_end : IsAtEnd rest
 
--- the lines were executed to the last, and their replies written
+-- all lines were executed, and their replies written
 pub record Executed {P : Type 0} (semantics : Semantics P) (h : History) (lines : List (List ℕ))
     (left : Left) : Type 0 where
   pub history : left.store.history ≡ history_of semantics h lines
   pub wrote : Appends left.written_before left.written (output_of semantics h lines)
   pub counted : left.read ≡ raised_by (reads_of semantics h lines) left.read_before
 
--- some first lines were executed, and their replies written, and nothing was done of the others
+-- some first lines were executed and their replies written, and the others not executed
 pub record StoppedBefore {P : Type 0} (semantics : Semantics P) (h : History) (lines : List (List ℕ))
     (left : Left) : Type 0 where
   pub done : List (List ℕ)
@@ -72,7 +72,7 @@ pub record StoppedBefore {P : Type 0} (semantics : Semantics P) (h : History) (l
   pub split : lines ≡ done ++ rest
   pub executed_first : Executed semantics h done left
 
--- the replies to some first lines were written, and the next line was executed, of whose reply a part was written
+-- the replies to some first lines were written, and the next line was executed, with a part of its reply written
 pub record StoppedWriting {P : Type 0} (semantics : Semantics P) (h : History) (lines : List (List ℕ))
     (left : Left) : Type 0 where
   pub done : List (List ℕ)
@@ -86,7 +86,8 @@ pub record StoppedWriting {P : Type 0} (semantics : Semantics P) (h : History) (
   pub history : left.store.history ≡ history_of semantics h (done ++ line ∷ [])
   pub counted : left.read ≡ raised_by (reads_of semantics h (done ++ line ∷ [])) left.read_before
 
--- the replies to some first lines were written, and nothing of the next one's, at an event of which the disk failed
+-- the replies to some first lines were written. The disk failed at an event of the next one, and nothing of its reply
+-- was written
 pub record StoppedAtEvent {P : Type 0} (semantics : Semantics P) (h : History) (lines : List (List ℕ))
     (left : Left) : Type 0 where
   pub done : List (List ℕ)
@@ -97,7 +98,7 @@ pub record StoppedAtEvent {P : Type 0} (semantics : Semantics P) (h : History) (
   pub failed : FailedBetween (history_of semantics h done) (history_of semantics h (done ++ line ∷ [])) left.store
   pub counted : raised_by (reads_of semantics h done) left.read_before ≤ left.read
 
--- the replies to some first lines were written, and nothing of the next one's, of which the first events may stand
+-- the replies to some first lines were written, and nothing of the next one's, whose first events may exist
 pub record StoppedWithin {P : Type 0} (semantics : Semantics P) (h : History) (lines : List (List ℕ))
     (left : Left) : Type 0 where
   pub done : List (List ℕ)
@@ -107,7 +108,7 @@ pub record StoppedWithin {P : Type 0} (semantics : Semantics P) (h : History) (l
   pub between : IsBetween (history_of semantics h done) (history_of semantics h (done ++ take 1 rest)) left.store
   pub counted : raised_by (reads_of semantics h done) left.read_before ≤ left.read
 
--- what a run that ended so over a history has read of an input, executed of its lines, and written of their replies
+-- what a run with this end has read of an input, executed of its lines, and written of their replies
 abbrev pub Ran : {P : Type 0} → RunEnd → Semantics P → History → List ℕ → Option (List ℕ) → Left → Type 0
 Ran Done semantics h input rest left =
     ReadWhole input rest × Executed semantics h (executed_lines input) left

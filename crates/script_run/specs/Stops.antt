@@ -1,4 +1,4 @@
--- Why a script stops at a line, and what is then done of it.
+-- Why a script stops at a line, and what it has done of the line.
 use Rattle.std.specs.Prelude.{◌≡◌, ℕ, ◌≤◌, Bool, true, false, List, Option, Result, Ok, Err}
 use Rattle.ts_io.specs.Whole.{AppendsPart}
 use Rattle.ts_schema.specs.Counts.{raised_by}
@@ -11,7 +11,7 @@ use Rattle.script_run.specs.declared.scripts.ScriptStop.{ScriptStop}
 use Rattle.script_run.specs.declared.scripts.ScriptStop.TheVariants.{WriteFault, DiskFault, NoMemory}
 use Rattle.script_run.specs.RunStates.{IsBetween, FailedBetween}
 
--- the reply to a line that ended so, or why there is none, by whether the store then has stopped
+-- the reply to a line that ended like this, or why it has none. The flag says whether the store then has stopped
 abbrev pub reply_or_stop : Bool → StepEnd → Result ReplyMade ScriptStop
 reply_or_stop still (steps.Reply r) = Ok r
 reply_or_stop still (steps.DiskFault r) = Err DiskFault
@@ -32,14 +32,14 @@ pub record EventFailed {P : Type 0} (line_result : LineResult P) (old new : Stat
   pub wrote : written ≡ written_before
   pub counted : before ≤ after
 
--- there was no memory for a line, and nothing of its reply was written
+-- a line ran out of memory, and nothing of its reply was written
 pub record LineGivenUp {P : Type 0} (line_result : LineResult P) (old new : State)
     (written_before written : Option (List ℕ)) (before after : ℕ) : Type 0 where
   pub between : IsBetween old.history line_result.script_state.history new
   pub wrote : written ≡ written_before
   pub counted : before ≤ after
 
--- what is done of a line that should come to this where the script stops at it
+-- what a script has done of a line with this outcome, if it stops at the line
 abbrev pub LineCut :
     {P : Type 0} → ScriptStop → LineResult P → State → State → ScriptState P → Option (List ℕ) → Option (List ℕ) → ℕ → ℕ
     → Type 0
@@ -50,7 +50,7 @@ LineCut DiskFault line_result old new script_state written_before written before
 LineCut NoMemory line_result old new script_state written_before written before after =
     LineGivenUp line_result old new written_before written before after
 
--- what is written of the refusal of a line where the script stops at it
+-- what a script has written of the refusal of a line, if it stops at the line
 abbrev pub RefusalCut : ScriptStop → Option (List ℕ) → Option (List ℕ) → List ℕ → Type 0
 RefusalCut WriteFault old new text = AppendsPart old new text
 RefusalCut DiskFault old new text = ⊥
@@ -68,7 +68,7 @@ abbrev pub is_disk_stop : ScriptStop → Bool
 is_disk_stop DiskFault = true
 is_disk_stop other = false
 
--- the test of why a script stopped, where it did
+-- whether a script stopped for this kind of reason
 abbrev pub stops_by : {A : Type 0} → (ScriptStop → Bool) → Result A ScriptStop → Bool
 stops_by test (Ok a) = false
 stops_by test (Err stop) = test stop

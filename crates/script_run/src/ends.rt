@@ -1,7 +1,7 @@
 //! How a run ends.
 
-/// How a run ends. If that is before the end of the input, the lines before some line were executed and their
-/// replies written, and the lines after it were not executed.
+/// How a run ends. If that is before the end of the input, the lines before some line were executed and their replies
+/// written. The lines after it were not executed.
 #[derive(Clone, Copy, Debug, PartialEq, Eq)]
 pub enum RunEnd {
     /// The input was executed to its end, and no reply is a FAULT.
@@ -13,10 +13,10 @@ pub enum RunEnd {
     /// A write failed, and the sink's count of faults rose. The line was executed, and a part of its reply was
     /// written.
     WriteFault,
-    /// The disk failed at an event of a line, and the store's count of faults rose. No part of that line's reply
-    /// is written.
+    /// The disk failed at an event of a line, and the store's count of faults rose. The run wrote no part of that
+    /// line's reply.
     DiskFault,
-    /// Memory ran out. No part of the line's reply is written; its first events may be in the journal.
+    /// Out of memory. The run wrote no part of the line's reply; its first events may be in the journal.
     NoMemory,
     /// The source gave a byte beyond the limit of the input. The lines that end within it were executed.
     InputLong,

@@ -1,5 +1,5 @@
-//! The loop over the lines of a script: it reads a line, lets its session take its turn, and writes the
-//! reply before it reads on.
+//! The loop over the lines of a script: it reads a line, executes it in its session, and writes the reply before it
+//! reads the next line.
 //!
 //! - `runs`: the loop.
 //! - `ends`: how a run ends.

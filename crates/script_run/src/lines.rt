@@ -81,7 +81,7 @@ where
     execute_in_session(rt, alloc, backend, sessions, name, text, skip, steps)
 }
 
-/// The bytes of a line from a place on, up to a length.
+/// The bytes of a line from `from` on, up to a length.
 fn name_at(line: &[u8], from: usize, len: usize) -> &[u8]
     requires { from + len ≤ length line.now }
     ensures { result.now ≡ take len (drop from line.now) }

@@ -10,7 +10,7 @@ use std::alloc::Global;
 use ts_schema::{Name, NoMemory, Seq};
 use ts_sessions::{Reply, StepEnd, bare};
 
-/// Ends a line with this reply, or with out of memory.
+/// Ends a line with this reply, or out of memory.
 pub(crate) fn step_end_of(reply: Result<Reply, NoMemory>) -> StepEnd
     ensures { result ≡ ends_with reply }
 {
@@ -49,7 +49,7 @@ pub(crate) fn refuse_session(alloc: Global, session: &Name, code: u8) -> Result<
     Ok(fault(alloc, text))
 }
 
-/// A reply with this text, which is a FAULT.
+/// A FAULT with this text.
 fn fault(alloc: Global, text: Vec<u8>) -> Reply
     ensures { RepliesWith text.items true result }
 {

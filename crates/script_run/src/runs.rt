@@ -15,8 +15,9 @@ use ts_model::Backend;
 use ts_schema::{NoMemory, Steps};
 use ts_sessions::Actor;
 
-/// Runs the lines of a source in order on a store that is alone and hasn't stopped. Each line is read, executed by
-/// its session, and answered before the next one is read. `A::begin` creates sessions as they appear.
+/// Runs the lines of a source in order on a store that nobody else uses and that hasn't stopped. It reads each line,
+/// executes it in its session, and writes the reply before it reads the next one. `A::begin` creates sessions as they
+/// appear.
 pub fn run<A, R, B, S, K, L>(
     rt: &R,
     alloc: Global,
@@ -73,7 +74,7 @@ where
     }
 }
 
-/// How a run ends that stopped at a line.
+/// How a run that stopped at a line ends.
 fn run_end_of_stop(stop: ScriptStop) -> RunEnd
     ensures { result ≡ end_of_stop stop }
 {
@@ -84,7 +85,7 @@ fn run_end_of_stop(stop: ScriptStop) -> RunEnd
     }
 }
 
-/// How a run ends whose input was executed to its end.
+/// How a run that executed its whole input ends.
 fn run_end_of_input(refused: bool) -> RunEnd
     ensures { result ≡ end_of_input refused }
 {

@@ -33,7 +33,7 @@ pub(crate) enum ScriptStop {
     WriteFault,
     /// The disk failed at an event of the line, and the store's count of faults rose.
     DiskFault,
-    /// Memory ran out.
+    /// Out of memory.
     NoMemory,
 }
 
@@ -153,8 +153,8 @@ impl<A> Script<A> {
     }
 }
 
-/// The reply to a line that ended so, or why there is none. If the disk failed and then memory ran out, the disk
-/// fault is reported.
+/// The reply to a line that ended like this, or why it has none. If the disk failed and then memory ran out, it returns
+/// the disk fault.
 fn reply_of<B: Backend>(end: StepEnd, backend: &B) -> Result<Reply, ScriptStop>
     ensures { result ≡ reply_or_stop (stands_still (B.state backend.now)) end }
 {

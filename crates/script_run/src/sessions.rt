@@ -22,7 +22,7 @@ use ts_sessions::{Actor, StepEnd};
 /// The sessions that have appeared, by their names, in order of appearance.
 pub(crate) type Sessions<A> = IndexMap<Vec<u8>, A>;
 
-/// Executes a line in the session with a name, which has appeared before or is new.
+/// Executes a line in the session `name`, which has appeared before or is new.
 pub(crate) fn execute_in_session<A, R, B, L>(
     rt: &R,
     alloc: Global,
@@ -55,7 +55,7 @@ where
     }
 }
 
-/// Executes the first line of a session that hasn't appeared before, if there is room for it.
+/// Executes the first line of a session that hasn't appeared before, unless there are too many sessions.
 fn find_or_begin<A, R, B, L>(
     rt: &R,
     alloc: Global,
@@ -128,8 +128,7 @@ where
     end
 }
 
-/// Executes a line in a session. Lines are executed in order, so there is no worker hook that could hold a
-/// session.
+/// Executes a line in a session. Lines are executed in order, so there is no worker hook to stop a session.
 fn take_turn<A, R, B, L>(
     rt: &R,
     alloc: Global,
@@ -161,7 +160,7 @@ where
     end
 }
 
-/// Makes room for one more session. Returns its key.
+/// Allocates memory for one more session. Returns its key.
 fn make_room<A: Drop>(
     alloc: Global,
     sessions: &mut Sessions<A>,

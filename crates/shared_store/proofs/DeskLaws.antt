@@ -30,12 +30,12 @@ use Rattle.shared_store.specs.declared.turns.TurnEnd.{TurnEnd}
 use Rattle.shared_store.proofs.AfterLaws.{followed_after, end_after, prefix_after}
 use Rattle.shared_store.proofs.GoesOnLaws.{is_there, one_after, called_still, looked_still}
 
--- ---- a state whose made numbers are those of a pass
+-- ---- a state with the positions that a pass added
 
 abbrev labelled : List ℕ → State → State
 labelled m s = record s { made = m }
 
--- the state after a call, seen by a pass that had made m before it
+-- the state after a call, as a pass with the positions m before it sees it
 record Relabels (m : List ℕ) (s t new : State) : Type 0 where
   history : new.history ≡ t.history
   failed : new.failed ≡ t.failed
@@ -87,7 +87,7 @@ module _ {m : List ℕ} {s t new : State} (r : Relabels m s t new) where
   answered_labelled (makes e a) DiskFault w = fails_labelled w
   answered_labelled (makes e a) NoMemory w = keeps_labelled w
 
--- ---- what a store handle knows of the store's stop
+-- ---- what a store handle knows about the stop of its store
 
 there_is : {A : Type 0} (o : Option A) → IsTrue (is_some o) → (x : A) × (o ≡ Some x)
 there_is None e = absurd (true≢false (sym e))

@@ -1,4 +1,4 @@
--- How each call continues the state of an alone backend.
+-- How each call continues the state of a backend that nobody else uses.
 use Rattle.std.proofs.Common.{◌≡◌, ℕ, suc, ◌+◌, ◌≤◌, Bool, [], ◌∷◌, ◌++◌, Some, None, sym, refl, ap, ◌∙◌, subst, arith, append_assoc, append-nil}
 use Rattle.std.specs.Prelude.{IsTrue, is_some, Option}
 use Rattle.std.proofs.lemmas.Bool.{true≢false}
@@ -14,18 +14,18 @@ use Rattle.turn_lock.specs.Positions.{positions_between}
 use Rattle.turn_lock.proofs.Numbers.{positions_meet, positions_none, positions_one}
 use Rattle.shared_store.specs.Wrapped.{Wrapped, GoesOn, IsKept}
 
--- what is there is not none
+-- something isn't none
 pub is_there : {A : Type 0} {o : Option A} {x : A} → o ≡ Some x → o ≡ None → ⊥
 is_there some none = true≢false (ap is_some (sym some ∙ none))
 
 pub not_there : {A : Type 0} {o : Option A} → IsTrue (is_some o) → o ≡ None → ⊥
 not_there some none = true≢false (sym some ∙ ap is_some none)
 
--- the position after q alone follows q
+-- only one position follows q up to q + 1
 pub one_after : (q : ℕ) → positions_between q (suc q) ≡ suc q ∷ []
 one_after q = let next : q + 1 ≡ suc q = omega arith in subst (λ r. positions_between q r ≡ r ∷ []) next (positions_one q)
 
--- and it is the last of those from before q
+-- that position is the last of those from before q
 one_later : (p q : ℕ) → p ≤ q → positions_between p q ++ (suc q ∷ []) ≡ positions_between p (suc q)
 one_later p q l = ap (λ ps. positions_between p q ++ ps) (sym (one_after q)) ∙ sym (positions_meet p q (suc q) l (omega arith))
 
@@ -89,7 +89,7 @@ answered_on (makes e a) (Refused q) g w = kept_on g w.2
 answered_on (makes e a) DiskFault g w = failed_on g w
 answered_on (makes e a) NoMemory g w = kept_on g w
 
--- if it had stopped before a call, it has stopped after it, by the same event
+-- if the backend had stopped before a call, it has stopped after it, by the same event
 answered_still : {A : Type 0} (act : Act A) (found : State) (outcome : Outcome A) (new : State) {e : Event} → Answered act found outcome new → found.failed ≡ Some e → (new.failed ≡ Some e) × (new.history ≡ found.history)
 answered_still (refuses r) found (Done a) new w is = absurd w
 answered_still (refuses r) found (Refused q) new w is = (w.1.failed ∙ is, w.1.history)

@@ -30,7 +30,7 @@ module _ {B : Type 0} (state : B → State) where
     pass_made = f.pass_made;
   }
 
-  -- the positions since the store was made are those after the backend's at the start
+  -- the positions since the store was created are those after the backend's position at the start
   pub made_since : (first last : Wrapped B) (made : List ℕ) → first.backend ≡ first.opened.value → last.opened ≡ first.opened → Begins (state last.opened.value).history (state last.backend).history → IsPermutation made (positions_between (end_of (position (state last.opened.value).history) (events_in state first)) (end_of (position (state last.opened.value).history) (events_in state last))) → IsPermutation made (positions_between (position (state first.opened.value).history) (position (state last.backend).history))
   made_since first last made fresh same q p =
       subst (λ n. IsPermutation made (positions_between n (position (state last.backend).history))) from
@@ -45,7 +45,7 @@ module _ {B : Type 0} (state : B → State) where
       from : end_of start (events_in state first) ≡ position (state first.opened.value).history
       from = ap (λ es. end_of start es) (none_yet first fresh) ∙ nothing ∙ ap (λ o. position (state o.value).history) same
 
-  -- and the same of the backend that comes out
+  -- the same for the backend that comes out
   pub made_out : (store : Shared B) (back : B) (first last : Wrapped B) (made : List ℕ) → first.opened ≡ store.opened → back ≡ last.backend → first.backend ≡ first.opened.value → last.opened ≡ first.opened → Begins (state last.opened.value).history (state last.backend).history → IsPermutation made (positions_between (end_of (position (state last.opened.value).history) (events_in state first)) (end_of (position (state last.opened.value).history) (events_in state last))) → IsPermutation made (positions_between (position (state store.opened.value).history) (position (state back).history))
   made_out store back first last made start out fresh same q p =
       subst (λ o. IsPermutation made (positions_between (position (state o.value).history) (position (state back).history))) start

@@ -6,7 +6,7 @@ use Rattle.turn_lock.specs.Pass.{shares_of, closed_of, made_of}
 use Rattle.shared_store.specs.Stores.{Ticket, Shared, IsPassOf, history_of}
 use Rattle.shared_store.specs.declared.turns.TurnEnd.{TurnEnd}
 
--- the value of a store handle in contracts: its store, its pass, and what its last call left, if it made one
+-- the value of a store handle in contracts: its store, its pass, and what its last call left, if it has had one
 pub record AtDesk (B : Type 0) : Type 0 where
   pub store : Shared B
   pub pass : Ticket B
@@ -20,7 +20,7 @@ pub record Place (B : Type 0) : Type 0 where
 abbrev pub place_of : {B : Type 0} → AtDesk B → Place B
 place_of desk = record { store = desk.store; shares = shares_of desk.pass }
 
--- a store handle that has made no call
+-- a store handle without a call yet
 abbrev pub fresh_desk : {B : Type 0} → Shared B → Ticket B → AtDesk B
 fresh_desk store pass = record { store = store; pass = pass; last = None }
 
@@ -30,12 +30,12 @@ module _ {B : Type 0} (state : B → State) where
   failed_at None = None
   failed_at (Some left) = (state left.backend.value).failed
 
-  -- the count that the last call left, and before the first that of the start
+  -- the count of faults that the last call left, or that of the start before the first call
   abbrev pub faults_at : ℕ → Option (TurnEnd B) → ℕ
   faults_at first None = first
   faults_at first (Some left) = (state left.backend.value).faults
 
-  -- the state of a store handle: what its pass has seen and made
+  -- the state of a store handle: what its pass has seen and appended
   abbrev pub desk_state : AtDesk B → State
   desk_state desk = record {
     history = history_of state desk.store desk.pass;

@@ -1,4 +1,4 @@
--- How a shared store is made.
+-- How a shared store is created.
 use Rattle.std.specs.Prelude.{◌≡◌, ℕ, None, []}
 use Rattle.turn_lock.specs.Pass.{shares_of, seen_of, closed_of, made_of}
 use Rattle.shared_store.specs.Stores.{Ticket, Shared, IsPassOf}
@@ -6,7 +6,7 @@ use Rattle.shared_store.specs.declared.making.MadeStore.{MadeStore}
 use Rattle.shared_store.specs.declared.making.MadeStore.TheVariants.{Made, NoMemory}
 
 module _ {B : Type 0} where
-  -- the first pass of a store over the backend: it has all shares, has seen what the backend holds, and has made
+  -- the first pass of a store over the backend: it has all shares, has seen what the backend holds, and has appended
   -- nothing
   pub record IsFirstPass (backend : B) (shares : ℕ) (store : Shared B) (pass : Ticket B) : Type 0 where
     pub of_store : IsPassOf store pass

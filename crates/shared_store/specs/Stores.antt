@@ -12,7 +12,8 @@ use Rattle.shared_store.specs.Wrapped.{Wrapped}
 abbrev pub Ticket : Type 0 → Type 0
 Ticket B = Carried (Wrapped B) (Snapshot B) Event
 
--- the value of a shared store in contracts: its lock, the backend that it was made with, and the number of shares
+-- the value of a shared store in contracts: its lock, and the backend and the number of shares with which it was
+-- created
 pub record Shared (B : Type 0) : Type 0 where
   pub lock : TableId
   pub opened : Snapshot B
@@ -23,7 +24,7 @@ module _ {B : Type 0} where
   abbrev pub shared_of : Guarded (Wrapped B) → Shared B
   shared_of lock = record { lock = lock.lock; opened = lock.opened.opened; shares = lock.shares }
 
-  -- the pass came from the store, and holds no turn
+  -- the pass came from the store, and has no turn
   pub record IsPassOf (store : Shared B) (pass : Ticket B) : Type 0 where
     pub lock : pass.lock ≡ store.lock
     pub base : base_of pass ≡ Some store.opened

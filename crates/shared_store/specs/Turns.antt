@@ -1,4 +1,4 @@
--- What a turn at the backend begins with, and what it leaves.
+-- How a turn at the backend begins, and what it leaves.
 use Rattle.std.specs.Prelude.{◌≡◌, Bool, ◌++◌, Some}
 use mathlib.Core.List.{IsPrefix}
 use Rattle.ts_model.specs.declared.events.Event.{Event}
@@ -36,7 +36,7 @@ module _ {B : Type 0} (state : B → State) (store : Shared B) where
         StaysClosed (found_closed_of pass) (found_of pass) (state held.value.backend).failed
         (events_in state held.value)
 
-  -- a turn ended: the pass has seen what was returned, and made what the turn added
+  -- a turn ended: the pass has seen what was returned, and added what the turn added
   pub record Ended (old new : Ticket B) (k : Wrapped B) : Type 0 where
     pub of_store : IsPassOf store new
     pub shares : shares_of new ≡ shares_of old

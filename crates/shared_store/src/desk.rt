@@ -12,9 +12,8 @@ use std::thread::Threads;
 use ts_model::{Backend, Committed, CutDone, Hyper, Op, Outcome, Shown, TableDef, ViewDef};
 use ts_schema::{NoMemory, Seq};
 
-/// A store handle for the holder of a pass. It is a store: each call except `position` and `stopped` takes
-/// the turn of its pass, for which it may wait. Those two report how the last call left the store, and
-/// nothing that others did since.
+/// A store handle for the holder of a pass. It is a store: each call except `position` and `stopped` takes the turn of
+/// its pass, and may wait for it. Those two report how the last call left the store, and nothing that others did since.
 #[derive(Drop)]
 pub struct Desk<'a, B: Backend, R: Threads + Wait> {
     lock: &'a StoreLock<B>,
@@ -36,8 +35,8 @@ impl<'a, B: Backend, R: Threads + Wait> Model for Desk<'a, B, R> {
 }
 
 impl<B: Backend> SharedStore<B> {
-    /// A store handle for the holder of the pass, at the position of the pass. It is for callers that have
-    /// the whole store; a worker has only its lock, and calls `desk_at`.
+    /// A store handle for the holder of the pass, at the position of the pass. It is for callers that have the whole
+    /// store. A worker has only its lock, and calls `desk_at`.
     pub fn desk<'a, R: Threads + Wait>(&'a self, rt: &'a R, pass: Pass<B>) -> Desk<'a, B, R>
         requires { IsPassOf self.now pass }
         ensures { result ≡ fresh_desk self.now pass }

@@ -9,7 +9,7 @@ use std::snapshot::Snapshot;
 use ts_model::{Backend, Event};
 use turn_lock::Grown;
 
-/// A backend, and what it was when it came into the lock.
+/// A backend, and its value when it came into the lock.
 #[derive(Drop)]
 pub struct Kept<B: Backend> {
     pub(crate) backend: B,
@@ -57,7 +57,7 @@ impl<B: Backend> Kept<B> {
         backend
     }
 
-    // The position at which the backend has stopped, if it has, and what it is.
+    // The position at which the backend has stopped, if it has, and the value of the backend.
     pub(crate) fn turn_end(&self) -> TurnEnd<B>
         ensures stopped { result.stopped ≡ stop_of (B.state self.now.backend) }
         ensures backend { result.backend.value ≡ self.now.backend }

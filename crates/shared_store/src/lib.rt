@@ -1,5 +1,5 @@
-//! One backend that is alone and that several threads use, each through its own store handle. A store handle
-//! is a store too: each of its calls takes its turn at the backend.
+//! One backend that several threads use, each through its own store handle. Nothing outside the lock uses the backend.
+//! A store handle is a store too: each of its calls takes its turn at the backend.
 #![tactic(auto)]
 
 mod calls;

@@ -1,4 +1,4 @@
-//! How a shared store is made.
+//! How a shared store is created.
 ghost use Rattle.std.specs.Prelude.{◌≡◌, ◌<◌, None, IsTrue};
 ghost use Rattle.shared_store.specs.Making.{Makes};
 
@@ -19,7 +19,7 @@ pub enum MadeStore<B: Backend> {
     NoMemory(B),
 }
 
-// The backend, which remembers what it is now.
+// The backend, with its present value.
 fn keep<B: Backend>(backend: B) -> Kept<B>
     requires alone { IsTrue B.alone }
     requires going { (B.state backend).failed ≡ None }
@@ -30,7 +30,7 @@ fn keep<B: Backend>(backend: B) -> Kept<B>
 }
 
 impl<B: Backend> SharedStore<B> {
-    /// A store over a backend that is alone and hasn't stopped, and the first pass, which has all the
+    /// A store over a backend that nobody else uses and that hasn't stopped, and the first pass, which has all the
     /// shares.
     pub fn new(alloc: Global, backend: B, shares: u32) -> MadeStore<B>
         requires alone { IsTrue B.alone }

@@ -8,7 +8,7 @@ use crate::store::{Pass, SharedStore};
 use ts_model::Backend;
 
 impl<B: Backend> SharedStore<B> {
-    /// Moves shares to a new pass, which has seen as much and has made nothing.
+    /// Moves shares to a new pass, which has seen as much and has appended nothing.
     pub fn split(&self, pass: &mut Pass<B>, shares: u32) -> Pass<B>
         requires pass { IsPassOf self.now pass.old }
         requires shares { (0 < shares) × (shares < shares_of pass.old) }
@@ -23,8 +23,8 @@ impl<B: Backend> SharedStore<B> {
         self.lock.split(pass, shares)
     }
 
-    /// Joins two passes. The result has seen the longer history, which begins with the other, and has made
-    /// what both made.
+    /// Joins two passes. The result has seen the longer history, which begins with the other, and has appended what
+    /// both appended.
     pub fn join(&self, a: Pass<B>, b: Pass<B>) -> Pass<B>
         requires first { IsPassOf self.now a }
         requires second { IsPassOf self.now b }
@@ -39,8 +39,8 @@ impl<B: Backend> SharedStore<B> {
         self.lock.join(a, b)
     }
 
-    /// Returns the backend to the holder of all the shares. It holds what the pass has seen, and the pass
-    /// has made each event since the start once.
+    /// Returns the backend to the holder of all the shares. It holds what the pass has seen, and the pass has appended
+    /// each event since the start once.
     pub fn close(self, pass: Pass<B>) -> B
         requires pass { IsPassOf self pass }
         requires all { shares_of pass ≡ self.shares }

@@ -7,14 +7,14 @@ use std::marker::Model;
 use ts_model::Backend;
 use turn_lock::TurnLock;
 
-/// An access token: shares of the right to the whole, the history that its holder has seen, and the numbers
-/// of the events that it made.
+/// An access token: shares of the right to the whole, the history that its holder has seen, and the numbers of the
+/// events that it appended.
 pub type Pass<B> = turn_lock::Pass<Kept<B>>;
 
 /// The lock of a store, which threads share.
 pub type StoreLock<B> = TurnLock<Kept<B>>;
 
-/// A backend that is alone, behind a lock: the holders of its passes use it in turn.
+/// A backend that nobody else uses, behind a lock: the holders of its passes use it in turn.
 #[derive(Drop)]
 pub struct SharedStore<B: Backend> {
     pub(crate) lock: StoreLock<B>,

@@ -12,7 +12,7 @@ use std::thread::Threads;
 use ts_model::Backend;
 use turn_lock::Held;
 
-/// What a turn left: the position at which the backend has stopped, if it has, and what the backend is.
+/// What a turn left: the position at which the backend has stopped, if it has, and the value of the backend.
 #[derive(Drop)]
 pub struct TurnEnd<B> {
     pub(crate) stopped: Option<u64>,
@@ -29,7 +29,7 @@ pub(crate) fn begin<B: Backend, R: Threads + Wait>(
     ensures { Begun B.alone B.state B.kin (shared_of lock.now) pass.old pass.new result }
 {
     let held = lock.take(rt, pass);
-    // Reading what is kept tells what holds of it.
+    // Reading what is kept proves its properties.
     let _ = &held.value.backend;
     held
 }

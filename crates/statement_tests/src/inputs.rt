@@ -24,7 +24,7 @@ fn an_input_is_the_same_however_the_source_cuts_it(rt: HostRuntime) -> Result<()
 
 #[test]
 fn a_failed_read_leaves_what_was_given_before(rt: HostRuntime) -> Result<(), Fail> {
-    // The call that fails, at most five bytes a call, and how many bytes were given before it.
+    // The call that fails, with at most five bytes a call, and how many bytes the earlier calls gave.
     for (call, given) in [(1, 0), (2, 5), (3, 10), (5, 20), (6, 21)] {
         let fails = [call].to_vec(rt.alloc())?;
         let mut source = MemSource::new(TEXT.to_vec(rt.alloc())?, 5, fails);
@@ -75,8 +75,8 @@ fn a_text_is_written_up_to_the_failed_write(rt: HostRuntime) -> Result<(), Fail>
     Ok(())
 }
 
-/// A reader and writer of std that is interrupted a few times, then moves `most` bytes in all, and then fails to
-/// read and accepts no bytes.
+/// A reader and writer of std. It is interrupted a few times, then moves `most` bytes in all, and then fails to read
+/// and accepts no bytes.
 #[derive(Drop)]
 struct Pipe {
     most: usize,

@@ -1,6 +1,6 @@
-//! Tests that no script reaches, by public calls only: sources and sinks that give and take few bytes a call or
-//! fail, inputs of the greatest size, numbers beyond 64 bits, and the words of refusals that no statement has yet.
-//! They are in a crate without other code, since a crate with tests is proved twice.
+//! Tests that no script reaches, only by public calls. They have sources and sinks that give and take few bytes a call
+//! or fail, and inputs of the greatest size. They check numbers beyond 64 bits, and the words of refusals that no
+//! statement has yet. They are in a crate without other code, since a crate with tests is proved twice.
 #![tactic(auto)]
 
 #[cfg(test)]

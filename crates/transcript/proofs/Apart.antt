@@ -49,7 +49,8 @@ is_kept-insert_key q (x ∷ xs) k = placed (order k x) q k x xs refl (is_kept-in
 abbrev names_of : List SessionTranscript → List (List ℕ)
 names_of talks = map (λ s. s.name) talks
 
--- of the talks, those of the list come last: no name comes twice among them, and their names are the keys
+-- the session transcripts are those left and then those done. No name comes twice among those done, and their names are
+-- the keys
 pub record Seen (talks left done : List SessionTranscript) (ks : List Key) : Type 0 where
   pub split : talks ≡ left ++ done
   pub apart : are_apart (names_of done) ≡ true

@@ -31,7 +31,7 @@ at_least m n h = grind (arith, nat_tests)
 
 -- ---- a byte
 
--- how it is written, by whether it has a short escape, and whether it is a control character
+-- its text, by whether it has a short escape, and whether it is a control character
 chosen : ℕ → Bool → Bool → List ℕ
 chosen byte short control = cond short (92 ∷ escape_letter byte ∷ []) (cond control (92 ∷ 117 ∷ 48 ∷ 48 ∷ digit_char (byte / 16) ∷ digit_char (byte % 16) ∷ []) (byte ∷ []))
 
@@ -39,19 +39,19 @@ by_choice : (byte : ℕ) (short control : Bool) → nat_lt 0 (escape_letter byte
 unfolding escape_byte chosen
 by_choice byte short control a b = λ i. chosen byte (a i) (b i)
 
--- one that is written as it is
+-- a byte that needs no escape
 pub plain_byte : (byte : ℕ) → is_plain byte ≡ true → byte ∷ [] ≡ escape_byte byte
 unfolding chosen
 plain_byte byte plain =
     sym (by_choice byte false false (none_below (escape_letter byte) (and_first (escape_letter byte == 0) (nat_le 32 byte) plain)) (at_least 32 byte (and_second (escape_letter byte == 0) (nat_le 32 byte) plain)))
 
--- one with a short escape
+-- a byte with a short escape
 pub short_byte : (byte letter : ℕ) → letter ≡ escape_letter byte → 0 < letter → 92 ∷ letter ∷ [] ≡ escape_byte byte
 unfolding chosen
 short_byte byte letter is some =
     ap (λ l. 92 ∷ l ∷ []) is ∙ sym (by_choice byte true (nat_lt byte 32) (below 0 (escape_letter byte) (subst (λ l. 0 < l) is some)) refl)
 
--- a control character without one
+-- a control character without a short escape
 pub control_byte : (byte letter high low : ℕ) → letter ≡ escape_letter byte → letter ≤ 0 → byte < 32 → high ≡ digit_char (byte / 16) → low ≡ digit_char (byte % 16)
     → 92 ∷ 117 ∷ 48 ∷ 48 ∷ high ∷ low ∷ [] ≡ escape_byte byte
 unfolding chosen
@@ -59,13 +59,13 @@ control_byte byte letter high low is none control high_is low_is =
     (λ i. 92 ∷ 117 ∷ 48 ∷ 48 ∷ high_is i ∷ low_is i ∷ [])
     ∙ sym (by_choice byte false true (not_below 0 (escape_letter byte) (subst (λ l. l ≤ 0) is none)) (below byte 32 control))
 
--- any other
+-- any other byte
 pub other_byte : (byte letter : ℕ) → letter ≡ escape_letter byte → letter ≤ 0 → 32 ≤ byte → byte ∷ [] ≡ escape_byte byte
 unfolding chosen
 other_byte byte letter is none above =
     sym (by_choice byte false false (not_below 0 (escape_letter byte) (subst (λ l. l ≤ 0) is none)) (not_below byte 32 above))
 
--- those in front of a text
+-- the bytes at the beginning of a text that need no escape
 pub plain_front : (text : List ℕ) → escape (take (prefix_len is_plain text) text) ≡ take (prefix_len is_plain text) text
 plain_front [] = refl
 plain_front (byte ∷ bytes) = by (is_plain byte) refl (plain_front bytes)
@@ -87,18 +87,18 @@ plain_front (byte ∷ bytes) = by (is_plain byte) refl (plain_front bytes)
 plain_taken : (text : List ℕ) (n : ℕ) → n ≡ prefix_len is_plain text → escape (take n text) ≡ take n text
 plain_taken text n is = subst (λ k. escape (take k text) ≡ take k text) (sym is) (plain_front text)
 
--- bytes in front that are written as they are
+-- bytes at the beginning that need no escape
 pub plain_sent : (old new : Option (List ℕ)) (page after text : List ℕ) (n : ℕ) → n ≡ prefix_len is_plain text → Gathers old new page after (take n text) → Gathers old new page after (escape (take n text))
 plain_sent old new page after text n is g = subst (Gathers old new page after) (sym (plain_taken text n is)) g
 
--- a part of them is a part of the text
+-- a part of these bytes is a part of the text
 pub plain_failed : (old new : Option (List ℕ)) (page text : List ℕ) (n : ℕ) → n ≡ prefix_len is_plain text → AppendsPart old new (page ++ take n text) → AppendsPart old new (page ++ escape text)
 plain_failed old new page text n is part =
     let apart : take n text ++ escape (drop n text) ≡ escape text = ap (λ s. s ++ escape (drop n text)) (sym (plain_taken text n is)) ∙ sym (escape_apart n text) in
     subst (λ s. AppendsPart old new (page ++ s)) apart (first_failed old new page (take n text) (escape (drop n text)) part)
 
 module _ (old mid new : Option (List ℕ)) (before page : List ℕ) (text left : List ℕ) (h : SentSome old mid before page text (escape left)) where
-  -- the front of what was left was sent; what is left is written as the code cuts it
+  -- the front of the rest was sent; the new rest is as the code cuts it
   pub front_sent : (after : List ℕ) (n : ℕ) → Gathers mid new page after (escape (take n left)) → SentSome old new before after text (escape (take (length left - n) (drop n left)))
   front_sent after n more =
       subst (λ rest. SentSome old new before after text (escape rest)) (sym (take_rest left n))

@@ -16,7 +16,7 @@ use Rattle.transcript.specs.Ascii.{is_ascii_text}
 use Rattle.transcript.specs.Laws.{LinesAreSound}
 use Rattle.transcript.specs.Shape.{is_session_name, is_line_of, speaks_in}
 
--- ---- no comment stands before the comment
+-- ---- no comment comes before the comment
 
 within : (bytes : List ℕ) → comment_at bytes ≤ length bytes
 within [] = omega arith

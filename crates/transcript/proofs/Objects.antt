@@ -1,4 +1,4 @@
--- The members of an object, taken from its front.
+-- The members of an object, in order.
 use Rattle.std.proofs.Common.{◌≡◌, ◌≢◌, ℕ, List, [], ◌∷◌, true, cond, ◌&&◌, Some, None, BTreeMap, String, Global, bytes_eq, string_bytes, length, refl, sym, ap, ◌∙◌}
 use Rattle.serde_json.specs.View.{view, members_view}
 use Rattle.serde_json.specs.declared.value.Value.{Value, Object}

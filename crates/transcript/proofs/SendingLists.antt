@@ -1,4 +1,4 @@
--- The items of a list, sent one after another.
+-- The items of a list, sent in order.
 use Rattle.std.proofs.Common.{◌≡◌, ℕ, zero, suc, ◌+◌, ◌<◌, Bool, true, List, [], ◌∷◌, ◌++◌, length, take, drop, get_or, Option, Result, sym, subst, append_assoc, append-nil, ap, refl, ◌∙◌, arith}
 use Rattle.std.specs.List.{flat_map}
 use Rattle.serde_json.specs.Written.{comma_if, compact_text, items_text}
@@ -17,7 +17,7 @@ no_items_left [] h = refl
 no_items_left (x ∷ xs) h = absurd cc
 
 module _ (old mid new : Option (List ℕ)) (before page after text : List ℕ) where
-  -- a comma, an item, and the rest, as the text of a list has them
+  -- a comma, an item, and the rest, grouped as in the text of a list
   grouped : (now : Option (List ℕ)) (comma item rest : List ℕ) → SentSome old now before page text (comma ++ (item ++ rest)) → SentSome old now before page text ((comma ++ item) ++ rest)
   grouped now comma item rest h = subst (SentSome old now before page text) (sym (append_assoc comma item rest)) h
 
@@ -54,7 +54,7 @@ module _ (old mid new : Option (List ℕ)) (before page after text : List ℕ) w
 
 -- ---- pieces
 
--- a list is what stands before a place, the item there, and the rest
+-- a list is the part before an index, the item there, and the rest
 piece_apart : (pieces : List Piece) (i : ℕ) (d : Piece) → i < length pieces → flat_map piece_text pieces ≡ flat_map piece_text (take i pieces) ++ (piece_text (get_or pieces i d) ++ flat_map piece_text (drop (suc i) pieces))
 piece_apart [] i d l = absurd (omega (arith, l))
 piece_apart (p ∷ pieces) zero d l = refl

@@ -1,4 +1,4 @@
--- The texts of the parts, as they are sent.
+-- The texts of the parts, as sent.
 use Rattle.std.proofs.Common.{◌≡◌, ℕ, Bool, false, List, ◌++◌, codes, sym, ap, ◌∙◌, append_assoc}
 use Rattle.json.specs.Print.{quoted}
 use Rattle.serde_json.specs.Written.{comma_if, compact_text, items_text}

@@ -11,15 +11,15 @@ use Rattle.transcript.specs.Sending.{Gathers, Sends}
 
 -- ---- pages
 
--- a piece for which there is room waits
+-- a piece that fits stays in the page
 pub waits_whole : (old : Option (List ℕ)) (before after piece : List ℕ) → after ≡ before ++ piece → Gathers old old before after piece
 waits_whole old before after piece is = record { front = []; grew = Appends-nil old; waits = sym is }
 
--- what waited was written
+-- the bytes of the page were written
 pub emptied : (old new : Option (List ℕ)) (before after : List ℕ) → after ≡ [] → Appends old new before → Gathers old new before after []
 emptied old new before after none all = record { front = before; grew = all; waits = ap (λ l. before ++ l) (sym none) }
 
--- a piece was written at once, where nothing waited, or a part of it
+-- a piece was written directly, with an empty page, or a part of it
 pub written_at_once : (old new : Option (List ℕ)) (before after piece : List ℕ) (r : Result (Unit {0}) WriteFault) → before ≡ [] → after ≡ [] → OnOk r (Appends old new piece) → OnErr r (AppendsPart old new piece)
     → Sends r old new before after piece
 written_at_once old new before after piece (Ok done) none empty all part = record { front = piece; grew = all; waits = ap (λ l. l ++ piece) none ∙ sym (append-nil piece) ∙ ap (λ l. piece ++ l) (sym empty) }
@@ -38,7 +38,7 @@ module _ (old mid new : Option (List ℕ)) (before page after first second : Lis
     waits = joined g.front g.waits ∙ ap (λ l. g.front ++ l) h.waits ∙ sym (append_assoc g.front h.front after);
   }
 
-  -- the first part was sent, and a part of what then waited and of the second was written
+  -- the first part was sent, and then a part of the page and of the second was written
   pub part_of_both : Gathers old mid before page first → AppendsPart mid new (page ++ second) → AppendsPart old new (before ++ (first ++ second))
   part_of_both g part = subst (AppendsPart old new) (sym (joined g.front g.waits)) (AppendsPart-after old mid new g.front (page ++ second) g.grew part)
 
@@ -47,13 +47,13 @@ module _ (old mid new : Option (List ℕ)) (before page after first second : Lis
   then_sent (Ok done) g sent = gathers_both g sent
   then_sent (Err fault) g sent = part_of_both g sent
 
--- a part of what waited and of the first part is a part of the whole
+-- a part of the page and of the first part is a part of the whole
 pub first_failed : (old new : Option (List ℕ)) (before first second : List ℕ) → AppendsPart old new (before ++ first) → AppendsPart old new (before ++ (first ++ second))
 first_failed old new before first second part = subst (AppendsPart old new) (append_assoc before first second) (AppendsPart-longer old new (before ++ first) second part)
 
 -- ---- the whole
 
--- a text was sent through a page that was empty at first, and then what waited was written, or a part of it
+-- a text was sent through a page that was empty at first, and then the page was written, or a part of it
 pub wrote_all : (old mid new : Option (List ℕ)) (before page text : List ℕ) → before ≡ [] → Gathers old mid before page text → Appends mid new page → Appends old new text
 wrote_all old mid new before page text none g all =
     subst (Appends old new) (sym g.waits ∙ ap (λ l. l ++ text) none) (Appends-trans old mid new g.front page g.grew all)
@@ -73,13 +73,13 @@ pub wrote_some : (old mid new : Option (List ℕ)) (before page text : List ℕ)
 wrote_some old mid new before page text (Ok done) none g part = tt
 wrote_some old mid new before page text (Err fault) none g part = wrote_part old mid new before page text none g part
 
--- the count rises from one that stayed
+-- the count rises from one that stayed the same
 pub then_counted : (a b c : ℕ) (fault : Bool) → b ≡ a → Counted b c fault → Counted a c fault
 then_counted a b c fault same h = subst (λ n. Counted n c fault) same h
 
 -- ---- lists
 
--- what a list's first items took, and the text of those that are left
+-- the text of a list's first items was sent, and that of the others is left
 pub record SentSome (old now : Option (List ℕ)) (before page text rest : List ℕ) : Type 0 where
   pub done : List ℕ
   pub split : text ≡ done ++ rest

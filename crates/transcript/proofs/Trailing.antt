@@ -1,4 +1,4 @@
--- A line feed behind a printed text changes none of its tokens.
+-- A line feed after a printed text changes none of its tokens.
 use Rattle.std.proofs.Common.{◌≡◌, ℕ, Bool, true, false, cond, ◌&&◌, List, [], ◌∷◌, ◌++◌, refl, sym, ap, ap₂, ◌∙◌, append_assoc, append-nil}
 use Rattle.json.specs.Token.{Token, begin_object, end_object, begin_array, end_array, key, string, number, boolean, null, bad}
 use Rattle.json.specs.Word.{ends_word, word}
@@ -48,7 +48,7 @@ unfolding lex
 lex-separator true r = refl
 lex-separator false r = refl
 
--- a text that has no lexeme, and may stand behind a word
+-- a text that has no lexeme, and may follow a word
 module _ (gap : List ℕ) (empty : lex between gap ≡ []) (ended : ends_word gap ≡ true) where
   after_value_ends : (ts : List Token) → ends_word (print_from true ts ++ gap) ≡ true
   unfolding print_from

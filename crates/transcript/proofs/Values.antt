@@ -1,4 +1,4 @@
--- A value is read as a transcript exactly where it is the transcript's data.
+-- A value is read as a transcript exactly if it is the transcript's data.
 use Rattle.std.proofs.Common.{◌≡◌, ℕ, List, [], ◌∷◌, ◌++◌, Bool, true, false, cond, ◌&&◌, Option, Some, None, option_map, option_and_then, IsTrue, codes, bytes_eq, refl, sym, ap, ap₂, ◌∙◌, append_assoc}
 use Rattle.std.proofs.lemmas.Slice.Eq.{bytes_eq-Decides}
 use Rattle.serde_json.specs.Data.{Num, unsigned, negative, float, Data, null, boolean, number, string, array, object, Items, no_items, item, Members, no_members, member}
@@ -33,7 +33,7 @@ transcript_in-transcript_data t = ap (option_map (λ sessions. record { start = 
 
 -- ---- a list that grows at its end
 
--- these, and then those that are read
+-- these items, and then those that are read
 abbrev pub before : {A : Type 0} → List A → Option (List A) → Option (List A)
 before done rest = option_map (λ more. done ++ more) rest
 
@@ -177,7 +177,7 @@ transcript_is d t h =
     (as_number_is found.0.1 num.0 num.1 ∙ ap number (as_u64_is num.0 start.0 num.2))
     ∙ ap transcript_data sessions.2
 
--- ---- what is answered
+-- ---- the result of reading
 
 data_of_one : (d : Data) (t u : Transcript) → transcript_in d ≡ Some t → d ≡ transcript_data u → t ≡ u
 data_of_one d t u read is =

@@ -9,11 +9,11 @@ use Rattle.transcript.specs.declared.transcripts.Transcript.{Transcript}
 abbrev pub is_ascii_text : List ℕ → Bool
 is_ascii_text bytes = list_all is_ascii bytes
 
--- a line and its reply
+-- the line and the reply are ASCII
 abbrev pub is_ascii_exchange : Exchange → Bool
 is_ascii_exchange e = is_ascii_text e.line && is_ascii_text e.reply
 
--- the name of a session, and its lines with their replies
+-- the name, and all lines and replies, are ASCII
 abbrev pub is_ascii_talk : SessionTranscript → Bool
 is_ascii_talk t = is_ascii_text t.name && list_all is_ascii_exchange t.replies
 

@@ -13,25 +13,25 @@ use Rattle.transcript.specs.declared.transcripts.Transcript.{Transcript}
 abbrev pub ReadsBack : Type 0
 ReadsBack = (t : Transcript) → t.start < 2 ^ 64 → IsWritable t → IsTrue (is_sound t) → IsReading (transcript_text t) t
 
--- and so is that of a sound transcript whose texts are ASCII
+-- the text of a sound transcript whose texts are ASCII is read as that transcript
 abbrev pub AsciiReadsBack : Type 0
 AsciiReadsBack =
     (t : Transcript) → t.start < 2 ^ 64 → IsTrue (is_ascii_transcript t) → IsTrue (is_sound t)
     → IsReading (transcript_text t) t
 
--- a text is read as one transcript at most
+-- a text is read as at most one transcript
 abbrev pub ReadsAsOne : Type 0
 ReadsAsOne = (text : List ℕ) (t u : Transcript) → IsReading text t → IsReading text u → t ≡ u
 
--- the name of a session is valid, and the line of an input in which it speaks is one of its lines up to the comment:
--- ASCII, and of the same kind as the whole line
+-- the name of a session is valid. The line of an input in which it speaks is one of its lines up to the comment: ASCII,
+-- and of the same kind as the whole line
 pub record IsSoundLine (line : List ℕ) (len skip end : ℕ) : Type 0 where
   pub named : IsTrue (is_session_name (session_name line len skip))
   pub spoken : IsTrue (is_line_of (session_name line len skip) (take end line))
   pub ascii : IsTrue (is_ascii_text (take end line))
   pub kind : line_kind (take end line) ≡ Stmt len skip end
 
--- so is every line in which a session speaks
+-- the same for every line in which a session speaks
 abbrev pub LinesAreSound : Type 0
 LinesAreSound =
     (line : List ℕ) (len skip end : ℕ) → length line ≤ longest_line → IsTrue (is_one_line line)

@@ -5,7 +5,7 @@ use Rattle.serde_json.specs.Written.{comma_if}
 use Rattle.transcript.specs.declared.pieces.Piece.{Piece}
 use Rattle.transcript.specs.declared.pieces.Piece.TheVariants.{Plain, Escaped}
 
--- what a piece is written as
+-- the text of a piece
 abbrev pub piece_text : Piece → List ℕ
 piece_text (Plain bytes) = bytes.now
 piece_text (Escaped text) = escape text.now
@@ -14,6 +14,6 @@ piece_text (Escaped text) = escape text.now
 abbrev pub start_text : ℕ → List ℕ
 start_text start = codes ",\"start\":" ++ (decimal start ++ codes "}\n")
 
--- a talk up to its first exchange, behind a comma where one stands before it
+-- a session transcript up to its first exchange, after a comma if another comes before it
 abbrev pub talk_head : Bool → List ℕ → List ℕ
 talk_head later name = comma_if later ++ (codes "{\"name\":" ++ (quoted name ++ codes ",\"replies\":["))

@@ -8,7 +8,7 @@ use Rattle.stmt_tokens.specs.declared.lines.LineKind.TheVariants.{Blank, NotAsci
 use Rattle.transcript.specs.declared.transcripts.SessionTranscript.{SessionTranscript}
 use Rattle.transcript.specs.declared.transcripts.Transcript.{Transcript}
 
--- ---- a session's name
+-- ---- the name of a session
 
 -- a letter, then letters, digits and _, 1 to 16 bytes in all
 abbrev pub is_session_name : List ℕ → Bool
@@ -26,7 +26,7 @@ are_apart (name ∷ names) = not (is_among name names) && are_apart names
 
 -- ---- its lines
 
--- the text holds no line feed
+-- the text has no line feed
 abbrev pub is_one_line : List ℕ → Bool
 is_one_line text = list_all (λ b. not (b == 10)) text
 
@@ -37,8 +37,8 @@ speaks_in name line NotAscii = false
 speaks_in name line NoSession = false
 speaks_in name line (Stmt len skip end) = bytes_eq (session_name line len skip) name
 
--- one line within the length limit in which the session speaks, classified as the lines of an input are. It may
--- contain a comment, which is no part of what the session says
+-- the text is one line of at most 65,536 bytes in which the session speaks, classified like the lines of an input. It
+-- may have a comment, which the session doesn't say
 abbrev pub is_line_of : List ℕ → List ℕ → Bool
 is_line_of name line = nat_le (length line) longest_line && is_one_line line && speaks_in name line (line_kind line)
 
@@ -48,6 +48,6 @@ is_line_of name line = nat_le (length line) longest_line && is_one_line line && 
 abbrev pub is_sound_talk : SessionTranscript → Bool
 is_sound_talk t = is_session_name t.name && list_all (λ e. is_line_of t.name e.line) t.replies
 
--- every session has a separate, valid name and only lines of that session
+-- every session has its own valid name and only lines of that session
 abbrev pub is_sound : Transcript → Bool
 is_sound t = list_all is_sound_talk t.sessions && are_apart (map (λ s. s.name) t.sessions)

@@ -34,7 +34,7 @@ transcript_data t =
 abbrev pub transcript_text : Transcript → List ℕ
 transcript_text t = compact_text (transcript_data t) ++ 10 ∷ []
 
--- line and reply are UTF-8, as a JSON string asks
+-- line and reply are UTF-8, as a JSON string must be
 abbrev pub IsWritableExchange : Exchange → Type 0
 IsWritableExchange e = IsUtf8 e.line × IsUtf8 e.reply
 

@@ -1,4 +1,4 @@
-//! Texts as they are written between the quotes of a JSON string.
+//! Texts between the quotes of a JSON string.
 ghost use Rattle.std.specs.Prelude.{◌≡◌, ◌<◌, ◌≤◌, ◌++◌, length, take, is_err, IfOk, MatchResult};
 ghost use Rattle.std.specs.List.{prefix_len};
 ghost use Rattle.std.specs.Char.{digit_char};
@@ -30,8 +30,8 @@ pub(crate) fn send_escaped<K: Sink>(
     Ok(())
 }
 
-/// Sends the front of a text that isn't empty: the bytes that are written as they are, or one escape. Returns how
-/// many bytes these were.
+/// Sends the front of a text that isn't empty: bytes without an escape, or one escape. Returns how many bytes of the
+/// text these were.
 fn send_front<K: Sink>(text: &[u8], page: &mut Page, sink: &mut K) -> Result<usize, WriteFault>
     requires some { 0 < length text.now }
     ensures sent { MatchResult result
@@ -56,14 +56,14 @@ fn send_front<K: Sink>(text: &[u8], page: &mut Page, sink: &mut K) -> Result<usi
     }
 }
 
-/// How many bytes in front are written as they are.
+/// How many bytes at the beginning need no escape.
 fn plain_len(text: &[u8]) -> usize
     ensures { result ≡ prefix_len is_plain text.now }
 {
     text.iter().take_while(|byte| is_plain(**byte)).count()
 }
 
-/// Whether a byte is written as it is.
+/// Whether a byte needs no escape.
 fn is_plain(byte: u8) -> bool
     ensures { result ≡ is_plain byte }
 {

@@ -1,5 +1,5 @@
-//! Transcripts of a parallel run: each line of each session with its reply, as one JSON text. It is written in
-//! pieces and read back.
+//! Transcripts of a parallel run: each line of each session with its reply, as one JSON text. The crate writes it in
+//! pieces and reads it back.
 //!
 //! - `transcripts`: the parts of a transcript.
 //! - `shape`, `ascii`: whether its names and lines are valid, and whether its texts are ASCII.

@@ -6,8 +6,8 @@ ghost use Rattle.transcript.specs.Members.{two_members};
 
 use serde_json::Value;
 
-/// The values of an object that has these two members and no other. The first name comes before the
-/// second in the order of bytes.
+/// The values of an object with exactly these two members. The first name comes before the second in the order of
+/// bytes.
 pub(crate) fn two_members(value: Value, first: &str, second: &str) -> Option<(Value, Value)>
     ensures values { option_map (λ p. (view p.0, view p.1)) result
         ≡ two_members first.now second.now (view value) }

@@ -13,7 +13,7 @@ use ts_io::{Sink, WriteFault};
 /// A piece of a text.
 #[derive(Clone, Copy, Debug)]
 pub(crate) enum Piece<'a> {
-    /// Bytes as they are.
+    /// Bytes without escapes.
     Plain(&'a [u8]),
     /// A text between the quotes of a string.
     Escaped(&'a [u8]),
@@ -50,7 +50,7 @@ fn send_piece<K: Sink>(piece: &Piece<'_>, page: &mut Page, sink: &mut K) -> Resu
     }
 }
 
-/// A comma, if something comes before.
+/// A comma, if an item comes before.
 pub(crate) fn comma(later: bool) -> &'static [u8]
     ensures { result.now ≡ comma_if later }
 {

@@ -18,7 +18,7 @@ pub enum ReadTranscript {
     Transcript(Kept),
     /// The text isn't JSON, or its value isn't that of a transcript.
     BadText,
-    /// Memory ran out.
+    /// Out of memory.
     NoMemory,
 }
 

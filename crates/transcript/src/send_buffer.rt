@@ -30,7 +30,7 @@ pub(crate) fn flush<K: Sink>(page: &mut Page, sink: &mut K) -> Result<(), WriteF
     }
 }
 
-/// Sends a piece of a text: adds it to the page if it fits, or else writes the page first.
+/// Sends a piece of a text: adds it to the page if it fits, otherwise writes the page first.
 pub(crate) fn send<K: Sink>(piece: &[u8], page: &mut Page, sink: &mut K) -> Result<(), WriteFault>
     ensures sent { Sends result (K.written sink.old) (K.written sink.new) page.old.items page.new.items piece.now }
     ensures counted { Counted (K.faults sink.old) (K.faults sink.new) (is_err result) }

@@ -1,4 +1,4 @@
-//! Sends the text of a transcript to a sink piece by piece. It needs no memory, so memory can't run out once a
+//! Sends the text of a transcript to a sink piece by piece. It needs no memory, so it can't run out of memory once a
 //! byte is written.
 ghost use Rattle.std.specs.Prelude.{◌≡◌, ◌++◌, codes, false, is_err, OnErr, OnOk};
 ghost use Rattle.std.specs.Io.KnownBytes.{Appends};

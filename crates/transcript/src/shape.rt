@@ -12,7 +12,7 @@ use stmt_tokens::{LineKind, split_line};
 use ts_io::LINE_LIMIT;
 use ts_schema::NoMemory;
 
-/// Whether every session has a separate, valid name and only lines of that session.
+/// Whether every session has its own valid name and only lines of that session.
 pub(crate) fn is_sound(alloc: Global, transcript: &Transcript) -> Result<bool, NoMemory>
     ensures sound { IfOk result (λ sound. sound ≡ is_sound transcript.now) }
 {
@@ -86,7 +86,7 @@ fn continues_session(byte: u8) -> bool
     matches!(byte, b'a'..=b'z' | b'0'..=b'9' | b'_')
 }
 
-/// Whether the text is one line in which the session with the name speaks, by the rules for the lines of an input.
+/// Whether the text is one line in which the session `name` speaks, by the rules for the lines of an input.
 fn is_line_of(name: &[u8], line: &[u8]) -> bool
     ensures { result ≡ is_line_of name.now line.now }
 {
@@ -99,7 +99,7 @@ fn is_one_line(text: &[u8]) -> bool
     text.iter().all(|byte| *byte != b'\n')
 }
 
-/// Whether the session with the name speaks in the line.
+/// Whether the session `name` speaks in the line.
 fn speaks_in(name: &[u8], line: &[u8]) -> bool
     requires short { length line.now ≤ longest_line }
     ensures { result ≡ speaks_in name.now line.now (line_kind line.now) }

@@ -1,4 +1,4 @@
--- What the replies of sessions tell of what their lines do.
+-- What the replies of sessions say about what their lines do.
 use Rattle.ts_model.proofs.AllowedLaws.{allowed_begins}
 use Rattle.ts_sessions.specs.Actors.{LinesAreAnswered, TellsReplies}
 use Rattle.ts_sessions.specs.Places.{Places}

@@ -1,4 +1,4 @@
--- The block of a session after a line had begun by its end.
+-- The block of a session after a line had begun by the end of the line.
 use Rattle.std.proofs.Common.{◌≡◌, ◌∙◌, ℕ, suc, true, List, [], ◌∷◌, ◌++◌, length, Option, Some, None, inl, inr, refl, sym, subst, arith}
 use Rattle.std.specs.Prelude.{Result}
 use Rattle.std.proofs.lemmas.Bool.{and_from}
@@ -54,7 +54,7 @@ module _ (all : History) where
   abbrev InBegun : Turn Places → Type 0
   InBegun y = InTurn Begun all y
 
-  -- the places before a turn, whose block had begun by then
+  -- the state before a turn, whose block had begun by then
   module _ (p : Places) (begun : BegunBy p.block all) where
     by_changes : (bytes : ℕ) (h : History) (op : Op) (b : Block) → BegunBy b all → is_on_hypertable (roster all) op ≡ true → EndsBy InBegun all (changes p bytes h op b)
     by_changes bytes h op none before there = by_commits Begun all p begun p begun h (op ∷ [])
@@ -67,7 +67,7 @@ module _ (all : History) where
     by_closes h (writing (op ∷ ops) k) = by_commits Begun all p begun (enters none p) tt h (op ∷ ops)
     by_closes h (reading at) = tt
 
-    -- an action of a statement whose names were looked at in one history, at another
+    -- an action of a statement whose names were resolved in one history, at another
     by_acts : (bytes : ℕ) (g h : History) (a : Action) → Begins g all → Begins h all → ChangesHypertable (roster g) a → EndsBy InBegun all (acts p bytes h a)
     by_acts bytes g h (actions.Table def) there on c = one_by InBegun all h (making_table def h) (turn_of_line p said.Table) (by_reported Begun all p begun said.Table)
     by_acts bytes g h (actions.Hyper t hyper) there on c = one_by InBegun all h (making_hyper t hyper h) (turn_of_line p said.Hypertable) (by_reported Begun all p begun said.Hypertable)

@@ -1,4 +1,4 @@
--- The rows of a hypertable are such as a grouping by buckets of the calendar takes.
+-- The rows of a hypertable fit a grouping by calendar buckets.
 use Rattle.std.proofs.Common.{◌≡◌, ℕ, ◌<◌, Bool, true, false, cond, List, [], ◌∷◌, length, map, filter, Option, Some, None, sym, refl, ap, ◌∙◌, subst, arith}
 use Rattle.std.specs.Prelude.{nat_lt, option_and_then, option_map, unwrap_or}
 use Rattle.std.specs.List.{AllByRecursion, list_all}
@@ -31,7 +31,7 @@ use Rattle.stmt_check.specs.Sound.{IsCalendar}
 use Rattle.ts_sessions.specs.Deeds.{AsksCalendar}
 use Rattle.ts_sessions.specs.Step.{calendar_plan, unit_of}
 
--- rows that are left are as all are
+-- if all rows pass a test, so do the rows that a filter keeps
 left_fit : (test keeps : Row → Bool) (xs : List Row) → list_all test xs ≡ true → list_all test (filter keeps xs) ≡ true
 left_fit test keeps [] e = refl
 left_fit test keeps (x ∷ xs) e =
@@ -43,7 +43,7 @@ left_fit test keeps (x ∷ xs) e =
 
 -- ---- tests
 
--- the tests of a grouping that may be asked of a table may be
+-- if a table has the columns of a grouping, it has those of its tests
 tests_of_hyper : (fold : Fold) (def : TableDef) (o : Option Hyper) → of_hyper (λ d hyper. columns_are_there (length d.cols) fold) def o ≡ true → of_hyper (λ d hyper. list_all (λ test. nat_lt test.col (length d.cols)) fold.tests) def o ≡ true
 tests_of_hyper fold def None e = e
 tests_of_hyper fold def (Some hyper) e = (and_parts _ (list_all (λ test. nat_lt test.col (length def.cols)) fold.tests) e).1

@@ -1,4 +1,4 @@
--- A call of a store is the walk of its procedure, whatever it answers.
+-- A call of a store is the walk of its procedure, whatever the call returns.
 use Rattle.std.proofs.Common.{Bool, true, false, sym, refl, ap, subst, inl, inr}
 use Rattle.std.specs.Prelude.{Result, Ok, Err}
 use Rattle.ts_schema.specs.declared.memory.NoMemory.{NoMemory}
@@ -53,4 +53,4 @@ pub called_tries : {A : Type 0} (alone : Bool) (old : State) (act : History → 
 called_tries alone old act outcome new (Ok t) c i = record { mid = c.found; first = inr c.finds; rest = answered_tries alone (act c.found.history) c.found outcome new (Ok t) c.answered i }
 called_tries alone old act outcome new (Err e) c i = record { mid = c.found; first = inr c.finds; rest = answered_tries alone (act c.found.history) c.found outcome new (Err e) c.answered i }
 
--- ---- what is said of it
+-- ---- the reply to it

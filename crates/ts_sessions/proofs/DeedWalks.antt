@@ -57,7 +57,7 @@ use Rattle.ts_sessions.proofs.WalkLaws.{break_together, breaks_first, breaks_see
 
 -- ---- one store call
 
--- what was walked leads to what follows
+-- a walk leads to what follows
 pub walk_leads : {A B : Type 0} (alone failed : Bool) (old : State) (first : Procedure A) (mid : State) (a : A) (next : A → Procedure B) → Walks alone failed old first mid a → Leads alone failed old (followed_by first next) mid (next a)
 walk_leads alone failed old first mid a next w = record {
   walks = λ failed_then new y v. put_together alone failed failed_then old first mid a next new y w v;
@@ -79,7 +79,7 @@ pub tried_broken : {A T J : Type 0} (shown : Shown T J) (alone : Bool) (old : St
 tried_broken {A} {T} {J} shown alone old deed like first k result new i e same b =
     call_broken shown alone old deed result new i (λ p read. subst (λ (d : Deed T J). Breaks alone old (rest p read old.history d) new) (sym e) (subst (λ x. Breaks alone old x new) (sym (same p read)) (breaks_first alone old first (k p read) new b)))
 
--- a call that may make an event
+-- a call that may append an event
 pub tried_meets : {A T J : Type 0} (shown : Shown T J) (alone : Bool) (old : State) (deed like : Deed T J) (first : Procedure (Result A Refusal)) (k : Places → ℕ → Result A Refusal → Procedure (Turn Places)) (t : Attempt A) (r : Result A Refusal) (failed : Bool) (outcome : CallOutcome T) (new : State) → deed ≡ like → ((p : Places) (read : ℕ) → rest p read old.history like ≡ followed_by first (k p read)) → ((p : Places) (read : ℕ) → left_after p read new.history outcome ≡ k p read r) → Tries alone old first (Ok t) new → failed ≡ has_failed t → r ≡ result_of t → AnswersDeed shown new.history like outcome → Meets shown alone old deed (record { outcome = outcome; failed = failed }) new
 tried_meets {A} {T} {J} shown alone old deed like first k t r failed outcome new e same leaves w f j answers =
     subst (λ (d : Deed T J). Meets shown alone old d (record { outcome = outcome; failed = failed }) new) (sym e)
@@ -91,7 +91,7 @@ tried_meets {A} {T} {J} shown alone old deed like first k t r failed outcome new
       answers = answers;
     })
 
--- what a call leads to, and what follows it
+-- the outcome of a call, and what follows it
 pub met_goes : {T J : Type 0} (shown : Shown T J) (alone : Bool) (old : State) (p : Places) (read : ℕ) (deed : Deed T J) (m : Meeting T) (f : Followed T J) (mid : State) (before after : ℕ) → Meets shown alone old deed m mid → IsFollowed shown mid.history m.outcome f before after → Goes alone old p read deed (record { said = f.said; next = f.next; failed = m.failed }) mid before after
 met_goes shown alone old p read deed m f mid before after k w = record {
   read_then = w.read_then read;
@@ -139,7 +139,7 @@ pub joined_turn : {T J : Type 0} (line : Option Said) (p : Places) (read : ℕ) 
 joined_turn None p read t u s c = sym (ap (λ q. record { places = places_after q p; said = u.said; reads = read }) c ∙ ap (λ q. record { places = places_after t.change p; said = q; reads = read }) s)
 joined_turn (Some line) p read t u s c = sym (ap (λ q. record { places = places_after q p; said = u.said; reads = read }) c ∙ ap (λ q. record { places = places_after t.change p; said = q; reads = read }) s)
 
--- what follows a store call came to its end
+-- what follows a store call ended
 after_walk : {T J : Type 0} (alone : Bool) (old : State) (procedure : Procedure (Turn Places)) (p : Places) (total : ℕ) (a : DeedOutcome T J) (t : Completion T J) (mid : State) (left : Procedure (Turn Places)) (result : Result (Completion T J) NoMemory) (new : State) → Leads alone a.failed old procedure mid (with_line a.said left) → Walks alone t.failed mid left new (turn_of p total t) → Joins a.said a.failed t result → EndsAt alone old procedure p total result new
 after_walk alone old procedure p total a t mid left (Ok u) new w v j =
     subst (λ z. Walks alone z old procedure new (turn_of p total u)) (sym j.2)
@@ -193,16 +193,16 @@ pub joined_brings : {T J : Type 0} (shown : Shown T J) (bytes : ℕ) (h : Histor
 joined_brings shown bytes h said failed t (Ok u) j k = subst (λ c. ChangeHolds shown bytes c h) (sym j.1) k
 joined_brings shown bytes h said failed t (Err e) j k = tt
 
--- ---- looks
+-- ---- reads
 
--- a look by a call that only looks
+-- a read by a call that only reads
 pub look_leads : {A : Type 0} (alone : Bool) (old : State) (Reports : History → Type 0) (mid : State) (shown : History → Bool) (f : History → Procedure A) → Looked alone old Reports mid → Leads alone false old (sees shown f) mid (f mid.history)
 look_leads alone old Reports mid shown f l = record {
   walks = λ failed new y w. looked_walks alone failed old Reports mid shown f new y l w;
   breaks = λ new b. looked_breaks alone old Reports mid shown f new l b;
 }
 
--- a procedure that begins with a look may begin at the state that the look found
+-- a procedure that begins with a read may begin at the state that the read found
 pub seen_leads : {A : Type 0} (alone : Bool) (old mid : State) (shown : History → Bool) (f : History → Procedure A) → Sees alone old mid → Leads alone false old (sees shown f) mid (sees shown f)
 seen_leads alone old mid shown f s = record {
   walks = λ failed new y w. walks_seen alone failed old mid shown f new y s w;
@@ -239,7 +239,7 @@ view_fits alone old def outcome pos (tried.Done k) mid name c i e = let w = made
 view_fits alone old def outcome pos (tried.Refused r) mid name c i e = tt
 view_fits alone old def outcome pos (tried.Failed r) mid name c i e = tt
 
--- an aggregate that is made
+-- a new aggregate
 pub view_meets : {T J : Type 0} (shown : Shown T J) (alone : Bool) (old : State) (deed : Deed T J) (def : ViewDef) (filled : Bool) (outcome : Outcome ℕ) (pos : ℕ) (t : Attempt ℕ) (r : Result ℕ Refusal) (failed : Bool) (new : NewView) (mid : State) → deed ≡ deeds.View def filled → Called alone old (making_view def) outcome mid → pos ≡ position mid.history → IsTried pos outcome (Ok t) → failed ≡ has_failed t → r ≡ result_of t → new.name ≡ def.name → new.width ≡ def.fold.width → Meets shown alone old deed (record { outcome = outcomes.View new filled r; failed = failed }) mid
 view_meets {T} {J} shown alone old deed def filled outcome pos t r failed new mid e c at i f j name width =
     subst (λ (d : Deed T J). Meets shown alone old d (record { outcome = outcomes.View new filled r; failed = failed }) mid) (sym e)
@@ -256,7 +256,7 @@ view_meets {T} {J} shown alone old deed def filled outcome pos t r failed new mi
       };
     })
 
--- the number of an aggregate that was made
+-- the number of a new aggregate
 pub found_meets : {T J : Type 0} (shown : Shown T J) (alone : Bool) (old : State) (deed : Deed T J) (new : NewView) (made : ℕ) (asked : RefreshRequest) (Reports : History → Type 0) (mid : State) → deed ≡ deeds.Fill new made → IsThere old.history new.name → Looked alone old Reports mid → asked ≡ record { view = number_at old.history new.name; lo = None; hi = None; min = first_of new.width } → Meets shown alone old deed (record { outcome = outcomes.Found asked made; failed = false }) mid
 found_meets {T} {J} shown alone old deed new made asked Reports mid e there looked is =
     let n = number_at old.history new.name in
@@ -298,7 +298,7 @@ lost_ended next t s e = subst (λ q. IsLostNext q s) (sym e) tt
 
 -- ---- actions
 
--- looks that come to the same
+-- reads with the same outcome
 pub looks_leads : {A : Type 0} (alone : Bool) (s : State) (shown : History → Bool) (f g : History → Procedure A) → ((h : History) → Begins s.history h → f h ≡ g h) → Leads alone false s (sees shown f) s (looks g)
 looks_leads alone s shown f g same = record {
   walks = λ failed new y w. record { mid = w.mid; first = w.first; rest = subst (λ d. Walks alone failed w.mid d new y) (sym (same w.mid.history (goes_seen alone s w.mid w.first).begins)) w.rest };

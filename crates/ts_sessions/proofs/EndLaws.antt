@@ -1,4 +1,4 @@
--- How statements end: after calls, one after the other, with the rows that they read.
+-- How statements end: after calls in order, with the rows that they read.
 use Rattle.std.proofs.Common.{ℕ, ◌<◌, ◌≤◌, ◌^◌, Bool, sym, arith}
 use Rattle.std.specs.Prelude.{Result, Ok, Err}
 use Rattle.std.specs.Result.{IsErr}
@@ -26,7 +26,7 @@ counts_none (Err e) n short = omega arith
 pub quiet : {T J : Type 0} (alone : Bool) (old : State) (procedure : Procedure (Turn Places)) (p : Places) (result : Result (Completion T J) NoMemory) (new : State) (n : ℕ) → n < 2 ^ 64 → EndsAt alone old procedure p 0 result new → Ends alone old procedure p result new n n
 quiet alone old procedure p result new n short e = record { read = 0; ends = e; counted = counts_none result n short }
 
--- where nothing was begun
+-- a statement of which nothing was begun
 pub broken : {T J : Type 0} (alone : Bool) (old : State) (procedure : Procedure (Turn Places)) (p : Places) (e : NoMemory) (new : State) (before after : ℕ) → before ≤ after → Breaks alone old procedure new → Ends {T = T} {J = J} alone old procedure p (Err e) new before after
 broken alone old procedure p e new before after le b = record { read = 0; ends = b; counted = le }
 

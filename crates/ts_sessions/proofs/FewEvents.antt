@@ -1,4 +1,4 @@
--- A line of a session makes at most three events.
+-- A line of a session appends at most three events.
 use Rattle.std.proofs.Common.{◌≡◌, ℕ, zero, suc, ◌+◌, ◌≤◌, Bool, true, false, List, [], ◌∷◌, length, Option, Some, None, inl, inr, refl, ap, ◌∙◌, subst, arith}
 use Rattle.std.specs.Prelude.{Result, Ok, Err, ℤ}
 use Rattle.std.proofs.lemmas.List.{length-append}
@@ -33,7 +33,7 @@ use Rattle.ts_sessions.proofs.MadeLaws.{step_made}
 use Rattle.ts_sessions.proofs.NamedLaws.{named_holds, performs_holds, read_holds, unless_holds}
 use Rattle.ts_sessions.proofs.SteadyLaws.{ended_named}
 
--- ---- what was made
+-- ---- the events appended
 
 seen_made : (alone : Bool) (old mid : State) → Sees alone old mid → mid.made ≡ old.made
 seen_made alone old mid (inl e) = ap (λ s. s.made) e
@@ -173,7 +173,7 @@ ended_few (sees shown f) i = absurd i
 ended_few (adds e next stop) i = absurd i
 ended_few (ends a) i = tt
 
--- a statement that waits, gives up, or asks only ends
+-- a statement that queues an operation, gives up its block, or asks a query has no event
 ended_here : (p : Places) (ops : List Op) (n bytes : ℕ) (stmt : Stmt) → ((h : History) → IsEnded (acts (enters (writing ops n) p) bytes h (action_of (roster h) stmt))) → AtMost 0 (named_here (enters (writing ops n) p) bytes stmt)
 ended_here p ops n bytes stmt i = λ h. let q = enters (writing ops n) p in ended_few (turn_of_names q bytes stmt h) (ended_named q bytes stmt h (i h))
 

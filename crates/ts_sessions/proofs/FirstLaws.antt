@@ -50,7 +50,7 @@ use Rattle.ts_sessions.proofs.WalkLaws.{not_begun}
 
 -- ---- results
 
--- ---- looks
+-- ---- reads
 
 -- one step after another
 pub leads_then : {A : Type 0} (alone failed : Bool) (a : State) (first : Procedure A) (b : State) (second : Procedure A) (c : State) (third : Procedure A) → Leads alone false a first b second → Leads alone failed b second c third → Leads alone failed a first c third
@@ -65,7 +65,7 @@ saw_leads alone old mid shown f s = record {
   breaks = λ new b. record { mid = mid; first = s; rest = b };
 }
 
--- ---- statements that look at no names
+-- ---- statements without names
 
 here_in : (p : Places) (bytes : ℕ) (stmt : Stmt) → makes_event (kind_of stmt) ≡ false → performs p bytes stmt ≡ named_here p bytes stmt
 here_in p bytes stmt e = ap (λ t. cond t (named_first p bytes stmt) (named_here p bytes stmt)) (looks_once p.block (kind_of stmt) e)
@@ -87,7 +87,7 @@ performs_ends alone s p bytes stmt y e i =
 pub opens_here : {T J : Type 0} (shown : Shown T J) (bytes : ℕ) (alone : Bool) (s : State) (procedure : Procedure (Turn Places)) (p : Places) (next : Next T J) (n : ℕ) → n < 2 ^ 64 → Leads alone false s procedure s (rest_next p 0 s.history next) → NextFits shown bytes next s → Opens shown bytes alone s procedure p next s n n
 opens_here shown bytes alone s procedure p next n short w k = record { read = 0; leads = w; spent = unspent next; fits = k; counted = unraised n short }
 
--- what took no call, or no memory for it
+-- a statement that made no call, or ran out of memory for it
 pub opens_if : {T J : Type 0} (shown : Shown T J) (bytes : ℕ) (alone : Bool) (s : State) (procedure : Procedure (Turn Places)) (p : Places) (result : Result (Next T J) NoMemory) (next : Next T J) (n : ℕ) → n < 2 ^ 64 → IfOk result (λ m. m ≡ next) → Leads alone false s procedure s (rest_next p 0 s.history next) → NextFits shown bytes next s → OpensTo shown bytes alone s procedure p result s n n
 opens_if shown bytes alone s procedure p (Ok m) next n short e w k = subst (λ x. Opens shown bytes alone s procedure p x s n n) (sym e) (opens_here shown bytes alone s procedure p next n short w k)
 opens_if shown bytes alone s procedure p (Err x) next n short e w k = (not_begun alone s procedure, omega arith)
@@ -135,9 +135,9 @@ carried shown bytes alone old p procedure next mid result new before between aft
       counted = counts_so result o.read (spent_next o.read next) k.total before between after short o.counted o.spent k.rose k.counted;
     }
 
--- ---- statements that look at no names
+-- ---- statements without names
 
--- what a statement is to do first, which goes with what was seen
+-- what a statement does first, which fits the state of the store
 pub record IsFirst {T J : Type 0} (shown : Shown T J) (bytes : ℕ) (s : State) (p : Places) (stmt : Stmt) (next : Next T J) : Type 0 where
   pub stands : StandsFor next p s (performs p bytes stmt)
   pub fits : NextFits shown bytes next s
@@ -183,7 +183,7 @@ module _ {T J : Type 0} (shown : Shown T J) (bytes : ℕ) (s : State) (p : Place
         taken = refl;
       }
 
-  -- the end of a block, of which a session holds what it has to
+  -- the end of a block of a session that fits its store
   pub closes_first : (o : Open T) → p.block ≡ block_of o → HoldsBlock shown.stands o s.history → IsFirst shown bytes s p stmts.Commit (end_of_block p.block)
   closes_first o e held = subst (λ b. IsFirst shown bytes s p stmts.Commit (end_of_block b)) (sym e) (of_block o e held)
     where

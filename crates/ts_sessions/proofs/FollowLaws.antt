@@ -1,4 +1,4 @@
--- What follows a store call leaves what the call left.
+-- What follows a store call is the rest of the statement after the call.
 use Rattle.std.proofs.Common.{◌≡◌, ℕ, ◌≤◌, ◌<◌, ◌^◌, Some, None, sym, refl, ap, ◌∙◌, subst, arith}
 use Rattle.std.specs.Prelude.{Result, Ok, Err, IfOk, IsTrue}
 use Rattle.ts_schema.specs.Counts.{raised_by}
@@ -27,7 +27,7 @@ use Rattle.ts_sessions.specs.Procedures.{Procedure, ends}
 use Rattle.ts_sessions.specs.Sessions.{ChangeHolds, FitsSnapped, IsTakenAs, places_after, read_by, taken_as}
 use Rattle.ts_sessions.specs.Step.{Taken, snapshot_taken}
 
--- what follows a call, by the one function that says so
+-- what follows a call, by the function that returns it
 quiet_follows_to : {T J : Type 0} (shown : Shown T J) (h : History) (like : CallOutcome T) (next : Result (Next T J) NoMemory) (needs : State → Type 0) (rows : ℕ → ℕ) (left_then : Places → ℕ → History → Procedure (Turn Places)) (n : ℕ) → IfOk next (λ x. FollowsReading shown x (meets_left like) needs rows left_then) → ((s : State) → s.history ≡ h → needs s) → ((p : Places) (read : ℕ) → left_then p read h ≡ left_after p read h like) → ((read : ℕ) → rows read ≡ spent_after read like) → FollowsTo shown h like (quiet next) n n
 quiet_follows_to shown h like (Ok x) needs rows left_then n w has same spent = record {
   read_then = rows;
@@ -45,7 +45,7 @@ quiet_follows {T} {J} shown h outcome like next result needs rows left_then n e 
     subst (λ (x : Result (Followed T J) NoMemory). FollowsTo shown h outcome x n n) (sym is)
     (subst (λ (o : CallOutcome T). FollowsTo shown h o (quiet next) n n) (sym e) (quiet_follows_to shown h like next needs rows left_then n w has same spent))
 
--- an aggregate that was found is refreshed
+-- the refresh of an aggregate that was found
 pub found_follows : {T J : Type 0} (shown : Shown T J) (h : History) (outcome : CallOutcome T) (asked : RefreshRequest) (made n : ℕ) → outcome ≡ outcomes.Found asked made → IsAsked h asked → IsFollowed shown h outcome (record { said = Some (said.View made); next = nexts.Deed (deeds.Cut asked after_cuts.Refresh) }) n n
 found_follows {T} {J} shown h outcome asked made n e asks =
     subst (λ (o : CallOutcome T). IsFollowed {T = T} {J = J} shown h o (record { said = Some (said.View made); next = nexts.Deed (deeds.Cut asked after_cuts.Refresh) }) n n) (sym e)
@@ -59,7 +59,7 @@ found_follows {T} {J} shown h outcome asked made n e asks =
       rose = omega arith;
     })
 
--- what follows a look
+-- what follows a read
 raised_twice : (from before after r : ℕ) → before ≡ raised_by 0 from → after ≡ raised_by r before → after ≡ raised_by r from
 raised_twice from before after r had counted = omega (arith, had, counted)
 
@@ -83,9 +83,9 @@ quiet_looks {T} {J} shown h outcome then shot next result before after short e i
     subst (λ (x : Result (Followed T J) NoMemory). FollowsTo shown h outcome x before after) (sym is)
     (subst (λ (o : CallOutcome T). FollowsTo shown h o (quiet next) before after) (sym e) (quiet_looks_to shown h then shot next before after short w))
 
--- ---- looks
+-- ---- reads
 
--- one line is said
+-- a reply of one line
 said_looks : {T J : Type 0} (shown : Shown T J) (h : History) (then : AfterLook) (line : Said) (change : Change T J) (n : ℕ) → n < 2 ^ 64 → look_meets then ≡ 1 → ((p : Places) → ends (turns (places_after change p) line) ≡ look_left p h then) → ((bytes : ℕ) → ChangeHolds shown bytes change h) → IsLooked shown h then (said_once line change) n n
 said_looks shown h then line change n short one same k = record {
   read = 0;

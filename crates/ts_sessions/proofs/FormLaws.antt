@@ -1,4 +1,4 @@
--- What is made of an answer.
+-- Forms of answers.
 use Rattle.std.proofs.Common.{◌≡◌, true, Some, sym, ap, ◌∙◌, subst}
 use Rattle.ts_model.specs.declared.queries.Answer.{Answer}
 use Rattle.ts_model.specs.declared.rosters.Roster.{Roster}
@@ -16,8 +16,8 @@ use Rattle.ts_sessions.specs.declared.queries.Plan.{Plan}
 use Rattle.ts_sessions.specs.Deeds.{FitsRollUp, FormFits, IsFormed}
 use Rattle.ts_sessions.proofs.CalendarLaws.{calendar_fits}
 
--- an answer to what a plan asks fits its form: that of an aggregate shows groups of its fold, and its stale ranges are
--- ranges of its whole buckets
+-- the answer to what a plan asks fits its form: that of an aggregate shows groups of its fold, and its stale ranges are
+-- of whole buckets
 pub form_fits : (R : Roster) (h : History) (form : Form) (plan : Plan) (a : Answer) → R ≡ roster h → all_consistent h ≡ true → IsFormed (roster h) plan form → a ≡ answer plan.query h → FormFits R form a
 form_fits R h forms.Own plan a r ok formed e = tt
 form_fits R h (forms.RolledUp upper) plan a r ok formed e = λ def i.

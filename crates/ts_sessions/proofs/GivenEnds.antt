@@ -1,4 +1,4 @@
--- What is given of a procedure of whose end something else is said.
+-- What is given of a procedure with a function of its result.
 use Rattle.std.proofs.Common.{◌≡◌, ℕ, suc, List, [], ◌∷◌, ◌++◌, Option, Some, None, inl, inr, refl}
 use Rattle.std.proofs.lemmas.Option.{none-some}
 use Rattle.ts_model.specs.declared.events.Event.{Event}

@@ -1,4 +1,4 @@
--- A reply names exactly the events that its line made.
+-- A reply names exactly the events that its line appended.
 use Rattle.std.proofs.Common.{◌≡◌, ℕ, suc, ◌≤◌, List, [], ◌∷◌, ◌++◌, Option, Some, None, inl, inr, sym, ap, ◌∙◌, subst, arith}
 use Rattle.std.specs.Prelude.{IfSome}
 use Rattle.std.proofs.lemmas.List.{map-append}
@@ -12,12 +12,12 @@ use Rattle.ts_sessions.proofs.MadeLaws.{Names, Lists, reply_named}
 use Rattle.ts_sessions.specs.Stopped.{ReplyStopsAt}
 use Rattle.ts_sessions.proofs.StopLaws.{EndsSo, Meets, meets_reply, position_at}
 
--- where a session looked or made its event last: at the end of a history that ends at a position
+-- the position of the last printed read or event, if it is known, is `at`, and the history ends there
 abbrev LastAt : History → ℕ → Option ℕ → Type 0
 LastAt h at before = IfSome before (λ p. (p ≡ at) × (position h ≡ at))
 
 module _ {A : Type 0} (M : List ℕ → A → Type 0) where
-  -- a procedure that only ends made no event more
+  -- a procedure that has ended appended no more events
   made_at_end : (P : A → Type 0) (all : History) (stop : Option ℕ) (at : ℕ) (so_far : List (ℕ × Event)) (h : History) (procedure : Procedure A) (looks : List (Option ℕ)) (last : ℕ) (given : List (ℕ × Event)) (y : A)
       → EndsSo P procedure → Names M (numbers so_far) h procedure → Gives all stop at so_far procedure looks last given y → M (numbers given) y
   made_at_end P all stop at so_far h (sees shown f) looks last given y t n g = absurd t
@@ -25,7 +25,7 @@ module _ {A : Type 0} (M : List ℕ → A → Type 0) where
   made_at_end P all stop at so_far h (ends a) [] last given y t n g = subst (λ es. M (numbers es) y) (sym g.1) (subst (M (numbers so_far)) (sym g.2) n)
   made_at_end P all stop at so_far h (ends a) (p ∷ ps) last given y t n g = absurd g
 
-  -- a procedure makes each event directly after a printed look or an event, whose position it knows
+  -- a procedure appends each event directly after a printed read or an event, whose position it knows
   made_given : (N : Option ℕ → A → Type 0) (all : History) (stop : Option ℕ) (at : ℕ) (so_far : List (ℕ × Event)) (h : History) (procedure : Procedure A) (looks : List (Option ℕ)) (last : ℕ) (given : List (ℕ × Event)) (y : A) (before : Option ℕ)
       → base_position all ≤ at → LastAt h at before → Meets N before procedure → Names M (numbers so_far) h procedure → Gives all stop at so_far procedure looks last given y → M (numbers given) y
   made_given N all stop at so_far h (sees shown f) [] last given y before low same t n g = absurd g

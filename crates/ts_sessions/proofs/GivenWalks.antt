@@ -1,4 +1,4 @@
--- What was walked is what a procedure gives over the history that was left.
+-- A walk is what the procedure gives over the history that it left.
 use Rattle.std.proofs.Common.{◌≡◌, ℕ, suc, ◌≤◌, Bool, true, false, List, [], ◌∷◌, ◌++◌, append_assoc, Option, Some, None, inl, inr, sym, refl, ap, ◌∙◌, subst, arith}
 use Rattle.std.specs.Prelude.{IsTrue, is_some, cond}
 use Rattle.std.specs.List.{AllByRecursion}
@@ -33,15 +33,15 @@ history_stays alone failed old (adds e next stop) new y s (inr (inl w)) = absurd
 history_stays alone failed old (adds e next stop) new y s (inr (inr w)) = absurd (true≢false (sym (subst (λ x. IsTrue (is_some x)) w.1.first.went_on s)))
 history_stays alone failed old (ends a) new y s w = ap (λ x. x.history) w.1
 
--- and it stopped where it began
+-- the store stopped at the position at which the walk began
 stopped_here : {A : Type 0} (alone failed : Bool) (old : State) (procedure : Procedure A) (new : State) (y : A) → IsTrue (stands_still old) → Walks alone failed old procedure new y → stop_of new ≡ Some (position old.history)
 stopped_here alone failed old procedure new y s w =
     let still : stands_still new ≡ true = (goes_walks alone failed old procedure new y w).still s in
     ap (λ t. cond t (Some (position new.history)) None) still ∙ ap (λ h. Some (position h)) (history_stays alone failed old procedure new y s w)
 
--- ---- looks and events
+-- ---- reads and events
 
--- a walk with what was so far: what the procedure gives over the history that it left
+-- a walk after earlier events: what the procedure gives over the history that it left
 record GivenSo {A : Type 0} (old new : State) (at : ℕ) (so_far : List (ℕ × Event)) (procedure : Procedure A) (y : A) : Type 0 where
   looks : List (Option ℕ)
   last : ℕ
@@ -57,7 +57,7 @@ ended_so alone failed old all stop at so_far (sees shown f) new y i w = absurd i
 ended_so alone failed old all stop at so_far (adds e next stopped) new y i w = absurd i
 ended_so alone failed old all stop at so_far (ends a) new y i w = (w.1, (refl, append-nil so_far, w.2))
 
--- after a look that is printed
+-- after a printed read
 printed_so : {A : Type 0} (alone failed : Bool) (old mid : State) (at : ℕ) (so_far : List (ℕ × Event)) (shown : History → Bool) (f : History → Procedure A) (new : State) (y : A) → at ≤ position old.history → Sees alone old mid → Begins mid.history new.history → shown mid.history ≡ true → GivenSo mid new (position mid.history) so_far (f mid.history) y → GivenSo old new at so_far (sees shown f) y
 printed_so alone failed old mid at so_far shown f new y le first on e g =
     let here : prefix new.history (position mid.history) ≡ mid.history = prefix_begins on in
@@ -72,7 +72,7 @@ printed_so alone failed old mid at so_far shown f new y le first on e g =
       within = g.within;
     }
 
--- after one that isn't
+-- after a read that isn't printed
 unprinted_so : {A : Type 0} (alone failed : Bool) (old mid : State) (at : ℕ) (so_far : List (ℕ × Event)) (shown : History → Bool) (f : History → Procedure A) (new : State) (y : A) → at ≤ position old.history → Sees alone old mid → (shown new.history ≡ false) × (f new.history ≡ f mid.history) → IsEnded (f mid.history) → Walks alone failed mid (f mid.history) new y → GivenSo old new at so_far (sees shown f) y
 unprinted_so alone failed old mid at so_far shown f new y le first later i w =
     let rest = ended_so alone failed mid new.history (stop_of new) at so_far (f mid.history) new y i w in
@@ -88,7 +88,7 @@ unprinted_so alone failed old mid at so_far shown f new y le first later i w =
       within = omega (arith, le, before, after);
     }
 
--- after an event that was made
+-- after an event that was appended
 made_so : {A : Type 0} (alone failed : Bool) (old mid : State) (at : ℕ) (so_far : List (ℕ × Event)) (e : Event) (next stop : Procedure A) (new : State) (y : A) → at ≡ position old.history → Makes e old mid → Begins mid.history new.history → GivenSo mid new (suc at) (so_far ++ (suc at, e) ∷ []) next y → GivenSo old new at so_far (adds e next stop) y
 made_so alone failed old mid at so_far e next stop new y here m on g =
     let longer : Begins (old.history ▸ e) new.history = subst (λ h. Begins h new.history) m.history on in
@@ -159,7 +159,7 @@ walks_are_given alone failed old at procedure new y s le w =
     let g = walk_so alone failed false old at [] procedure new y s le (λ f. absurd (true≢false (sym f))) w in
     record { looks = g.looks; last = g.last; given = g.more; gives = g.gives; seen = g.seen; made = g.made; within = g.within }
 
--- what was walked from a steady procedure on, it gives over each longer history too, also over one whose store stopped later
+-- a walk of a steady procedure is given over each longer history too, even if the store stopped later
 pub given_over : {A : Type 0} (alone failed : Bool) (all : History) (stop : Option ℕ) (at : ℕ) (old : State) (procedure : Procedure A) (new : State) (y : A) → Steady false old.history procedure → at ≤ position old.history → Begins new.history all → StopsLater (stop_of new) stop → Walks alone failed old procedure new y → IsGivenOver all stop old new at procedure y
 given_over alone failed all stop at old procedure new y s le on st w =
     let one = walks_are_given alone failed old at procedure new y s le w in

@@ -34,25 +34,25 @@ event_stays {g} k x (further {h} {e} b) is =
     let there = event_stays k x b is in
     event_further h e k (numbered h k x there) ∙ there
 
--- a position at or above that of what a history begins with is at or above its base
+-- a position at or above that of an earlier history is at or above its base
 base_low : {base all : History} {p : ℕ} → Begins base all → position base ≤ p → base_position all ≤ p
 base_low {base} {all} {p} b l =
     let same_base : base_position all ≡ base_position base = base_begins b in
     let low : base_position base ≤ position base = base_below base in
     omega arith
 
--- the last event of what a history begins with
+-- the last event of an earlier history
 pub last_event : {old h : History} (e : Event) → Begins (old ▸ e) h → event_at h (suc (position old)) ≡ Some e
 last_event {old} e b = event_stays (suc (position old)) e b (let itself : (suc (position old) == suc (position old)) ≡ true = grind (arith, nat_tests) in rw itself refl)
 
--- a history begins with whatever it began with before one of its positions
+-- a prefix of a history that is no shorter than an earlier history begins with it
 begins_within : {base all : History} (p : ℕ) → Begins base all → position base ≤ p → Begins base (prefix all p)
 begins_within {base} p same le = subst (λ h. Begins base h) (sym (prefix_end base p le)) same
 begins_within {base} p (further {h} {e} b) le = elim (nat_lt (position h) p) as (λ t. Begins base (cond t (h ▸ e) (prefix h p))) [ true ↦ further b | false ↦ begins_within p b le ]
 
 -- ---- steady procedures
 
--- what is steady from a history on is so from each longer one on
+-- a procedure that is steady from a history on is steady from each longer one on
 pub steady_later : {A : Type 0} (fresh : Bool) (base later : History) (procedure : Procedure A) → Begins base later → Steady fresh base procedure → Steady fresh later procedure
 steady_later fresh base later (sees shown f) on s = λ h b. s h (begins_trans on b)
 steady_later fresh base later (adds e next stop) on s = (s.0, steady_later true base later next on s.1, steady_later fresh base later stop on s.2)
@@ -65,20 +65,20 @@ ended_gives all longer stop later at so_far (adds e next stopped) looks last giv
 ended_gives all longer stop later at so_far (ends a) [] last given y i g = g
 ended_gives all longer stop later at so_far (ends a) (p ∷ ps) last given y i g = absurd g
 
--- it looks no more
+-- a procedure that has ended reads no more
 ended_looks : {A : Type 0} (all : History) (stop : Option ℕ) (at : ℕ) (so_far : List (ℕ × Event)) (procedure : Procedure A) (looks : List (Option ℕ)) (last : ℕ) (given : List (ℕ × Event)) (y : A) → IsEnded procedure → Gives all stop at so_far procedure looks last given y → printed_looks looks ≡ []
 ended_looks all stop at so_far (sees shown f) looks last given y i g = absurd i
 ended_looks all stop at so_far (adds e next stopped) looks last given y i g = absurd i
 ended_looks all stop at so_far (ends a) [] last given y i g = refl
 ended_looks all stop at so_far (ends a) (p ∷ ps) last given y i g = absurd g
 
--- ---- looks
+-- ---- reads
 
 pub all_above : (p q : ℕ) (ps : List ℕ) → p ≤ q → AllByRecursion (λ x. q ≤ x) ps → AllByRecursion (λ x. p ≤ x) ps
 all_above p q [] le a = tt
 all_above p q (x ∷ ps) le a = (omega (arith, le, a.0), all_above p q ps le a.1)
 
--- looks never fall
+-- read positions never fall
 pub looks_above : {A : Type 0} (all : History) (stop : Option ℕ) (at : ℕ) (so_far : List (ℕ × Event)) (procedure : Procedure A) (looks : List (Option ℕ)) (last : ℕ) (given : List (ℕ × Event)) (y : A) → Gives all stop at so_far procedure looks last given y → AllByRecursion (λ p. at ≤ p) (printed_looks looks)
 looks_above all stop at so_far (sees shown f) [] last given y g = absurd g
 looks_above all stop at so_far (sees shown f) (None ∷ ps) last given y g = looks_above all stop at so_far (f all) ps last given y g.1
@@ -125,7 +125,7 @@ raised : (at : ℕ) (looks : List ℕ) (k : ℕ) → suc at ≤ k → max (last_
 raised at [] k le = omega (arith, le)
 raised at (p ∷ ps) k le = refl
 
--- the last position, where no event so far is above the present one
+-- the last position, if no earlier event is above the present one
 record LastAt (from at : ℕ) (so_far : List (ℕ × Event)) (looks : List (Option ℕ)) (last : ℕ) (given : List (ℕ × Event)) : Type 0 where
   last_is : last ≡ max (last_of at (printed_looks looks)) (last_of from (numbers given))
   rises : last_of from (numbers so_far) ≤ last_of from (numbers given)
@@ -180,11 +180,11 @@ events_on : (all : History) (at last : ℕ) (es : List (ℕ × Event)) → AreEv
 events_on all at last [] a = a
 events_on all at last (e ∷ es) a = let up = a.0 in let on = events_on all e.0 last es a.2 in omega (arith, up, on)
 
--- the last position isn't before the one that was looked at
+-- the last position isn't before the one that was read first
 pub gives_on : {A : Type 0} (all : History) (stop : Option ℕ) (at : ℕ) (procedure : Procedure A) (looks : List (Option ℕ)) (last : ℕ) (given : List (ℕ × Event)) (y : A) → Gives all stop at [] procedure looks last given y → at ≤ last
 gives_on all stop at procedure looks last given y g = events_on all at last given (gives_events all stop at procedure looks last given y g)
 
--- ---- determined by printed looks
+-- ---- determined by printed reads
 
 first_same : (p q : ℕ) (ps qs : List ℕ) → q ∷ qs ≡ p ∷ ps → q ≡ p
 first_same p q ps qs e = cc
@@ -195,7 +195,7 @@ rest_same p q ps qs e = cc
 not_empty : (p : ℕ) (ps : List ℕ) → p ∷ ps ≡ [] → ⊥
 not_empty p ps e = absurd cc
 
--- no event comes where the store stopped
+-- no event comes after the position at which the store stopped
 none_after : (all : History) (stop : Option ℕ) (at : ℕ) (e : Event) → StopsAtEnd all stop → stop ≡ Some at → event_at all (suc at) ≡ Some e → ⊥
 none_after all None at e i s is = absurd (true≢false (sym (ap is_some s)))
 none_after all (Some p) at e i s is =

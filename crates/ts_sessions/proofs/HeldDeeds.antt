@@ -27,7 +27,7 @@ use Rattle.ts_sessions.proofs.SessionLaws.{carried_held, carried_places, forgott
 use Rattle.ts_sessions.proofs.StateLaws.{goes_seen}
 use Rattle.ts_sessions.proofs.WalkLaws.{not_begun}
 
--- ---- what is left is what was asked for
+-- ---- the rest is what was asked for
 
 pub leads_same : {A : Type 0} (alone : Bool) (s : State) (procedure : Procedure A) → Leads alone false s procedure s procedure
 leads_same alone s procedure = record { walks = λ f new y w. w; breaks = λ new b. b }
@@ -64,7 +64,7 @@ lost_leads alone s p c at lost = record {
 pub stands_lost : (p : Places) (number : Option ℤ) (c at : ℕ) (s : State) → refresh_meant p number ≡ Some c → held_for c p.held ≡ Some at → IsTrue (is_lost s c) → (alone : Bool) → Leads alone false s (finishes_meant p number) s (looks (λ h. ends (refuses p (unfinished_refusal (lost_code h) h (pending h c)))))
 stands_lost p number c at s e f lost alone = meant p number (Some c) alone s _ e (at_held p c (Some at) alone s _ f (lost_leads alone s p c at lost))
 
--- ---- what is taken from a session
+-- ---- jobs taken from a session
 
 module _ {T J : Type 0} (shown : Shown T J) (fits_on : (job : J) (g h : History) → Begins g h → shown.fits job g → shown.fits job h) (meant : Option ℕ) where
   kept_takes : (next : Next T J) (s t : Session T J) → taken_next next ≡ None → places_in t ≡ places_in s → ((g h : State) → HoldsOf shown s g → GoesOn g h → HoldsOf shown t h) → Takes shown meant next s t

@@ -1,4 +1,4 @@
--- What statements bring to their session, and what it holds after them.
+-- What a statement brings to its session, and what the session holds after it.
 use Rattle.std.proofs.Common.{◌≡◌, ℕ, ◌+◌, ◌≤◌, Bool, [], sym, refl, ap, subst, arith}
 use Rattle.std.specs.Prelude.{Result, Ok, Err, IsTrue}
 use Rattle.ts_schema.specs.declared.memory.NoMemory.{NoMemory}
@@ -33,7 +33,7 @@ empty_holds stands h = ((queues_are_sound.begins h, omega arith), refl)
 
 -- ---- after a change
 
--- there is room for what a change brings
+-- a queue can hold what a change adds to it
 pub change_fits : {T J : Type 0} (shown : Shown T J) (bytes : ℕ) (h : History) (c : Change T J) (b : Block) → bytes_queued b + bytes ≤ most_queued → ChangeHolds shown bytes c h → ChangeFits c b
 change_fits shown bytes h changes.Nothing b room k = tt
 change_fits shown bytes h (changes.Cuts c) b room k = tt
@@ -56,7 +56,7 @@ change_queues shown bytes h (changes.GivesUp c) p k = omega arith
 change_queues shown bytes h (changes.Enters o) p k = let e : bytes_queued (block_of o) ≡ 0 = k.1 in omega (arith, e)
 change_queues shown bytes h (changes.Queues op more) p k = let is : more ≡ bytes = k.1 in omega (arith, is, queued_push op more p.block)
 
--- outside a block nothing waits after it
+-- outside a block nothing is queued after the change
 pub change_quiet : {T J : Type 0} (shown : Shown T J) (bytes : ℕ) (h : History) (c : Change T J) (p : Places) → p.block ≡ none → ChangeHolds shown bytes c h → bytes_queued (places_after c p).block ≡ 0
 change_quiet shown bytes h changes.Nothing p out k = ap bytes_queued out
 change_quiet shown bytes h (changes.Cuts c) p out k = ap bytes_queued out
@@ -65,7 +65,7 @@ change_quiet shown bytes h (changes.GivesUp c) p out k = ap bytes_queued out
 change_quiet shown bytes h (changes.Enters o) p out k = k.1
 change_quiet shown bytes h (changes.Queues op more) p out k = ap (λ b. bytes_queued (queued_on op more b)) out
 
--- ---- going on
+-- ---- continuing
 
 pub goes_ends : {T J : Type 0} (alone : Bool) (old : State) (procedure : Procedure (Turn Places)) (p : Places) (read : ℕ) (result : Result (Completion T J) NoMemory) (new : State) → EndsAt alone old procedure p read result new → GoesOn old new
 goes_ends alone old procedure p read (Ok t) new e = goes_walks alone t.failed old procedure new (turn_of p read t) e

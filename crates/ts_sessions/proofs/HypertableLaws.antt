@@ -1,4 +1,4 @@
--- A hypertable stays one as a history grows, and what isn't refused changes only hypertables.
+-- A hypertable stays one as a history grows, and a statement that isn't refused changes only hypertables.
 use Rattle.std.proofs.Common.{◌≡◌, ◌∙◌, ℕ, true, List, [], ◌∷◌, Option, Some, None, refl, sym, ap}
 use Rattle.std.specs.Prelude.{IsTrue, is_some, option_and_then}
 use Rattle.std.proofs.lemmas.Bool.{true≢false, and_from, and_parts}

@@ -59,7 +59,7 @@ held_at c es s e = held_positions c es ∙ ap at_of e
 pub not_held : {J : Type 0} (c : ℕ) (es : List (ℕ × Snapshot J)) → held_for c es ≡ None → held_for c (positions es) ≡ None
 not_held c es e = held_positions c es ∙ ap at_of e
 
--- the positions stay where a job is taken
+-- the positions stay the same when a job is taken
 pub taken_positions : {J : Type 0} (c at : ℕ) (es : List (ℕ × Snapshot J)) (job : Option J) → held_for c es ≡ Some (record { at = at; job = job }) → positions (without_job c at es) ≡ positions es
 taken_positions c at [] job e = refl
 taken_positions c at (e ∷ es) job is =
@@ -71,7 +71,7 @@ taken_positions c at (e ∷ es) job is =
     at_same : {J : Type 0} (s t : Snapshot J) → Some s ≡ Some t → s.at ≡ t.at
     at_same s t e = cc
 
--- and where one is given up, the position is
+-- giving up a snapshot removes its position
 pub removed_positions : {J : Type 0} (c at : ℕ) (es : List (ℕ × Snapshot J)) → positions (remove_entry (is_at (nat_cmp c)) (without_job c at es)) ≡ remove_entry (is_at (nat_cmp c)) (positions es)
 removed_positions c at [] = refl
 removed_positions c at (e ∷ es) =
@@ -80,7 +80,7 @@ removed_positions c at (e ∷ es) =
       | false ↦ λ is. ap positions (cond-false (is_at (nat_cmp c) e.0) (without_job c at es) (e ∷ remove_entry (is_at (nat_cmp c)) (without_job c at es)) is) ∙ ap (λ x. (e.0, e.1.at) ∷ x) (removed_positions c at es)
     ] refl
 
--- ---- what is held
+-- ---- what a session holds
 
 pub held_holds : {T J : Type 0} (shown : Shown T J) (g : State) (c : ℕ) (es : List (ℕ × Snapshot J)) (s : Snapshot J) → HoldsSnapshots shown g es → held_for c es ≡ Some s → HoldsJob shown g c s.at s.job
 held_holds shown g c [] s k e = absurd cc
@@ -155,7 +155,7 @@ pub finish_lost : (alone failed : Bool) (old : State) (c at : ℕ) (new : State)
 finish_lost alone failed old c at new y k w =
     finish_lost_at alone failed w.mid c at (pending w.mid.history c) new y refl (known_stays c (goes_seen alone old w.mid w.first).begins k) w.rest
 
--- a finish of such a refresh is refused: it was finished before, or the store has stopped or its history is full
+-- the finish of such a refresh is refused: it was finished before, or the store has stopped or its history is full
 lost_waiting : (alone failed : Bool) (mid : State) (p : Places) (c at : ℕ) (room : Bool) (new : State) (y : Turn Places) → (stands_still mid || not room) ≡ true → failed ≡ false → new ≡ mid → y ≡ refuses p (refusal (cond room stopped history_full) mid.history 0) → Walks alone failed mid (ending_as (finish_turn p c at) (tries_at mid.history (cond room (makes (Built c at) (suc (position mid.history))) (refuses_call (refusal history_full mid.history 0))))) new y
 lost_waiting alone failed mid p c at true new y lost f n_is y_is = inl (still (stands_still mid) lost, (f, n_is, y_is))
   where

@@ -1,4 +1,4 @@
--- What comes next of a statement whose names were looked at, as an equation.
+-- What comes next in a statement whose names were resolved, as an equation.
 use Rattle.std.proofs.Common.{◌≡◌, ℕ, true, [], ◌∷◌, Option, Some, None, sym, refl, ap, ◌∙◌, subst}
 use Rattle.std.specs.Prelude.{Result, Ok, Err, IfOk, IsTrue}
 use Rattle.ts_schema.specs.declared.memory.NoMemory.{NoMemory}
@@ -39,7 +39,7 @@ pub says_line : {T J : Type 0} (result : Result (Next T J) NoMemory) (line like 
 says_line {T} {J} (Ok n) line like e is = e ∙ ap (λ l. said_once {T = T} {J = J} l changes.Nothing) is
 says_line (Err x) line like e is = tt
 
--- what was meant, by a snapshot's position and roster
+-- the resolved statement, by a snapshot's position and roster
 meant_is : {T J : Type 0} (h : History) (pos : ℕ) (r : Roster) (stmt : Stmt) (m like : Resolved T J) → pos ≡ position h → r ≡ roster h → m ≡ meant_by pos r stmt → m ≡ like → like ≡ meant_by (position h) (roster h) stmt
 meant_is h pos r stmt m like e f i is = sym is ∙ i ∙ ap (λ x. meant_by x r stmt) e ∙ ap (λ x. meant_by (position h) x stmt) f
 

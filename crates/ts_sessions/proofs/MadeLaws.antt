@@ -1,4 +1,4 @@
--- A reply names exactly the events that its line made.
+-- A reply names exactly the events that its line appended.
 use Rattle.std.proofs.Common.{◌≡◌, ℕ, suc, Bool, true, false, cond, nat_lt, List, [], ◌∷◌, ◌++◌, length, Option, Some, None, sym, refl, ap, ◌∙◌, subst, inl, inr}
 use Rattle.std.specs.Prelude.{Result, Ok, Err, ℤ, is_some, ⊤}
 use Rattle.std.proofs.lemmas.List.{append_assoc, append-nil}
@@ -46,13 +46,13 @@ use Rattle.ts_sessions.proofs.NamedLaws.{named_holds, performs_holds, read_holds
 
 -- ---- procedures
 
--- a procedure at a history, where these events were made before: what it ends with goes with the numbers of all that were made then
+-- a procedure at a history, after these events: its result names all events that were appended by its end
 abbrev pub Names : {A : Type 0} → (List ℕ → A → Type 0) → List ℕ → History → Procedure A → Type 0
 Names N made h (sees shown f) = (g : History) → Names N made g (f g)
 Names N made h (adds e next stop) = Names N (made ++ suc (position h) ∷ []) (h ▸ e) next × Names N made h stop
 Names N made h (ends a) = N made a
 
--- the events made after the first of these numbers, with the proof that the outcome names them
+-- the events after the first of these numbers, with the proof that the outcome names them
 record Made {A : Type 0} (N : List ℕ → A → Type 0) (base new : List ℕ) (y : A) : Type 0 where
   all : List ℕ
   is : new ≡ base ++ all
@@ -84,7 +84,7 @@ names_as N M made h procedure g n k = names_then N M made h procedure (λ a. end
 
 -- ---- calls
 
--- what a call says it made is what it made
+-- a call names exactly the events that it appended
 abbrev Numbers : {A : Type 0} → (A → List ℕ) → History → Act A → Type 0
 Numbers of h (refuses_call r) = ⊤
 Numbers of h (completes_call a) = of a ≡ []
@@ -94,11 +94,11 @@ abbrev made_of : {A : Type 0} → (A → List ℕ) → Result A Refusal → List
 made_of of (Ok a) = of a
 made_of of (Err r) = []
 
--- after the events made before, the outcome of a call names the rest
+-- after the earlier events, the outcome of a call names the rest
 abbrev Adds : {A : Type 0} → (A → List ℕ) → List ℕ → List ℕ → Result A Refusal → Type 0
 Adds of before all y = all ≡ before ++ made_of of y
 
--- after what was made before, the lines of a turn name the rest
+-- after the earlier events, the lines of a turn name the rest
 abbrev pub Lists : List ℕ → List ℕ → Turn Places → Type 0
 Lists before all t = all ≡ before ++ made_in t.said
 
@@ -121,7 +121,7 @@ abbrev of_cut : CutDone → List ℕ
 of_cut (CutMade c span) = c ∷ []
 of_cut (NothingDone at) = []
 
--- an event that is made, or refused at the end of a history
+-- an event that is appended, or refused at the end of a history
 made_numbers : {A : Type 0} (of : A → List ℕ) (h : History) (e : Event) (a : A) → of a ≡ suc (position h) ∷ [] → Numbers of h (act_of_event h e a)
 made_numbers of h e a is = elim (has_room h) as (λ t. Numbers of h (cond t (makes e a) (refuses_call (refusal history_full h 0)))) [ true ↦ is | false ↦ tt ]
 
@@ -152,7 +152,7 @@ pending_numbers c at h Unknown = tt
 finish_numbers : (c at : ℕ) (h : History) → Numbers one h (act_of_finish c at h)
 finish_numbers c at h = pending_numbers c at h (pending h c)
 
--- ---- what is said of one call
+-- ---- replies to one call
 
 reported_completes : (p : Places) (line : ℕ → Said) → ((k : ℕ) → made_by (line k) ≡ one k) → (y : Result ℕ Refusal) → made_in (turn_of_line p line y).said ≡ made_of one y
 reported_completes p line e (Ok k) = ap (λ l. l ++ []) (e k)
@@ -270,7 +270,7 @@ acts_named p bytes h actions.Rollback = given_up_completes p.block
 acts_named p bytes h (actions.Calendar table number unit at fold) = refl
 acts_named p bytes h (actions.Ask q) = refl
 
--- a statement that a read block lets pass makes no event, whatever history is shown to it
+-- a statement that a read block lets pass appends no event, whatever history it reads
 shown_named : (p : Places) (bytes : ℕ) (g h : History) (at : ℕ) (stmt : Stmt) → p.block ≡ reading at → refusal_reading (kind_of stmt) ≡ None → Names (Lists []) [] g (acts p bytes h (action_of (roster h) stmt))
 shown_named p bytes g h at (stmts.Table name cols) b e = absurd cc
 shown_named p bytes g h at (stmts.Hyper table col interval) b e = absurd cc
@@ -313,7 +313,7 @@ statement_named p bytes h stmt =
 read_named : (p : Places) (bytes : ℕ) (h : History) (read : Result (Stmt × Stream) Fault) → Names (Lists []) [] h (as_read p (passes_block p bytes) read)
 read_named p bytes h read = read_holds (Names (Lists []) [] h) p (passes_block p bytes) read (λ f. refl) (statement_named p bytes h)
 
--- a line made the events whose numbers its reply names, and no other
+-- a line appended the events whose numbers its reply names, and no others
 pub step_made : (alone failed : Bool) (old : State) (p : Places) (text : List ℕ) (skip : ℕ) (new : State) (y : Turn Places) → Walks alone failed old (step p text skip) new y → new.made ≡ old.made ++ made_in y.said
 step_made alone failed old p text skip new y w =
     let m = walks_made (Lists []) alone failed old (step p text skip) new y old.made [] (sym (append-nil old.made)) (read_named p (length text) old.history (statement (stream text skip))) w in
@@ -321,7 +321,7 @@ step_made alone failed old p text skip new y w =
 
 -- ---- replies
 
--- where a statement is looked at once, so does what its reply says
+-- so does the reply to a statement with one read
 reply_in_named : (p : Places) (bytes : ℕ) (h : History) (stmt : Stmt) → Names (Lists []) [] h (replies p bytes stmt)
 reply_in_named p bytes h stmt = unless_holds (Names (Lists []) [] h) p (block_refusal p.block (kind_of stmt)) (named_here p bytes stmt) (λ r e. refl) (λ pass. one_look p bytes h stmt pass)
 

@@ -1,4 +1,4 @@
--- Statements whose names are looked at: what is left is what was meant, and it goes with what was seen.
+-- Statements with names: the rest is what was resolved, and it fits the state of the store.
 use Rattle.std.proofs.Common.{◌≡◌, ℕ, ◌+◌, ◌<◌, ◌^◌, ◌++◌, Bool, true, false, ◌∷◌, [], Some, None, Option, sym, refl, ap, ◌∙◌, subst}
 use Rattle.std.specs.Prelude.{Result, IfOk, IsTrue, is_some}
 use Rattle.ts_schema.specs.declared.memory.NoMemory.{NoMemory}
@@ -47,14 +47,14 @@ use Rattle.ts_sessions.proofs.NameWalks.{least_stays}
 use Rattle.ts_sessions.proofs.SoundLaws.{kinds_agree}
 use Rattle.ts_sessions.proofs.WalkLaws.{not_begun}
 
--- ---- what is meant by a snapshot's names
+-- ---- statements resolved by the names of a snapshot
 
--- a plan can be asked
+-- a plan fits a roster
 pub record PlanFits (r : Roster) (plan : Plan) : Type 0 where
   pub formed : IsFormed r plan plan.form
   pub asks : IsTrue (can_ask r plan.query)
 
--- a statement of this kind means this by the names of a roster
+-- a statement of this kind resolves to this by the names of a roster
 abbrev pub IsMeant : {T J : Type 0} → Roster → StatementKind → Resolved T J → Type 0
 IsMeant r kind (meant.Refused q) = Unit {0}
 IsMeant r kind (meant.Shows plan) = PlanFits r plan
@@ -78,15 +78,15 @@ module _ {T J : Type 0} (shown : Shown T J) (bytes : ℕ) (stmt : Stmt) (h : His
   read_meant uppers.NotUpper e = checked_meant (refusal_of (position h) (roster h) stmt) refl
   read_meant uppers.NoMemory e = checked_meant (refusal_of (position h) (roster h) stmt) refl
 
-  -- by a snapshot's position and roster
+  -- the same by a snapshot's position and roster
   is_meant : (pos : ℕ) (r : Roster) (m : Resolved T J) → pos ≡ position h → r ≡ roster h → m ≡ meant_by pos r stmt → IsMeant (roster h) (kind_of stmt) m
   is_meant pos r m e f i = subst (IsMeant (roster h) (kind_of stmt)) (sym (i ∙ ap (λ x. meant_by x r stmt) e ∙ ap (λ x. meant_by (position h) x stmt) f)) (read_meant (upper_read (position h) (roster h) stmt) refl)
 
-  -- a plan can be asked by each history of the snapshot
+  -- a plan fits each history of the snapshot
   pub plan_fits : (g : History) (pos : ℕ) (r : Roster) (m : Resolved T J) (plan : Plan) → pos ≡ position h → r ≡ roster h → r ≡ roster g → m ≡ meant_by pos r stmt → m ≡ meant.Shows plan → PlanFits (roster g) plan
   plan_fits g pos r m plan e f k i is = subst (λ x. PlanFits x plan) (sym f ∙ k) (subst (IsMeant (roster h) (kind_of stmt)) is (is_meant pos r m e f i))
 
-  -- an operation is meant where the block lets changes pass
+  -- a statement resolves to an operation only if the block lets changes pass
   pub change_passes : (b : Block) (pos : ℕ) (r : Roster) (m : Resolved T J) (op : Op) → block_refusal b (kind_of stmt) ≡ None → pos ≡ position h → r ≡ roster h → m ≡ meant_by pos r stmt → m ≡ meant.Changes op → block_refusal b kinds.Changes ≡ None
   change_passes b pos r m op pass e f i is =
       let kind : kind_of stmt ≡ kinds.Changes = subst (IsMeant (roster h) (kind_of stmt)) is (is_meant pos r m e f i) in
@@ -94,14 +94,14 @@ module _ {T J : Type 0} (shown : Shown T J) (bytes : ℕ) (stmt : Stmt) (h : His
 
 -- ---- store calls and operations
 
--- what is meant can be done
+-- a resolved statement fits the state of the store
 abbrev pub MeantFits : {T J : Type 0} → Shown T J → Block → ℕ → State → Resolved T J → Type 0
 MeantFits shown b bytes s (meant.Refused q) = Unit {0}
 MeantFits shown b bytes s (meant.Shows plan) = Unit {0}
 MeantFits shown b bytes s (meant.Changes op) = IsOperation s.history bytes op
 MeantFits shown b bytes s (meant.Does deed) = DeedFits shown deed s × (b ≡ none)
 
--- by an action that the block of its session lets pass
+-- an action that the block of its session lets pass
 asked_fits : {T J : Type 0} (shown : Shown T J) (b : Block) (bytes : ℕ) (s : State) (a : Action) → looks_at_names (kind_of_action a) ≡ true → block_refusal b (kind_of_action a) ≡ None → IsSound (read_at b s.history) bytes a → MeantFits shown b bytes s (asked_by (roster (read_at b s.history)) a)
 asked_fits shown none bytes s (actions.Table def) look pass k = (k.is_sound, refl)
 asked_fits shown none bytes s (actions.Hyper t hyper) look pass k = (k.is_sound, refl)
@@ -130,16 +130,16 @@ read_fits shown b bytes s stmt (uppers.Refused q) look pass sound ok e = tt
 read_fits shown b bytes s stmt uppers.NotUpper look pass sound ok e = checked_fits shown b bytes s stmt (refusal_of (position (read_at b s.history)) (roster (read_at b s.history)) stmt) look pass sound ok refl
 read_fits shown b bytes s stmt uppers.NoMemory look pass sound ok e = checked_fits shown b bytes s stmt (refusal_of (position (read_at b s.history)) (roster (read_at b s.history)) stmt) look pass sound ok refl
 
--- by a snapshot's position and roster
+-- the same by a snapshot's position and roster
 pub meant_fits : {T J : Type 0} (shown : Shown T J) (b : Block) (bytes : ℕ) (s : State) (stmt : Stmt) (pos : ℕ) (r : Roster) (m : Resolved T J) → IsTrue (looks_at_names (kind_of stmt)) → block_refusal b (kind_of stmt) ≡ None → AsksSoundly bytes stmt → IsTrue (all_allowed (read_at b s.history)) → pos ≡ position (read_at b s.history) → r ≡ roster (read_at b s.history) → m ≡ meant_by pos r stmt → MeantFits shown b bytes s m
 meant_fits shown b bytes s stmt pos r m look pass sound ok e f i =
     let h = read_at b s.history in
     subst (MeantFits shown b bytes s) (sym (i ∙ ap (λ x. meant_by x r stmt) e ∙ ap (λ x. meant_by (position h) x stmt) f))
     (read_fits shown b bytes s stmt (upper_read (position h) (roster h) stmt) look pass sound ok refl)
 
--- ---- what is left is what was meant
+-- ---- the rest is the resolved statement
 
--- what makes no event directly after the look, or makes it there
+-- an action that appends no event directly after the read, or appends it there
 acts_left : {T J : Type 0} (shown : Shown T J) (p : Places) (bytes : ℕ) (b : Block) (h : History) (a : Action) → looks_at_names (kind_of_action a) ≡ true → block_refusal b (kind_of_action a) ≡ None → (b ≡ none → makes_event (kind_of_action a) ≡ false) → acts p bytes h a ≡ meant_left {T = T} {J = J} p bytes b h (asked_by (roster h) a)
 acts_left shown p bytes b h (actions.Ask q) look pass k = refl
 acts_left shown p bytes b h (actions.Calendar t number unit at fold) look pass k = refl
@@ -163,7 +163,7 @@ named_left {T} {J} shown p bytes b h stmt look pass k = read_left (upper_read (p
     read_left uppers.NotUpper = checked_left (refusal_of (position h) (roster h) stmt)
     read_left uppers.NoMemory = checked_left (refusal_of (position h) (roster h) stmt)
 
--- an event outside a block, with a separate look
+-- an event outside a block, with a separate read
 event_left : {T J : Type 0} (shown : Shown T J) (alone : Bool) (s : State) (p : Places) (bytes : ℕ) (a : Action) → makes_event (kind_of_action a) ≡ true → IsSound s.history bytes a → Leads alone false s (looks (λ h. acts p bytes h a)) s (meant_left {T = T} {J = J} p bytes none s.history (asked_by (roster s.history) a))
 event_left shown alone s p bytes (actions.Table def) e k = leads_same alone s (looks (λ h. acts p bytes h (actions.Table def)))
 event_left shown alone s p bytes (actions.Hyper t hyper) e k = leads_same alone s (looks (λ h. acts p bytes h (actions.Hyper t hyper)))
@@ -205,7 +205,7 @@ looked_leads {T} {J} shown alone old mid p bytes stmt look pass sound ok s =
         subst (λ b. Leads alone false old (named_first p bytes stmt) mid (meant_left {T = T} {J = J} p bytes b (read_at b mid.history) (meant_by (position (read_at b mid.history)) (roster (read_at b mid.history)) stmt))) (sym outside.0)
         (first_leads shown alone old mid p bytes stmt outside.1 sound (subst (λ b. IsTrue (all_allowed (read_at b mid.history))) outside.0 ok) s)
 
--- no memory for the snapshot
+-- out of memory for the snapshot
 pub looked_broken : (alone : Bool) (old mid : State) (p : Places) (bytes : ℕ) (stmt : Stmt) → Sees alone old mid → Breaks alone old (performs p bytes stmt) mid
 looked_broken alone old mid p bytes stmt s =
     performs_holds (λ d. Breaks alone old d mid) p bytes stmt
@@ -214,7 +214,7 @@ looked_broken alone old mid p bytes stmt s =
 
 -- ---- what comes next
 
--- what is left of what was meant, by a snapshot's position and roster
+-- the rest of a resolved statement, by a snapshot's position and roster
 pub seen_opens : {T J : Type 0} (shown : Shown T J) (bytes : ℕ) (alone : Bool) (s : State) (p : Places) (stmt : Stmt) (h : History) (pos : ℕ) (r : Roster) (m like : Resolved T J) (result : Result (Next T J) NoMemory) (before after : ℕ) → pos ≡ position h → r ≡ roster h → m ≡ meant_by pos r stmt → m ≡ like → OpensTo shown bytes alone s (meant_left p bytes p.block h like) p result s before after → OpensTo shown bytes alone s (left_of shown p bytes stmt h) p result s before after
 seen_opens shown bytes alone s p stmt h pos r m like result before after e f i is o =
     opens_as shown bytes alone s (left_of shown p bytes stmt h) (meant_left p bytes p.block h like) p result s before after

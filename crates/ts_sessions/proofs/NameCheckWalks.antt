@@ -1,4 +1,4 @@
--- Looks by a call that only looks, and snapshots for refreshes.
+-- Reads by calls that only read, and snapshots for refreshes.
 use Rattle.std.proofs.Common.{◌≡◌, ℕ, ◌<◌, ◌^◌, Bool, true, false, sym, refl, ap, ◌∙◌, arith}
 use Rattle.std.specs.Prelude.{Result, Ok, Err}
 use Rattle.ts_schema.specs.declared.memory.NoMemory.{NoMemory}
@@ -19,14 +19,14 @@ use Rattle.ts_sessions.specs.Walks.{Walks, Breaks}
 use Rattle.ts_sessions.proofs.StateLaws.{sees_looked}
 use Rattle.ts_sessions.proofs.WalkLaws.{not_begun}
 
--- a look by a call that only looks, and the rest of the procedure
+-- a read by a call that only reads, and the rest of the procedure
 pub looked_walks : {A : Type 0} (alone failed : Bool) (old : State) (Reports : History → Type 0) (mid : State) (shown : History → Bool) (f : History → Procedure A) (new : State) (y : A) → Looked alone old Reports mid → Walks alone failed mid (f mid.history) new y → Walks alone failed old (sees shown f) new y
 looked_walks alone failed old Reports mid shown f new y l w = record { mid = mid; first = sees_looked alone old Reports mid l; rest = w }
 
 pub looked_breaks : {A : Type 0} (alone : Bool) (old : State) (Reports : History → Type 0) (mid : State) (shown : History → Bool) (f : History → Procedure A) (new : State) → Looked alone old Reports mid → Breaks alone mid (f mid.history) new → Breaks alone old (sees shown f) new
 looked_breaks alone old Reports mid shown f new l b = record { mid = mid; first = sees_looked alone old Reports mid l; rest = b }
 
--- a look after which nothing more came
+-- a read after which nothing follows
 pub looked_only : {A : Type 0} (alone : Bool) (old : State) (Reports : History → Type 0) (mid : State) (shown : History → Bool) (f : History → Procedure A) → Looked alone old Reports mid → Breaks alone old (sees shown f) mid
 looked_only alone old Reports mid shown f l = looked_breaks alone old Reports mid shown f mid l (not_begun alone mid (f mid.history))
 

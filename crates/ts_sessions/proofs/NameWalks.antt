@@ -1,4 +1,4 @@
--- What is looked at by names and stays.
+-- Resolved names that stay the same.
 use Rattle.std.proofs.Common.{◌≡◌, ℕ, Option, Some, None, sym, refl, ap, ◌∙◌}
 use Rattle.std.specs.Prelude.{IsSome}
 use Rattle.std.proofs.lemmas.Bool.{true≢false}
@@ -10,7 +10,7 @@ use Rattle.ts_model.specs.Roster.{roster, view_of}
 use Rattle.ts_model.proofs.RosterLaws.{relations_stay}
 use Rattle.ts_sessions.specs.Step.{least_start}
 
--- the first bucket of an aggregate starts where it did
+-- the first bucket of an aggregate starts at the same time as before
 start_stays : (def : ViewDef) (o : Option ViewDef) → KeepsView def o → least_start o ≡ least_start (Some def)
 start_stays def o k = ap least_start k.there
 

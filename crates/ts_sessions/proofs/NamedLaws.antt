@@ -1,4 +1,4 @@
--- What a statement asks of an aggregate: one that makes an event asks nothing of it.
+-- What a statement asks of an aggregate: one with an event asks nothing of it.
 use Rattle.std.proofs.Common.{◌≡◌, ℕ, Bool, true, false, cond, Option, Some, None, sym, refl, ap, subst}
 use Rattle.std.specs.Prelude.{Result, Ok, Err}
 use Rattle.std.proofs.lemmas.Bool.{true≢false}
@@ -20,7 +20,7 @@ use Rattle.ts_sessions.specs.Places.{Block, none, reading, writing, Places, Turn
 use Rattle.ts_sessions.specs.Procedures.{Procedure, ends}
 use Rattle.ts_sessions.specs.Step.{acts, answers, as_read, kind_of, looks_twice, makes_event, misread, turn_of_names, named_as, named_first, named_here, performs, roll_up_plan, unless}
 
--- a statement that makes an event is no roll-up
+-- a statement with an event isn't a roll-up
 pub not_upper : (pos : ℕ) (r : Roster) (stmt : Stmt) → makes_event (kind_of stmt) ≡ true → upper_read pos r stmt ≡ uppers.NotUpper
 not_upper pos r (stmts.Table name cols) e = refl
 not_upper pos r (stmts.Hyper table col interval) e = refl
@@ -45,19 +45,19 @@ not_upper pos r (stmts.Rows table tests) e = refl
 pub event_named : (p : Places) (bytes : ℕ) (h : History) (stmt : Stmt) → makes_event (kind_of stmt) ≡ true → turn_of_names p bytes stmt h ≡ unless p (refusal_of (position h) (roster h) stmt) (acts p bytes h (action_of (roster h) stmt))
 event_named p bytes h stmt e = ap (named_as p bytes h stmt) (not_upper (position h) (roster h) stmt e)
 
--- ---- what holds of the parts of a procedure holds of it
+-- ---- what is true of the parts of a procedure is true of it
 
--- of a procedure, unless it is refused
+-- a procedure, unless it is refused
 pub unless_holds : (C : Procedure (Turn Places) → Type 0) (p : Places) (o : Option Refusal) (procedure : Procedure (Turn Places)) → ((r : Refusal) → o ≡ Some r → C (ends (refuses p r))) → (o ≡ None → C procedure) → C (unless p o procedure)
 unless_holds C p (Some r) procedure refused passed = refused r refl
 unless_holds C p None procedure refused passed = passed refl
 
--- of what was read
+-- a statement that was read
 pub read_holds : (C : Procedure (Turn Places) → Type 0) (p : Places) (does : Stmt → Procedure (Turn Places)) (read : Result (Stmt × Stream) Fault) → ((f : Fault) → C (ends (refuses p (misread f)))) → ((stmt : Stmt) → C (does stmt)) → C (as_read p does read)
 read_holds C p does (Ok read) misread statement = statement read.0
 read_holds C p does (Err f) misread statement = misread f
 
--- what looks twice is outside a block and makes an event
+-- a statement that reads twice is outside a block and appends an event
 pub twice_outside : (b : Block) (kind : StatementKind) → looks_twice b kind ≡ true → (b ≡ none) × (makes_event kind ≡ true)
 twice_outside none kind e = (refl, e)
 twice_outside (writing ops n) kind e = absurd (true≢false (sym e))
@@ -71,7 +71,7 @@ looks_once none kind e = e
 looks_once (writing ops n) kind e = refl
 looks_once (reading at) kind e = refl
 
--- of a statement that a block lets pass
+-- a statement that a block lets pass
 pub performs_holds : (C : Procedure (Turn Places) → Type 0) (p : Places) (bytes : ℕ) (stmt : Stmt) → (looks_twice p.block (kind_of stmt) ≡ true → C (named_first p bytes stmt)) → (looks_twice p.block (kind_of stmt) ≡ false → C (named_here p bytes stmt)) → C (performs p bytes stmt)
 performs_holds C p bytes stmt first here = by (looks_twice p.block (kind_of stmt)) refl
   where
@@ -79,7 +79,7 @@ performs_holds C p bytes stmt first here = by (looks_twice p.block (kind_of stmt
     by true e = first e
     by false e = here e
 
--- of a statement whose names are looked at: a roll-up is refused or answered, and any other is refused or acts
+-- a statement whose names are resolved: a roll-up is refused or answered, and any other is refused or acts
 module _ (C : Procedure (Turn Places) → Type 0) (p : Places) (bytes : ℕ) (h : History) (stmt : Stmt) (rolled : (r : Refusal) → upper_read (position h) (roster h) stmt ≡ uppers.Refused r → C (ends (refuses p r))) (shown : (plan : Plan) → C (ends (answers p h plan))) (refused : (r : Refusal) → refusal_of (position h) (roster h) stmt ≡ Some r → C (ends (refuses p r))) (passed : refusal_of (position h) (roster h) stmt ≡ None → C (acts p bytes h (action_of (roster h) stmt))) where
   checked_holds : C (unless p (refusal_of (position h) (roster h) stmt) (acts p bytes h (action_of (roster h) stmt)))
   checked_holds = unless_holds C p (refusal_of (position h) (roster h) stmt) (acts p bytes h (action_of (roster h) stmt)) refused passed

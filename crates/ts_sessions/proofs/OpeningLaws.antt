@@ -1,4 +1,4 @@
--- What a statement does first, by what its opening is.
+-- What a statement does first, by its opening.
 use Rattle.std.proofs.Common.{◌≡◌, true, Some, None, Option, ap, refl, subst}
 use Rattle.std.specs.Prelude.{ℤ}
 use Rattle.std.proofs.lemmas.Option.{same_Some}
@@ -18,11 +18,11 @@ use Rattle.ts_sessions.specs.Places.{Places}
 use Rattle.ts_sessions.specs.Step.{block_refusal, kind_of}
 use Rattle.ts_sessions.proofs.FirstLaws.{IsFirst, begins_first, closes_first, gives_up_first, reads_first, snaps_first}
 
--- what comes next is what comes next
+-- equal openings have equal next steps
 pub same_next : {T J : Type 0} (a b : Next T J) → openings.Next a ≡ openings.Next b → a ≡ b
 same_next a b e = cc
 
--- a statement that looks at no names, in its block
+-- a statement without names, in its block
 pub next_first : {T J : Type 0} (shown : Shown T J) (bytes : ℕ) (s : State) (p : Places) (stmt : Stmt) (next : Next T J) (o : Open T) → opening_of p stmt ≡ openings.Next next → block_refusal p.block (kind_of stmt) ≡ None → p.block ≡ block_of o → HoldsBlock shown.stands o s.history → IsFirst shown bytes s p stmt next
 next_first {T} {J} shown bytes s p (stmts.Snap number) next o e pass is held = subst (λ (n : Next T J). IsFirst shown bytes s p (stmts.Snap number) n) (same_next _ next e) (snaps_first shown bytes s p number pass)
 next_first {T} {J} shown bytes s p stmts.Begin next o e pass is held = subst (λ (n : Next T J). IsFirst shown bytes s p stmts.Begin n) (same_next _ next e) (begins_first shown bytes s p)
@@ -31,7 +31,7 @@ next_first {T} {J} shown bytes s p stmts.Commit next o e pass is held = subst (�
 next_first {T} {J} shown bytes s p stmts.Rollback next o e pass is held = subst (λ (n : Next T J). IsFirst shown bytes s p stmts.Rollback n) (same_next _ next e) (gives_up_first shown bytes s p)
 next_first shown bytes s p other next o e pass is held = absurd cc
 
--- one whose names are looked at
+-- a statement with names
 pub names_first : {T J : Type 0} (p : Places) (stmt : Stmt) → opening_of {T = T} {J = J} p stmt ≡ openings.Names → looks_at_names (kind_of stmt) ≡ true
 names_first p (stmts.Snap number) e = absurd cc
 names_first p (stmts.Finish number) e = absurd cc
@@ -41,7 +41,7 @@ names_first p stmts.Commit e = absurd cc
 names_first p stmts.Rollback e = absurd cc
 names_first p other e = refl
 
--- and one that finishes a refresh
+-- a statement that finishes a refresh
 abbrev number_in : {T J : Type 0} → Opening T J → Option (Option ℤ)
 number_in (openings.Finish number) = Some number
 number_in other = None

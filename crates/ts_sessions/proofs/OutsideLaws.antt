@@ -1,4 +1,4 @@
--- A statement that makes an event outside a block leaves its session there.
+-- A statement that appends an event outside a block leaves its session outside.
 use Rattle.std.proofs.Common.{◌≡◌, ℕ, true, [], ◌∷◌, length, sym, ap, ◌∙◌, subst}
 use Rattle.std.specs.Prelude.{Result, Ok, Err}
 use Rattle.std.proofs.lemmas.Bool.{true≢false}
@@ -27,11 +27,11 @@ abbrev IsOutside : Block → Type 0
 IsOutside b = b ≡ none
 
 module _ (all : History) where
-  -- and after a turn
+  -- the session is outside a block after a turn
   abbrev IsOut : Turn Places → Type 0
   IsOut y = InTurn IsOutside all y
 
-  -- the places before it
+  -- the state before it
   module _ (p : Places) (out : p.block ≡ none) where
     out_acts : (bytes : ℕ) (h : History) (a : Action) → makes_event (kind_of_action a) ≡ true → EndsBy IsOut all (acts p bytes h a)
     out_acts bytes h (actions.Table def) e = one_by IsOut all h (making_table def h) (turn_of_line p said.Table) (by_reported IsOutside all p out said.Table)

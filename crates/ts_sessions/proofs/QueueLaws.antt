@@ -1,4 +1,4 @@
--- A queue that is seen on top of a history.
+-- A queue on top of a history.
 use Rattle.std.proofs.Common.{◌≡◌, ℕ, suc, ◌≤◌, ◌∙◌, ap, true, false, cond, List, [], ◌∷◌, length, Option, Some, None, sym, refl, subst, arith}
 use Rattle.std.specs.Prelude.{◌&&◌, nat_lt, IsTrue}
 use Rattle.std.proofs.lemmas.Bool.{and_from}
@@ -39,7 +39,7 @@ pub queue_consistent : (ops : List Op) (h : History) → all_allowed h ≡ true 
 queue_consistent [] h ok fits = consistent_of h ok
 queue_consistent (op ∷ ops) h ok fits = and_from _ _ (consistent_of h ok) fits
 
--- what can be committed at one history of a snapshot can be at each
+-- a queue that can be committed at one history of a snapshot can be committed at each
 pub fits_each : (R : Roster) (ops : List Op) (g h : History) → R ≡ roster g → R ≡ roster h → QueueFits ops g → QueueFits ops h
 fits_each R [] g h a b fits = tt
 fits_each R (op ∷ ops) g h a b fits =
@@ -54,13 +54,13 @@ queue_fits h bytes (op ∷ ops) few q =
     let may = queues_are_sound.commits h bytes (op ∷ ops) q (omega arith) few in
     and_from _ _ may.is_sound may.is_timely
 
--- what waits in a block can be committed at a history that the block goes with
+-- the queue of a block can be committed at a history that the block fits
 pub block_fits : {T : Type 0} (stands : T → History → Type 0) (b : Open T) (h : History) → HoldsBlock stands b h → QueueFits (queue_in (block_of b)) h
 block_fits stands opens.Nothing h k = tt
 block_fits stands (opens.Write queue) h k = queue_fits h queue.bytes queue.ops k.1 k.0
 block_fits stands (opens.Read at shot) h k = tt
 
--- ---- what is shown
+-- ---- what a query shows
 
 -- by computation, whether anything is queued or not
 pub queries_show_the_queue : QueriesShowTheQueue
@@ -69,7 +69,7 @@ queries_show_the_queue p h (op ∷ ops) bytes plan = record { answers = refl; re
 
 -- ---- other sessions
 
--- the places of a session, beside another that has any
+-- the state of a session, beside another session with any state
 other_places : {P : Type 0} (other name : List ℕ) (p q : P) (sessions : List (List ℕ × P)) → same_name other name ≡ false → places_of name (with_places other p sessions) ≡ places_of name (with_places other q sessions)
 other_places other name p q [] e = rw e refl
 other_places other name p q (entry ∷ sessions) e =
@@ -86,7 +86,7 @@ as_many other p q (entry ∷ sessions) =
       | false ↦ ap suc (as_many other p q sessions)
     ]
 
--- what is written depends on the history, on the places of the session, and on how many sessions there are
+-- the text written depends on the history, on the state of the session, and on the number of sessions
 abbrev written_by : (h : History) (name text : List ℕ) (skip many : ℕ) → Option Places → List ℕ
 written_by h name text skip many (Some p) = text_of name (end_of_walk (step p text skip) h).said
 written_by h name text skip many None = cond (nat_lt many most_sessions) (text_of name (end_of_walk (step no_places text skip) h).said) (reply_text name (said.Fault (bare too_many_sessions)))

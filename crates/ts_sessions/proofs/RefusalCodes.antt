@@ -1,4 +1,4 @@
--- The checks of a statement refuse it with the position of the look, and never because the store has stopped.
+-- The checks of a statement refuse it with the read position, and never because the store has stopped.
 use Rattle.std.proofs.Common.{◌≡◌, ℕ, suc, ◌+◌, ◌<◌, ◌==◌, Bool, true, false, List, [], ◌∷◌, ◌++◌, length, Option, Some, None, refl, arith}
 use Rattle.std.specs.Prelude.{ℤ, not, nat_le, is_none, is_some, ◌&&◌, ⊤}
 use Rattle.std.proofs.lemmas.Bool.{and_parts, eqb-false, not-true}
@@ -29,11 +29,11 @@ use Rattle.stmt_check.specs.Rows.{insert_refusal, list_refusal, list_refusal_of,
 use Rattle.stmt_check.specs.Tables.{columns_refusal, hyper_refusal, is_among, is_column, is_interval}
 use Rattle.ts_sessions.specs.Looks.{shows_position}
 
--- a number of a refusal that isn't E24
+-- a refusal code other than E24
 abbrev pub IsOther : ℕ → Type 0
 IsOther code = code ≡ stopped → ⊥
 
--- a refusal, if there is one, has another number
+-- a refusal, if there is one, has another code
 abbrev pub Other : Option Refusal → Type 0
 Other None = ⊤
 Other (Some r) = IsOther r.code
@@ -41,18 +41,18 @@ Other (Some r) = IsOther r.code
 pub below : (code : ℕ) → code < stopped → IsOther code
 below code lt e = absurd (omega (arith, lt, e))
 
--- a refusal that results from a look at a position: it isn't E24, and its text has the position
+-- a refusal at a read position: it isn't E24, and its text has the position
 pub record IsLooked (pos : ℕ) (r : Refusal) : Type 0 where
   pub other : IsOther r.code
   pub shown : shows_position r.code ≡ true
   pub at : r.pos ≡ pos
 
--- a refusal, if there is one, results from a look at this position
+-- a refusal, if there is one, is at this read position
 abbrev pub Looked : ℕ → Option Refusal → Type 0
 Looked pos None = ⊤
 Looked pos (Some r) = IsLooked pos r
 
--- such a refusal has one of these numbers
+-- such a refusal has one of these codes
 abbrev pub is_looked : ℕ → Bool
 is_looked code = shows_position code && not (code == stopped)
 

@@ -1,4 +1,4 @@
--- Names looked at before an event are as they are at the event, so a step is what the reply to its line says.
+-- Names resolved before an event are the same at the event, so a step is what the reply to its line says.
 use Rattle.std.proofs.Common.{◌≡◌, ℕ, suc, Bool, true, false, not, cond, nat_lt, List, length, Option, Some, None, sym, refl, ap, ◌∙◌, subst, arith}
 use Rattle.std.specs.Prelude.{Result, Ok, Err, nat_le, ℤ, is_some, unwrap_or, option_and_then}
 use Rattle.std.proofs.lemmas.Bool.{true≢false}
@@ -49,7 +49,8 @@ use Rattle.ts_sessions.proofs.WalkLaws.{goes_walks}
 pub stays_named : (p : Places) (bytes : ℕ) (stmt : Stmt) (g h : History) → makes_event (kind_of stmt) ≡ true → Stays g h stmt → acts p bytes h (action_of (roster g) stmt) ≡ turn_of_names p bytes stmt h
 stays_named p bytes stmt g h makes s = ap (acts p bytes h) (sym s.action) ∙ ap (λ o. unless p o (acts p bytes h (action_of (roster h) stmt))) (sym (s.passes (position h))) ∙ sym (event_named p bytes h stmt makes)
 
--- a relation to be made whose name was taken meanwhile, or that is one too many now: its call and the check of its name refuse it alike
+-- a new relation whose name was taken meanwhile, or that is one too many now: its call and the check of its name refuse
+-- it alike
 new_or_refused : (p : Places) (bytes : ℕ) (h : History) (stmt : Stmt) (taken few : Bool) (there : Bool → Bool → Procedure (Turn Places)) → there taken few ≡ acts p bytes h (action_of (roster h) stmt) → ((b : Bool) → there true b ≡ ends (refuses p (refusal name_taken h 0))) → there false false ≡ ends (refuses p (refusal too_many h (suc most_relations))) → there taken few ≡ unless p (refusal_if (position h) name_taken taken ⊳ marked_refusal (position h) too_many (suc most_relations) (not few)) (acts p bytes h (action_of (roster h) stmt))
 new_or_refused p bytes h stmt true few there here one many = one few
 new_or_refused p bytes h stmt false false there here one many = many
@@ -64,7 +65,7 @@ name_refused pos r name many =
     ap (λ t. refusal_if pos name_taken t ⊳ marked_refusal pos too_many (suc most_relations) (nat_le most_relations many)) (sym (found_is_taken r name))
     ∙ ap (λ f. refusal_if pos name_taken (is_taken r name) ⊳ marked_refusal pos too_many (suc most_relations) f) (not_few many)
 
--- what is refused behind something
+-- a second refusal applies if there is no first
 or_none : (a b : Option Refusal) → b ≡ None → (a ⊳ b) ≡ a
 or_none None b e = e
 or_none (Some r) b e = refl
@@ -124,13 +125,13 @@ names_stay p bytes (stmts.Buckets fold) g h b ok makes e = absurd (true≢false 
 names_stay p bytes (stmts.Calendar number unit fold) g h b ok makes e = absurd (true≢false (sym makes))
 names_stay p bytes (stmts.Rows table tests) g h b ok makes e = absurd (true≢false (sym makes))
 
--- ---- one look
+-- ---- one read
 
--- an allowed history was allowed before
+-- the beginning of an allowed history is allowed
 allowed_before : {A : Type 0} (alone failed : Bool) (old : State) (procedure : Procedure A) (new : State) (y : A) → all_allowed new.history ≡ true → Walks alone failed old procedure new y → all_allowed old.history ≡ true
 allowed_before alone failed old procedure new y ok w = allowed_begins (goes_walks alone failed old procedure new y w).begins ok
 
--- names that passed at a first look, and what follows
+-- names that passed at a first read, and what follows
 first_walks : (alone failed : Bool) (old : State) (p : Places) (bytes : ℕ) (stmt : Stmt) (new : State) (y : Turn Places) → makes_event (kind_of stmt) ≡ true → all_allowed new.history ≡ true → Walks alone failed old (named_first p bytes stmt) new y → Walks alone failed old (looks (turn_of_names p bytes stmt)) new y
 first_walks alone failed old p bytes stmt new y makes ok w = by (refusal_of (position w.mid.history) (roster w.mid.history) stmt) refl w.rest
   where
@@ -143,7 +144,7 @@ first_walks alone failed old p bytes stmt new y makes ok w = by (refusal_of (pos
         let allowed = allowed_before alone failed v.mid (acts p bytes v.mid.history (action_of (roster w.mid.history) stmt)) new y ok v.rest in
         record { mid = v.mid; first = sees_trans alone old w.mid v.mid w.first v.first; rest = subst (λ d. Walks alone failed v.mid d new y) (names_stay p bytes stmt w.mid.history v.mid.history seen allowed makes e) v.rest }
 
--- a statement that its session's block lets pass
+-- a statement that the block of its session lets pass
 performs_walks : (alone failed : Bool) (old : State) (p : Places) (bytes : ℕ) (stmt : Stmt) (new : State) (y : Turn Places) → all_allowed new.history ≡ true → Walks alone failed old (performs p bytes stmt) new y → Walks alone failed old (named_here p bytes stmt) new y
 performs_walks alone failed old p bytes stmt new y ok = performs_holds (λ d. Walks alone failed old d new y → Walks alone failed old (named_here p bytes stmt) new y) p bytes stmt first (λ once w. w)
   where
@@ -161,7 +162,7 @@ read_walks : (alone failed : Bool) (old : State) (p : Places) (bytes : ℕ) (r :
 read_walks alone failed old p bytes (Ok read) new y ok w = pass_walks alone failed old p bytes read.0 (block_refusal p.block (kind_of read.0)) new y ok w
 read_walks alone failed old p bytes (Err f) new y ok w = w
 
--- ---- alone
+-- ---- a history that nobody else changes
 
 -- two procedures have the same result on a history that nobody else changes
 record SameAlone {A : Type 0} (h : History) (d e : Procedure A) : Type 0 where
@@ -174,7 +175,7 @@ alone_same h d e i = record { history = ap (λ x. history_after x h) i; end = ap
 same_alone : {A : Type 0} (h : History) (d : Procedure A) → SameAlone h d d
 same_alone h d = record { history = refl; end = refl }
 
--- names that are looked at first, and then the event, or both at once
+-- names that are resolved before the event, or at the event
 twice_alone : (p : Places) (bytes : ℕ) (stmt : Stmt) (h : History) (o : Option Refusal) → SameAlone h (unless p o (acts p bytes h (action_of (roster h) stmt))) (unless p o (looks (λ k. acts p bytes k (action_of (roster h) stmt))))
 twice_alone p bytes stmt h (Some r) = record { history = refl; end = refl }
 twice_alone p bytes stmt h None = record { history = refl; end = refl }

@@ -28,7 +28,7 @@ use Rattle.ts_sessions.specs.Sessions.{Spares, finish_meant, finish_read, queued
 use Rattle.ts_sessions.proofs.JobLaws.{removed_holds, removed_positions, same_key, taken_holds, taken_positions}
 use Rattle.ts_model.specs.declared.snapshots.Shown.{Ghosts as Shown}
 
--- ---- places
+-- ---- session state
 
 pub same_places : {T J : Type 0} (s t : Session T J) → t.block ≡ s.block → t.cut ≡ s.cut → positions t.held.entries ≡ positions s.held.entries → places_in t ≡ places_in s
 same_places s t b c h = ap (λ x. record { block = block_of x; cut = t.cut; held = positions t.held.entries }) b ∙ ap (λ x. record { block = block_of s.block; cut = x; held = positions t.held.entries }) c ∙ ap (λ x. record { block = block_of s.block; cut = s.cut; held = x }) h
@@ -49,7 +49,7 @@ forgotten_places s t u c at b k e x y z = record {
 pub spared : (meant : Option ℕ) (p q : Places) → q ≡ p → Spares meant p q
 spared meant p q e = record { gone = None; only = tt; same = e }
 
--- what is given up is what was taken, and that was meant
+-- the snapshot that is given up is the one that was taken, for the refresh that the statement names
 pub spares_meant : (taken meant : Option ℕ) (p q : Places) → IfSome taken (λ cut. meant ≡ Some cut) → Spares taken p q → Spares meant p q
 spares_meant taken meant p q m s = record { gone = s.gone; only = only s.gone s.only; same = s.same }
   where
@@ -64,7 +64,7 @@ pub on_err : {A : Type 0} (P : Type 0) (result : Result A NoMemory) → P → On
 on_err P (Ok a) p = tt
 on_err P (Err e) p = p
 
--- ---- what is held
+-- ---- what a session holds
 
 module _ {T J : Type 0} (shown : Shown T J) (fits_on : (job : J) (g h : History) → Begins g h → shown.fits job g → shown.fits job h) where
   pub taken_held : (s t : Session T J) (c at : ℕ) (g h : State) → t.block ≡ s.block → t.held.entries ≡ without_job c at s.held.entries → GoesOn g h → IsTrue (is_lost h c) → HoldsOf shown s g → HoldsOf shown t h
@@ -85,7 +85,7 @@ module _ {T J : Type 0} (shown : Shown T J) (fits_on : (job : J) (g h : History)
     snapshots = subst (λ x. HoldsSnapshots shown h x) (sym e) (snapshots_on shown fits_on g h s.held.entries on k.snapshots);
   }
 
--- a session that carries the same
+-- a session that stayed the same
 pub carried_places : {T J : Type 0} (s t : Session T J) → Carries s t → places_in t ≡ places_in s
 carried_places s t k = same_places s t k.block k.cut (ap positions k.held)
 
@@ -134,7 +134,7 @@ pub gone_holds : {T J : Type 0} (shown : Shown T J) (g : State) (es : List (ℕ 
 gone_holds shown g [] c k = tt
 gone_holds shown g (e ∷ es) c k = elim (is_at (nat_cmp c) e.0) as (λ t. HoldsSnapshots shown g (cond t es (e ∷ remove_entry (is_at (nat_cmp c)) es))) [ true ↦ k.1 | false ↦ (k.0, gone_holds shown g es c k.1) ]
 
--- an operation more
+-- one more operation
 pub pushed_holds : {T : Type 0} (stands : T → History → Type 0) (o : Open T) (op : Op) (more : ℕ) (h : History) → bytes_queued (block_of o) + more ≤ most_queued → IsOperation h more op → HoldsBlock stands o h → HoldsBlock stands (open_with op more o) h
 pushed_holds stands opens.Nothing op more h room i k = k
 pushed_holds stands (opens.Write q) op more h room i k = (queues_are_sound.grows h q.bytes more q.ops op k.0 i, room)
@@ -145,7 +145,7 @@ pushed_block opens.Nothing op more = refl
 pushed_block (opens.Write q) op more = refl
 pushed_block (opens.Read at shot) op more = refl
 
--- a snapshot more
+-- one more snapshot
 pub put_places : {T J : Type 0} (s t : Session T J) (c at : ℕ) (job : J) → t.block ≡ s.block → t.cut ≡ s.cut → t.held.entries ≡ insert_entry nat_cmp s.held.entries c (record { at = at; job = Some job }) → places_in t ≡ holds c at (places_in s)
 put_places s t c at job b k e =
     ap (λ x. record { block = block_of x; cut = t.cut; held = positions t.held.entries }) b ∙ ap (λ x. record { block = block_of s.block; cut = x; held = positions t.held.entries }) k
@@ -157,7 +157,7 @@ put_held shown s t g c at job b e h j = record {
   snapshots = subst (λ x. HoldsSnapshots shown g x) (sym e) (put_holds shown g s.held.entries c (record { at = at; job = Some job }) j h.snapshots);
 }
 
--- a snapshot less
+-- one snapshot fewer
 pub gone_places : {T J : Type 0} (s t : Session T J) (c : ℕ) → t.block ≡ s.block → t.cut ≡ s.cut → t.held.entries ≡ remove_entry (is_at (nat_cmp c)) s.held.entries → places_in t ≡ gives_up c (places_in s)
 gone_places s t c b k e =
     ap (λ x. record { block = block_of x; cut = t.cut; held = positions t.held.entries }) b ∙ ap (λ x. record { block = block_of s.block; cut = x; held = positions t.held.entries }) k
@@ -177,7 +177,7 @@ pub held_either : {A : Type 0} (result : Result A NoMemory) (R P Q : Type 0) →
 held_either (Ok a) R P Q f h p q = f p
 held_either (Err e) R P Q f h p q = h q
 
--- the refresh that a line is to finish is that of the statement that was read
+-- the refresh that a line names to finish is that of the statement that was read
 pub read_meant : (p : Places) (stmt : Stmt) (r : Result (Stmt × Stream) Fault) → IsRead stmt r → finish_read p r ≡ finish_meant p stmt
 read_meant p stmt (Ok read) e = ap (finish_meant p) e
 read_meant p stmt (Err f) e = absurd e

@@ -1,4 +1,4 @@
--- What a session asks of a store, the store can do.
+-- A store can do what a session asks of it.
 use Rattle.std.proofs.Common.{◌≡◌, ℕ, ◌≤◌, cond, nat_lt, true, false, sym, refl, subst}
 use Rattle.std.proofs.lemmas.Bool.{and_parts}
 use Rattle.ts_model.specs.declared.rosters.Roster.{Roster}
@@ -14,11 +14,11 @@ use Rattle.stmt_check.proofs.RosterLaws.{rosters_are_numbered}
 use Rattle.ts_sessions.specs.Sound.{AsksSoundly, kind_of_action}
 use Rattle.ts_sessions.specs.Step.{kind_of}
 
--- what a text asks for is sound wherever nothing of it is refused
+-- what a text asks for is sound at each history at which no check refuses it
 pub asks_soundly : (bytes : ℕ) (stmt : Stmt) → bytes ≤ 65536 → IsWritten bytes stmt → AsksSoundly bytes stmt
 asks_soundly bytes stmt short written h ok none = actions_are_sound h (position h) bytes stmt ok written short none
 
--- the roster of an allowed history can be checked against
+-- the roster of an allowed history is numbered, as checks need it
 pub is_numbered : (h : History) (r : Roster) → r ≡ roster h → all_allowed h ≡ true → IsNumbered r
 is_numbered h r e ok = subst IsNumbered (sym e) (rosters_are_numbered h ok)
 
@@ -43,7 +43,7 @@ kinds_agree r (stmts.Buckets fold) = refl
 kinds_agree r (stmts.Calendar number unit fold) = refl
 kinds_agree r (stmts.Rows table tests) = refl
 
--- the first events of an allowed history are one
+-- the first events of an allowed history are an allowed history
 pub allowed_prefix : (h : History) (p : ℕ) → all_allowed h ≡ true → all_allowed (prefix h p) ≡ true
 allowed_prefix start p ok = refl
 allowed_prefix (resumed i) p ok = ok

@@ -1,4 +1,4 @@
--- States that a store goes through: what looks find, and what calls leave.
+-- States that a store goes through: what reads find, and what calls leave.
 use Rattle.std.proofs.Common.{◌≡◌, Bool, sym, refl, ◌∙◌, subst, inl, inr}
 use Rattle.std.specs.Prelude.{IsTrue, is_some}
 use Rattle.std.proofs.lemmas.Bool.{true≢false}
@@ -16,7 +16,7 @@ kept found new k =
     let whole : record { history = new.history; failed = new.failed; faults = new.faults; made = new.made; origin = new.origin } ≡ found = rw (k.history, k.failed, k.faults, k.made, k.origin) refl in
     whole
 
--- ---- looks
+-- ---- reads
 
 still_found : {alone : Bool} (old found : State) → Found alone old found → IsTrue (stands_still old) → IsTrue (stands_still found)
 still_found old found f s = subst (λ x. IsTrue (is_some x)) (sym (f.still_failed s)) s
@@ -38,14 +38,14 @@ sees_trans alone a b c (inl e) g = subst (λ x. Sees alone x c) e g
 sees_trans alone a b c (inr f) (inl e) = subst (λ x. Sees alone a x) (sym e) (inr f)
 sees_trans alone a b c (inr f) (inr g) = inr (found_trans alone a b c f g)
 
--- a call that only looks leaves what it found
+-- a call that only reads leaves the state that it found
 pub sees_looked : (alone : Bool) (old : State) (Reports : History → Type 0) (new : State) → Looked alone old Reports new → Sees alone old new
 sees_looked alone old Reports new l = inr (subst (λ s. Found alone old s) (sym (kept l.found new l.keeps)) l.finds)
 
 pub looked_reports : (alone : Bool) (old : State) (Reports : History → Type 0) (new : State) → Looked alone old Reports new → Reports new.history
 looked_reports alone old Reports new l = subst Reports (sym l.keeps.history) l.tells
 
--- ---- going on
+-- ---- continuing
 
 pub goes_trans : (a b c : State) → GoesOn a b → GoesOn b c → GoesOn a c
 goes_trans a b c f g = record { begins = begins_trans f.begins g.begins; still = λ s. g.still (f.still s) }

@@ -34,21 +34,21 @@ use Rattle.ts_sessions.proofs.HypertableLaws.{on_hypertables_stay}
 use Rattle.ts_sessions.proofs.NamedLaws.{event_named, named_holds, read_holds, unless_holds}
 use Rattle.ts_sessions.proofs.ReplyLaws.{stays_named}
 
--- ---- procedures one after the other
+-- ---- procedures in order
 
--- a call after a look, or after an event, and what follows
+-- a call after a read, or after an event, and what follows
 steady_tries : {A B : Type 0} (base h : History) (act : Act A) (then : Result A Refusal → Procedure B) → ((r : Result A Refusal) → Steady true base (then r)) → Steady true base (followed_by (tries_at h act) then)
 steady_tries base h (is_refused r) then s = s (Err r)
 steady_tries base h (returns a) then s = s (Ok a)
 steady_tries base h (makes e a) then s = (refl, s (Ok a), s (Err _))
 
--- a call of which something is said
+-- a call with a function of its outcome
 steady_said : {A B : Type 0} (base h : History) (act : Act A) (g : Result A Refusal → B) → Steady true base (ending_as g (tries_at h act))
 steady_said base h (is_refused r) g = tt
 steady_said base h (returns a) g = tt
 steady_said base h (makes e a) g = (refl, tt, tt)
 
--- a call with a separate look
+-- a call with a separate read
 steady_call : {A B : Type 0} (fresh : Bool) (base : History) (act : History → Act A) (then : Result A Refusal → Procedure B) → ((h : History) (r : Result A Refusal) → Steady true h (then r)) → Steady fresh base (followed_by (tries act) then)
 steady_call fresh base act then s = λ h b. (λ _. steady_tries h h (act h) then (s h), λ no_look. absurd (true≢false no_look))
 
@@ -57,7 +57,7 @@ ended_as g (sees shown f) i = absurd i
 ended_as g (adds e next stop) i = absurd i
 ended_as g (ends a) i = tt
 
--- whatever is said of its end
+-- a procedure with any function of its result
 steady_as : {A B : Type 0} (g : A → B) (fresh : Bool) (base : History) (procedure : Procedure A) → Steady fresh base procedure → Steady fresh base (ending_as g procedure)
 steady_as g fresh base (sees shown f) s = λ h b. (λ look. steady_as g true h (f h) ((s h b).0 look), λ hidden. (λ l c. ((((s h b).1 hidden).0 l c).0, ap (ending_as g) (((s h b).1 hidden).0 l c).1), ended_as g (f h) ((s h b).1 hidden).1))
 steady_as g fresh base (adds e next stop) s = (s.0, steady_as g true base next s.1, steady_as g fresh base stop s.2)
@@ -129,17 +129,17 @@ steady_acts h l p bytes (actions.Ask q) = tt
 steady_named : (h l : History) (p : Places) (bytes : ℕ) (stmt : Stmt) → Steady true h (turn_of_names p bytes stmt l)
 steady_named h l p bytes stmt = named_holds (λ d. Steady true h d) p bytes l stmt (λ r e. tt) (λ plan. tt) (λ r e. tt) (λ e. steady_acts h l p bytes (action_of (roster l) stmt))
 
--- ---- looks
+-- ---- reads
 
--- a statement that looks once is steady where a look that isn't printed stays and ends it
+-- a statement with one read is steady if a read that isn't printed stays so and ends it
 hidden : (base : History) (p : Places) (bytes : ℕ) (stmt : Stmt) → ((h : History) → Begins base h → prints p.block (kind_of stmt) (roster h) (refusal_of (position h) (roster h) stmt) ≡ false → SameLater (λ l. prints p.block (kind_of stmt) (roster l) (refusal_of (position l) (roster l) stmt)) (λ l. turn_of_names p bytes stmt (read_at p.block l)) h × IsEnded (turn_of_names p bytes stmt (read_at p.block h))) → Steady false base (named_here p bytes stmt)
 hidden base p bytes stmt stays = λ h on. (λ _. steady_named h (read_at p.block h) p bytes stmt, stays h on)
 
--- or where each look is printed
+-- or if each read is printed
 shown : (base : History) (p : Places) (bytes : ℕ) (stmt : Stmt) → ((h : History) → Begins base h → prints p.block (kind_of stmt) (roster h) (refusal_of (position h) (roster h) stmt) ≡ true) → Steady false base (named_here p bytes stmt)
 shown base p bytes stmt all = hidden base p bytes stmt (λ h on e. absurd (true≢false (sym (all h on) ∙ e)))
 
--- or where none is, and it says the same wherever it looks
+-- or if no read is printed, and it says the same at each position
 unshown : (base : History) (p : Places) (bytes : ℕ) (stmt : Stmt) (y : Turn Places) → ((r : Roster) (refused : Option Refusal) → prints p.block (kind_of stmt) r refused ≡ false) → ((h : History) → turn_of_names p bytes stmt h ≡ ends y) → Steady false base (named_here p bytes stmt)
 unshown base p bytes stmt y no_look is =
     hidden base p bytes stmt
@@ -181,7 +181,7 @@ pub none_there : (o : Option Refusal) → is_some o ≡ false → o ≡ None
 none_there None e = refl
 none_there (Some r) e = absurd (true≢false e)
 
--- an operation that is to wait
+-- an operation that is queued
 steady_queue : (base : History) (p : Places) (bytes : ℕ) (stmt : Stmt) (ops : List Op) (n : ℕ) (op : Roster → Op) → kind_of stmt ≡ kinds.Changes → ((r : Roster) → action_of r stmt ≡ actions.Change (op r)) → ((h l : History) → Begins h l → refusal_of (position h) (roster h) stmt ≡ None → Stays h l stmt) → Steady false base (named_here (enters (writing ops n) p) bytes stmt)
 steady_queue base p bytes stmt ops n op kind is later =
     let q = enters (writing ops n) p in
@@ -227,7 +227,7 @@ steady_writing base p bytes (stmts.Rows table tests) ops n begun e = shown base 
 
 -- ---- in a read block
 
--- what is looked at is the position at which the block began
+-- a statement reads at the position at which the block began
 steady_read : (base : History) (p : Places) (bytes : ℕ) (stmt : Stmt) (at : ℕ) → at ≤ position base → ((h : History) → IsEnded (turn_of_names (enters (reading at) p) bytes stmt h)) → Steady false base (named_here (enters (reading at) p) bytes stmt)
 steady_read base p bytes stmt at le ended =
     let q = enters (reading at) p in

@@ -22,7 +22,7 @@ use Rattle.ts_sessions.proofs.SessionLaws.{carried_places, spared}
 use Rattle.ts_sessions.proofs.WalkLaws.{walks_break}
 use Rattle.ts_model.specs.declared.snapshots.Shown.{Ghosts as Shown}
 
--- ---- answers
+-- ---- replies
 
 pub if_answered : (end : StepEnd) (P : Type 0) → P → IfAnswered end P
 if_answered (steps.Reply r) P p = p
@@ -58,14 +58,14 @@ reports_so alone failed old p text skip name completion r new q before after e f
       counted = e.counted;
     }
 
--- a line whose statement ended so, and whose answer was written or not
+-- a line whose statement ended like this, and whose reply was written or not
 pub stepped : {T J : Type 0} (alone : Bool) (old : State) (p : Places) (text : List ℕ) (skip : ℕ) (name : List ℕ) (completion : Completion T J) (end : StepEnd) (new : State) (q : Places) (before after : ℕ) → before < 2 ^ 64 → Ends alone old (step p text skip) p (Ok completion) new before after → AnswersSo name completion.said completion.failed end → IfAnswered end (q ≡ places_after completion.change p) → Stepped alone old (step p text skip) name end new q before after
 stepped alone old p text skip name completion (steps.Reply r) new q before after short e a places = reports_so alone false old p text skip name completion r new q before after e a.0 a.1 places
 stepped alone old p text skip name completion (steps.DiskFault r) new q before after short e a places = reports_so alone true old p text skip name completion r new q before after e a.0 a.1 places
 stepped alone old p text skip name completion steps.NoMemory new q before after short e a places =
     (walks_break alone completion.failed old (step p text skip) new (turn_of p e.read completion) e.ends, subst (λ m. before ≤ m) (sym e.counted) (raised_up e.read before short))
 
--- a line without memory for its answer leaves its session
+-- a line that ran out of memory for its reply leaves its session as it was
 pub spares_then : {T J : Type 0} (meant : Option ℕ) (s t : Session T J) (p : Places) (end : StepEnd) → places_in s ≡ p → IfNoMemory end (Carries s t) → IfNoMemory end (Spares meant p (places_in t))
 spares_then meant s t p (steps.Reply r) e k = tt
 spares_then meant s t p (steps.DiskFault r) e k = tt
@@ -91,7 +91,7 @@ queue_then meant shown bytes h c p q steps.NoMemory k e s = spared_queue meant p
 spared_quiet : (meant : Option ℕ) (p q : Places) → p.block ≡ none → Spares meant p q → bytes_queued q.block ≡ 0
 spared_quiet meant p q out s = ap (λ x. bytes_queued x.block) s.same ∙ ap bytes_queued (without_block s.gone p) ∙ ap bytes_queued out
 
--- outside a block nothing waits after the line
+-- outside a block nothing is queued after the line
 pub quiet_then : {T J : Type 0} (meant : Option ℕ) (shown : Shown T J) (bytes : ℕ) (h : History) (c : Change T J) (p q : Places) (end : StepEnd) → p.block ≡ none → ChangeHolds shown bytes c h → IfAnswered end (q ≡ places_after c p) → IfNoMemory end (Spares meant p q) → bytes_queued q.block ≡ 0
 quiet_then meant shown bytes h c p q (steps.Reply r) out k e s = ap (λ x. bytes_queued x.block) e ∙ change_quiet shown bytes h c p out k
 quiet_then meant shown bytes h c p q (steps.DiskFault r) out k e s = ap (λ x. bytes_queued x.block) e ∙ change_quiet shown bytes h c p out k

@@ -1,4 +1,4 @@
--- A reply is E24 only where the store had stopped, with that position.
+-- A reply is E24 only if the store had stopped, with that position.
 use Rattle.std.proofs.Common.{◌≡◌, ℕ, suc, ◌≤◌, Bool, true, false, cond, nat_lt, List, [], ◌∷◌, ◌++◌, length, Option, Some, None, inl, inr, sym, refl, ap, ◌∙◌, subst, arith}
 use Rattle.std.specs.Prelude.{Result, Ok, Err, ℤ, IfSome, is_some, not, ⊤}
 use Rattle.std.proofs.lemmas.Bool.{true≢false, ltb-true, ltb-false}
@@ -59,13 +59,14 @@ position_at (h ▸ e) p low le =
 
 -- ---- procedures
 
--- a procedure that only ends, with something that P holds of
+-- a procedure that has ended, with a result for which P is true
 abbrev pub EndsSo : {A : Type 0} → (A → Type 0) → Procedure A → Type 0
 EndsSo P (sees shown f) = ⊥
 EndsSo P (adds e next stop) = ⊥
 EndsSo P (ends a) = P a
 
--- a procedure whose last printed look or event was at a position, if it had one, ends with what goes with where its store stopped, if it did. It ends at once where it finds the store stopped, and after a look that isn't printed
+-- a procedure whose last printed read or event was at a position, if it had one. Its result fits the position at which
+-- its store stopped, if it did. It ends at once if it finds the store stopped, and after a read that isn't printed
 abbrev pub Meets : {A : Type 0} → (Option ℕ → A → Type 0) → Option ℕ → Procedure A → Type 0
 Meets N last (sees shown f) = (g : History) → (shown g ≡ true → Meets N (Some (position g)) (f g)) × (shown g ≡ false → EndsSo (λ a. (stop : Option ℕ) → N stop a) (f g))
 Meets N None (adds e next stop) = ⊥
@@ -79,7 +80,7 @@ module _ {A : Type 0} where
   gives_end P all stop at so_far (ends a) [] last given y t g = subst P (sym g.2) t
   gives_end P all stop at so_far (ends a) (p ∷ ps) last given y t g = absurd g
 
-  -- what such a procedure gives goes with where the store had stopped
+  -- what such a procedure gives fits the position at which the store had stopped
   gives_meets : (N : Option ℕ → A → Type 0) (all : History) (stop : Option ℕ) (at : ℕ) (so_far : List (ℕ × Event)) (procedure : Procedure A) (looks : List (Option ℕ)) (last : ℕ) (given : List (ℕ × Event)) (y : A) (before : Option ℕ) → base_position all ≤ at → IfSome before (λ p. p ≡ at) → Meets N before procedure → Gives all stop at so_far procedure looks last given y → N stop y
   gives_meets N all stop at so_far (sees shown f) [] last given y before low same t g = absurd g
   gives_meets N all stop at so_far (sees shown f) (None ∷ ps) last given y before low same t g =
@@ -96,7 +97,7 @@ module _ {A : Type 0} where
   gives_meets N all stop at so_far (ends a) [] last given y before low same t g = subst (N stop) (sym g.2) (t stop)
   gives_meets N all stop at so_far (ends a) (p ∷ ps) last given y before low same t g = absurd g
 
-  -- one procedure after another, of whose end this holds wherever it last looked
+  -- one procedure after another: the second ends like this wherever the first read last
   meets_as : {B : Type 0} (N : Option ℕ → A → Type 0) (M : Option ℕ → B → Type 0) (g : A → B) (last : Option ℕ) (procedure : Procedure A) → ((stop : Option ℕ) (a : A) → N stop a → M stop (g a)) → Meets N last procedure → Meets M last (ending_as g procedure)
   meets_as N M g last (sees shown f) k t = λ h. (λ look. meets_as N M g (Some (position h)) (f h) k ((t h).0 look), λ hidden. ends_as (f h) ((t h).1 hidden))
     where
@@ -128,11 +129,11 @@ module _ {A B : Type 0} (N : Option ℕ → B → Type 0) (h : History) (then : 
   meets_tries (returns a) plain refused done stop = done (position h) a
   meets_tries (makes e a) plain refused done stop = (done (suc (position h)) a, stop)
 
--- a refusal that isn't E24 may come wherever the store stopped
+-- a refusal other than E24 may come at any stop
 other_fault : (stop : Option ℕ) (r : Refusal) → IsOther r.code → StopsAt stop (said.Fault r)
 other_fault stop r other e = absurd (other e)
 
--- a call that is replied to in one line
+-- a call with a reply of one line
 meets_said : {A : Type 0} (h : History) (act : Act A) (g : Result A Refusal → Turn Places) → Plain act → ((stop : Option ℕ) (a : A) → ReplyStopsAt stop (g (Ok a))) → ((stop : Option ℕ) (r : Refusal) → StopsAt stop (said.Fault r) → ReplyStopsAt stop (g (Err r))) → Meets ReplyStopsAt (Some (position h)) (ending_as g (tries_at h act))
 meets_said h act g plain done refused =
     meets_tries ReplyStopsAt h (λ r. ends (g r)) act plain (λ r other stop. refused stop r (other_fault stop r other)) (λ p a stop. done stop a) (refused (Some (position h)) (refusal stopped h 0) (λ e. refl))
@@ -140,7 +141,7 @@ meets_said h act g plain done refused =
 full_other : IsOther history_full
 full_other e = absurd (omega (arith, e))
 
--- an event that is made, or refused at the end of a history
+-- an event that is appended, or refused at the end of a history
 made_plain : {A : Type 0} (h : History) (e : Event) (a : A) → Plain (act_of_event h e a)
 made_plain h e a = elim (has_room h) as (λ t. Plain (cond t (makes e a) (is_refused (refusal history_full h 0)))) [ true ↦ tt | false ↦ full_other ]
 
@@ -181,7 +182,7 @@ finishing_plain c at h = finish_plain c at h (pending h c)
 
 -- ---- refreshes
 
--- what was taken, or a refusal for another reason
+-- a snapshot that was taken, or refused for another reason
 abbrev Took : Result Taken Refusal → Type 0
 Took (Ok t) = ⊤
 Took (Err r) = IsOther r.code
@@ -287,13 +288,13 @@ meets_named h p bytes stmt =
     (λ r e stop. (other_fault stop r (subst Other e (checks_other (position h) (roster h) stmt)), tt))
     (λ e. meets_acts h p bytes (action_of (roster h) stmt))
 
--- ---- looks
+-- ---- reads
 
--- a statement that looks once, where a look that isn't printed ends it without E24
+-- a statement with one read, if a read that isn't printed ends it without E24
 meets_here : (last : Option ℕ) (p : Places) (bytes : ℕ) (stmt : Stmt) → ((h : History) → prints p.block (kind_of stmt) (roster h) (refusal_of (position h) (roster h) stmt) ≡ true → read_at p.block h ≡ h) → ((h : History) → prints p.block (kind_of stmt) (roster h) (refusal_of (position h) (roster h) stmt) ≡ false → EndsSo (λ y. (stop : Option ℕ) → ReplyStopsAt stop y) (turn_of_names p bytes stmt (read_at p.block h))) → Meets ReplyStopsAt last (named_here p bytes stmt)
 meets_here last p bytes stmt same hidden = λ h. (λ look. subst (λ g. Meets ReplyStopsAt (Some (position h)) (turn_of_names p bytes stmt g)) (sym (same h look)) (meets_named h p bytes stmt), hidden h)
 
--- a procedure that ends at once where it looked last meets this wherever it looked
+-- if a procedure that meets this has ended, its reply is right at any stop
 ended : (last : Option ℕ) (procedure : Procedure (Turn Places)) → IsEnded procedure → Meets ReplyStopsAt last procedure → EndsSo (λ y. (stop : Option ℕ) → ReplyStopsAt stop y) procedure
 ended last (sees shown f) i t = absurd i
 ended last (adds e next stop) i t = absurd i
@@ -329,7 +330,7 @@ meets_outside last p bytes stmt = let q = enters none p in meets_here last q byt
 
 -- ---- in a write block
 
--- a statement that makes no event there
+-- a statement that appends no event there
 meets_queue : (last : Option ℕ) (p : Places) (bytes : ℕ) (stmt : Stmt) (ops : List Op) (n : ℕ) → ((h : History) → IsEnded (acts (enters (writing ops n) p) bytes h (action_of (roster h) stmt))) → Meets ReplyStopsAt last (named_here (enters (writing ops n) p) bytes stmt)
 meets_queue last p bytes stmt ops n i = let q = enters (writing ops n) p in meets_here last q bytes stmt (λ h look. refl) (λ h hidden. hidden_so q bytes stmt h (ended_named q bytes stmt h (i h)))
 

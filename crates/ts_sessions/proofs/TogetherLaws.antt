@@ -1,4 +1,4 @@
--- Procedures one after the other: what was walked and what is given of both is that of each.
+-- Procedures in order: the walk of both, and what is given of both, has those of each as its parts.
 use Rattle.std.proofs.Common.{◌≡◌, ℕ, suc, ◌≤◌, Bool, true, false, List, [], ◌∷◌, ◌++◌, append_assoc, append-nil, Option, Some, None, inl, inr, sym, refl, ap, ◌∙◌, subst}
 use Rattle.std.specs.Prelude.{IsTrue, ◌||◌, cond}
 use Rattle.std.proofs.lemmas.List.{map-append}
@@ -16,12 +16,12 @@ use Rattle.ts_sessions.proofs.WalkLaws.{goes_walks}
 
 -- ---- walks
 
--- where none of two is so, the first isn't
+-- if neither of two is true, the first isn't
 pub none_first : (a b : Bool) → (a || b) ≡ false → a ≡ false
 none_first true b e = e
 none_first false b e = refl
 
--- a walk of two procedures, one after the other: the first came to an end, and the second went on from there
+-- a walk of two procedures in order: the first ended, and the second continued from there
 pub record Parted {A B : Type 0} (alone failed : Bool) (old : State) (first : Procedure A) (next : A → Procedure B)
     (new : State) (y : B) : Type 0 where
   pub mid : State
@@ -68,7 +68,7 @@ stops_on mid new later goes stays stop =
 
 -- ---- what is given
 
--- whatever events came before
+-- earlier events don't matter
 pub gives_behind : {A : Type 0} (before : List (ℕ × Event)) (all : History) (stop : Option ℕ) (at : ℕ) (so_far : List (ℕ × Event)) (procedure : Procedure A) (looks : List (Option ℕ)) (last : ℕ) (given : List (ℕ × Event)) (y : A) → Gives all stop at so_far procedure looks last given y → Gives all stop at (before ++ so_far) procedure looks last (before ++ given) y
 gives_behind before all stop at so_far (sees shown f) [] last given y g = absurd g
 gives_behind before all stop at so_far (sees shown f) (None ∷ ps) last given y g = (g.0, gives_behind before all stop at so_far (f all) ps last given y g.1)
@@ -79,7 +79,7 @@ gives_behind before all stop at so_far (adds e next stopped) looks last given y 
 gives_behind before all stop at so_far (ends a) [] last given y g = (g.0, ap (λ es. before ++ es) g.1, g.2)
 gives_behind before all stop at so_far (ends a) (p ∷ ps) last given y g = absurd g
 
--- and without them
+-- the same without the earlier events
 record GivenBehind {A : Type 0} (before : List (ℕ × Event)) (all : History) (stop : Option ℕ) (at : ℕ) (so_far : List (ℕ × Event)) (procedure : Procedure A) (looks : List (Option ℕ)) (last : ℕ) (given : List (ℕ × Event)) (y : A) : Type 0 where
   more : List (ℕ × Event)
   gives : Gives all stop at so_far procedure looks last more y
@@ -103,7 +103,7 @@ given_behind before all stop at so_far whole (adds e next stopped) looks last gi
 given_behind before all stop at so_far whole (ends a) [] last given y same g = record { more = so_far; gives = (g.0, refl, g.2); is = g.1 ∙ same }
 given_behind before all stop at so_far whole (ends a) (p ∷ ps) last given y same g = absurd g
 
--- one procedure after another, with the events that came before
+-- one procedure after another, with the earlier events
 gives_after : {A B : Type 0} (all : History) (stop : Option ℕ) (at : ℕ) (so_far : List (ℕ × Event)) (first : Procedure A) (next : A → Procedure B) (looks looks_then : List (Option ℕ)) (mid last : ℕ) (given given_then : List (ℕ × Event)) (a : A) (y : B)
     → Gives all stop at so_far first looks mid given a → Gives all stop mid given (next a) looks_then last given_then y → Gives all stop at so_far (followed_by first next) (looks ++ looks_then) last given_then y
 gives_after all stop at so_far (sees shown f) next [] qs mid last given given_then a y g h = absurd g
@@ -117,7 +117,7 @@ gives_after all stop at so_far (ends x) next [] qs mid last given given_then a y
     (subst (λ k. Gives all stop k given (next a) qs last given_then y) g.0 h))
 gives_after all stop at so_far (ends x) next (p ∷ ps) qs mid last given given_then a y g h = absurd g
 
--- what two procedures give one after the other, in its parts
+-- what two procedures in order give, in its parts
 pub record GivenParts {A B : Type 0} (all : History) (stop : Option ℕ) (at : ℕ) (first : Procedure A) (next : A → Procedure B) (last : ℕ) (given : List (ℕ × Event)) (y : B) : Type 0 where
   pub end : A
   pub looks_first : List (Option ℕ)
@@ -160,7 +160,7 @@ gives_parted all stop at first next looks last given y g =
     let b = given_behind p.given_first all stop p.mid [] p.given_first (next p.end) p.looks_then last given y (sym (append-nil p.given_first)) p.gives_then in
     record { end = p.end; looks_first = p.looks_first; looks_then = p.looks_then; mid = p.mid; given_first = p.given_first; given_then = b.more; gives_first = p.gives_first; gives_then = b.gives; is = b.is }
 
--- ---- what was walked, and is given over a whole history
+-- ---- walks that are given over a whole history
 
 pub given_then : {A B : Type 0} (all : History) (stop : Option ℕ) (old mid new : State) (at : ℕ) (first : Procedure A) (next : A → Procedure B) (a : A) (y : B) → (one : IsGivenOver all stop old mid at first a) → IsGivenOver all stop mid new one.last (next a) y → IsGivenOver all stop old new at (followed_by first next) y
 given_then all stop old mid new at first next a y one two = record {
@@ -174,11 +174,11 @@ given_then all stop old mid new at first next a y one two = record {
   within = two.within;
 }
 
--- nothing was done
+-- a procedure that does nothing
 pub given_ended : {A : Type 0} (all : History) (stop : Option ℕ) (s : State) (at : ℕ) (a : A) → at ≤ position s.history → IsGivenOver all stop s s at (ends a) a
 given_ended all stop s at a le = record { looks = []; last = at; given = []; gives = (refl, refl, refl); made = sym (append-nil s.made); within = le }
 
--- two procedures were walked one after the other, each of which its reply gives
+-- two procedures were walked in order, and the reply gives each
 pub answered_then : {A B : Type 0} (alone failed : Bool) (all : History) (stop : Option ℕ) (at : ℕ) (old : State) (does reply : Procedure A) (next next_reply : A → Procedure B) (new : State) (y : B)
     → Begins new.history all → StopsLater (stop_of new) stop
     → ((fell : Bool) (mid : State) (a : A) → Begins mid.history all → StopsLater (stop_of mid) stop → Walks alone fell old does mid a → IsGivenOver all stop old mid at reply a)

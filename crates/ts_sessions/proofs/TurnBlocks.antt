@@ -1,4 +1,4 @@
--- What holds of the block of a session after what its statements come to.
+-- Properties of the block of a session after its statements.
 use Rattle.std.proofs.Common.{ℕ, Bool, true, false, List, Option, Some, None, inl, inr, subst, sym}
 use Rattle.std.specs.Prelude.{Result, Ok, Err, ℤ}
 use Rattle.ts_bucket.specs.Bucket.{first_of}
@@ -23,7 +23,7 @@ use Rattle.ts_sessions.proofs.WalkLaws.{goes_walks}
 
 -- ---- procedures
 
--- whatever beginning of a history a procedure looks at, this holds of its end
+-- this is true of the end of a procedure, whatever earlier histories it reads
 abbrev pub EndsBy : {A : Type 0} → (A → Type 0) → History → Procedure A → Type 0
 EndsBy N all (sees shown f) = (h : History) → Begins h all → EndsBy N all (f h)
 EndsBy N all (adds e next stop) = EndsBy N all next × EndsBy N all stop
@@ -53,13 +53,13 @@ as_by N M all g (ends a) k t = k a t
 
 -- ---- turns
 
--- what holds of blocks, of whatever beginning of a history is looked at
+-- a property of blocks, whatever earlier histories a statement reads
 module _ (Holds : Block → Type 0) (all : History) where
-  -- it holds of the block after a turn
+  -- the property of the block after a turn
   abbrev pub InTurn : Turn Places → Type 0
   InTurn y = Holds y.places.block
 
-  -- the places before a turn, of whose block it holds
+  -- the state before a turn, whose block has the property
   module _ (p : Places) (held : Holds p.block) where
     pub by_reported : {A : Type 0} (line : A → Said) (r : Result A Refusal) → InTurn (turn_of_line p line r)
     by_reported line (Ok a) = held

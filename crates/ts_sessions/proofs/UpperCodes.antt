@@ -1,4 +1,4 @@
--- A roll-up is refused with the position of the look, and never because the store has stopped.
+-- A roll-up is refused with the read position, and never because the store has stopped.
 use Rattle.std.proofs.Common.{◌≡◌, ℕ, Bool, true, false, List, [], ◌∷◌, length, Option, Some, None, refl, subst}
 use Rattle.std.specs.Prelude.{not, nat_le, is_none, unwrap_or, ◌-ℤ◌, ⊤}
 use Rattle.ts_num.specs.declared.values.Fun.{Fun}
@@ -96,7 +96,7 @@ upper_looked pos def f =
 
 -- ---- a statement
 
--- a refusal results from a look at this position
+-- a refusal is at this read position
 abbrev LookedRead : ℕ → UpperRead → Type 0
 LookedRead pos (uppers.Refused r) = IsLooked pos r
 LookedRead pos other = ⊤

@@ -1,4 +1,4 @@
--- An aggregate that is made, and the refresh that follows it.
+-- A new aggregate, and the refresh that follows it.
 use Rattle.std.proofs.Common.{◌≡◌, ℕ, suc, ◌+◌, ◌≤◌, Bool, true, false, cond, nat_lt, not, List, [], ◌∷◌, ◌++◌, length, Option, Some, None, sym, refl, ap, ◌∙◌, subst, inr, arith}
 use Rattle.std.specs.Prelude.{Result, Ok, Err, IsSome, is_some, ◌||◌, slice_get, position as place}
 use Rattle.std.specs.List.{position_or_len}
@@ -59,7 +59,7 @@ number_named r name k e =
     let from : number_from name 0 r.views ≡ 0 + position_or_len (λ v. same_name v.name name) r.views = counted_from name 0 r.views in
     omega (arith, at, from)
 
--- what comes last is found last, where nothing before it has the name
+-- the last entry is found if no earlier one has the name
 is_some-cond : (b : Bool) (n : ℕ) → is_some (cond b (Some n) None) ≡ false → b ≡ false
 is_some-cond true n e = absurd (true≢false e)
 is_some-cond false n e = refl
@@ -83,12 +83,12 @@ pub made_last : (r : Roster) (def : ViewDef) → is_taken r def.name ≡ false �
 made_last r def free =
     found_last (λ v. same_name v.name def.name) r.views def (same_itself def.name) (not_either (is_some (table_named r def.name)) (is_some (view_named r def.name)) free)
 
--- it is there
+-- the last entry exists
 get_last : {X : Type 0} (xs : List X) (x : X) → slice_get (xs ++ x ∷ []) (length xs) ≡ Some x
 get_last [] x = refl
 get_last (y ∷ ys) x = get_last ys x
 
--- ---- where it was made
+-- ---- at the event
 
 made_there : (found : State) (taken : Bool) (many : ℕ) (e : Event) (k : ℕ) (mid : State) → Answered (new_relation found.history taken many e) found (outcomes.Done k) mid → (taken ≡ false) × Makes e found mid
 made_there found true many e k mid w = absurd w
@@ -102,7 +102,7 @@ made_there found false many e k mid w =
       | false ↦ λ v. absurd v
     ]) w
 
--- what was made under a name, and where
+-- the new aggregate has this number, and was created at this history
 pub record WasMade (def : ViewDef) (n : ℕ) (mid : History) : Type 0 where
   pub named : view_named (roster mid) def.name ≡ Some n
   pub there : IsSome (view_of (roster mid) n)
@@ -118,7 +118,7 @@ was_made def found k mid w =
 
 -- ---- the statement
 
--- it did what it is for only where its call did
+-- the call succeeded only if its outcome says so
 pub done_outcome : (pos : ℕ) (outcome : Outcome ℕ) (k : ℕ) → IsTried pos outcome (Ok (tried.Done k)) → outcome ≡ outcomes.Done k
 done_outcome pos (outcomes.Done a) k i = done_same a k i
   where
@@ -128,7 +128,7 @@ done_outcome pos (outcomes.Refused r) k i = absurd cc
 done_outcome pos outcomes.DiskFault k i = absurd cc
 done_outcome pos outcomes.NoMemory k i = absurd i
 
--- what it made is there under its name
+-- the new aggregate exists under its name
 pub made_named : (alone : Bool) (old : State) (def : ViewDef) (outcome : Outcome ℕ) (pos : ℕ) (t : Attempt ℕ) (k : ℕ) (mid : State) → Called alone old (making_view def) outcome mid → IsTried pos outcome (Ok t) → t ≡ tried.Done k → (n : ℕ) × WasMade def n mid.history
 made_named alone old def outcome pos t k mid c i j =
     let d = subst (λ o. Called alone old (making_view def) o mid) (done_outcome pos outcome k (subst (λ x. IsTried pos outcome (Ok x)) j i)) c in
@@ -145,7 +145,7 @@ view_broken alone old def outcomes.NoMemory pos e new next c i =
 
 -- ---- the refresh that follows
 
--- what was named where the aggregate was made is so later
+-- a name that was resolved at the event stays the same later
 pub named_on : (g h : History) (name : List ℕ) (n : ℕ) → Begins g h → view_named (roster g) name ≡ Some n → view_number (roster h) name ≡ n
 named_on g h name n b e = number_named (roster h) name n ((relations_stay g h b).view_names name n e)
 
@@ -156,7 +156,7 @@ there_on r s n (Some def) e i k = subst (λ o. IsSome o) (sym (k def e).there) r
 pub view_stays : (g h : History) (n : ℕ) → Begins g h → IsSome (view_of (roster g) n) → IsSome (view_of (roster h) n)
 view_stays g h n b i = there_on (roster g) (roster h) n (view_of (roster g) n) refl i ((relations_stay g h b).views n)
 
--- a line comes before those of a turn
+-- a turn with one more line at the beginning
 pub led : {T J : Type 0} (alone : Bool) (old : State) (procedure : Procedure (Turn Places)) (line : Said) (p : Places) (completion led_told : Completion T J) (new : State) (before after : ℕ) → Ends alone old procedure p (Ok completion) new before after → led_told.said ≡ line ∷ completion.said → led_told.change ≡ completion.change → led_told.failed ≡ completion.failed → Ends alone old (ending_as (after_line line) procedure) p (Ok led_told) new before after
 led alone old procedure line p completion l new before after e s c f = record {
   read = e.read;
@@ -167,11 +167,11 @@ led alone old procedure line p completion l new before after e s c f = record {
   counted = e.counted;
 }
 
--- the number under a name, as a snapshot's roster has it
+-- the number under a name, by a snapshot's roster
 pub number_in : (r : Roster) (views : List ViewDef) (g h : History) (name : List ℕ) (v n : ℕ) → v ≡ number_from name 0 views → views ≡ r.views → r ≡ roster h → Begins g h → view_named (roster g) name ≡ Some n → v ≡ n
 number_in r views g h name v n a b c d e = a ∙ ap (number_from name 0) (b ∙ ap (λ x. x.views) c) ∙ named_on g h name n d e
 
--- what was made is there under its name, by its number
+-- the new aggregate exists under its name, with its number
 pub record IsNamed (r : Roster) (name : List ℕ) : Type 0 where
   pub named : view_named r name ≡ Some (view_number r name)
   pub there : IsSome (view_of r (view_number r name))

@@ -1,4 +1,4 @@
--- Laws of walks: how they go on, one after the other, and where they broke off.
+-- Laws of walks: how they continue, in order, and where they broke off.
 use Rattle.std.proofs.Common.{Bool, true, false, sym, refl, subst, inl, inr}
 use Rattle.std.specs.Prelude.{IsTrue, ◌||◌, is_some}
 use Rattle.std.proofs.lemmas.Bool.{true≢false}
@@ -28,7 +28,7 @@ goes_breaks alone old (ends a) new b = goes_same old new b
 
 -- ---- where they broke off
 
--- a walk that came to its end may have broken off there
+-- a walk that ended may have broken off there
 pub walks_break : {A : Type 0} (alone failed : Bool) (old : State) (procedure : Procedure A) (new : State) (y : A) → Walks alone failed old procedure new y → Breaks alone old procedure new
 walks_break alone failed old (sees shown f) new y w = record { mid = w.mid; first = w.first; rest = walks_break alone failed w.mid (f w.mid.history) new y w.rest }
 walks_break alone failed old (adds e next stop) new y (inl w) = inr (inl (w.0, walks_break alone failed old stop new y w.1))
@@ -42,7 +42,7 @@ not_begun alone old (sees shown f) = record { mid = old; first = inl refl; rest 
 not_begun alone old (adds e next stop) = inl refl
 not_begun alone old (ends a) = refl
 
--- a procedure that broke off, whatever was to follow it
+-- a procedure that broke off, whatever would follow it
 pub breaks_first : {A B : Type 0} (alone : Bool) (old : State) (first : Procedure A) (next : A → Procedure B) (new : State) → Breaks alone old first new → Breaks alone old (followed_by first next) new
 breaks_first alone old (sees shown f) next new b = record { mid = b.mid; first = b.first; rest = breaks_first alone b.mid (f b.mid.history) next new b.rest }
 breaks_first alone old (adds e n stop) next new (inl b) = inl b
@@ -51,7 +51,7 @@ breaks_first alone old (adds e n stop) next new (inr (inr (inl b))) = inr (inr (
 breaks_first alone old (adds e n stop) next new (inr (inr (inr b))) = inr (inr (inr (record { mid = b.mid; first = b.first; rest = breaks_first alone b.mid stop next new b.rest })))
 breaks_first alone old (ends a) next new b = subst (λ s. Breaks alone old (next a) s) (sym b) (not_begun alone old (next a))
 
--- ---- one after the other
+-- ---- procedures in order
 
 -- if a store has stopped, its disk fails no more
 no_fall : {A : Type 0} (alone : Bool) (old : State) (procedure : Procedure A) (new : State) (y : A) → IsTrue (stands_still old) → Walks alone true old procedure new y → ⊥
@@ -86,13 +86,14 @@ put_fallen alone old (adds e n stop) mid a next new y (inr (inl w)) v = inr (inl
 put_fallen alone old (adds e n stop) mid a next new y (inr (inr w)) v = inr (inr (refl, record { mid = w.1.mid; first = w.1.first; rest = put_after alone false w.1.mid stop mid a next new y w.1.rest v }))
 put_fallen alone old (ends x) mid a next new y w v = absurd (true≢false w.0)
 
--- a procedure that was walked, and then the procedure that follows it, are the walk of both, also where the disk failed in the first
+-- two walks in order, of a procedure and of the one that follows it, are one walk of both. The disk may have failed in
+-- either
 pub put_together : {A B : Type 0} (alone failed failed_then : Bool) (old : State) (first : Procedure A) (mid : State) (a : A) (next : A → Procedure B) (new : State) (y : B) → Walks alone failed old first mid a → Walks alone failed_then mid (next a) new y → Walks alone (failed || failed_then) old (followed_by first next) new y
 put_together alone false failed_then old first mid a next new y w v = put_after alone failed_then old first mid a next new y w v
 put_together alone true false old first mid a next new y w v = put_fallen alone old first mid a next new y w v
 put_together alone true true old first mid a next new y w v = absurd (no_fall alone mid (next a) new y (fallen_stands alone old first mid a w) v)
 
--- the same, where the second broke off
+-- the same if the second broke off
 pub break_together : {A B : Type 0} (alone failed : Bool) (old : State) (first : Procedure A) (mid : State) (a : A) (next : A → Procedure B) (new : State) → Walks alone failed old first mid a → Breaks alone mid (next a) new → Breaks alone old (followed_by first next) new
 break_together alone failed old (sees shown f) mid a next new w v = record { mid = w.mid; first = w.first; rest = break_together alone failed w.mid (f w.mid.history) mid a next new w.rest v }
 break_together alone failed old (adds e n stop) mid a next new (inl w) v = inr (inl (w.0, break_together alone failed old stop mid a next new w.1 v))
@@ -100,14 +101,14 @@ break_together alone failed old (adds e n stop) mid a next new (inr (inl w)) v =
 break_together alone failed old (adds e n stop) mid a next new (inr (inr w)) v = inr (inr (inr (record { mid = w.1.mid; first = w.1.first; rest = break_together alone false w.1.mid stop mid a next new w.1.rest v })))
 break_together alone failed old (ends x) mid a next new w v = subst (λ s. Breaks alone s (next x) new) w.1 (subst (λ z. Breaks alone mid (next z) new) w.2 v)
 
--- a walk of a procedure is one of the procedure with something else said of its end
+-- a walk of a procedure is a walk of the procedure with a function of its result
 pub walks_as : {A B : Type 0} (g : A → B) (alone failed : Bool) (old : State) (procedure : Procedure A) (new : State) (y : A) → Walks alone failed old procedure new y → Walks alone failed old (ending_as g procedure) new (g y)
 walks_as g alone true old procedure new y w = put_together alone true false old procedure new y (λ a. ends (g a)) new (g y) w (refl, refl, refl)
 walks_as g alone false old procedure new y w = put_together alone false false old procedure new y (λ a. ends (g a)) new (g y) w (refl, refl, refl)
 
--- ---- looks
+-- ---- reads
 
--- a procedure that begins with a look, from an earlier state on
+-- a procedure that begins with a read, from an earlier state on
 pub walks_seen : {A : Type 0} (alone failed : Bool) (old mid : State) (shown : History → Bool) (f : History → Procedure A) (new : State) (y : A) → Sees alone old mid → Walks alone failed mid (sees shown f) new y → Walks alone failed old (sees shown f) new y
 walks_seen alone failed old mid shown f new y s w = record { mid = w.mid; first = sees_trans alone old mid w.mid s w.first; rest = w.rest }
 

@@ -1,4 +1,4 @@
--- What the replies of actors say about what their lines do.
+-- What the replies of an actor say about what its lines do.
 use Rattle.std.specs.Prelude.{◌≡◌, ◌≤◌, ℕ, Bool, true, List, [], ◌++◌, Option, Result, Ok, Err}
 use Rattle.ts_model.specs.declared.events.Event.{Event}
 use Rattle.ts_model.specs.Allowed.{all_allowed}
@@ -17,8 +17,8 @@ use Rattle.ts_sessions.specs.Step.{kind_of, makes_event}
 use Rattle.ts_sessions.specs.Stopped.{OnlyStopsAreReported}
 use Rattle.ts_sessions.specs.Walks.{Walks}
 
--- over a whole history, which stopped at a position if it did, a procedure gives what was walked between two states
--- by one who had looked at `at` last, with the events that were made
+-- over a whole history, which stopped at `stop` if it did, a procedure gives its walk between two states. Its session
+-- had last read at `at`, and its events are those that were appended
 pub record IsGivenOver {A : Type 0} (all : History) (stop : Option ℕ) (old new : State) (at : ℕ)
     (procedure : Procedure A) (y : A) : Type 0 where
   pub looks : List (Option ℕ)
@@ -28,26 +28,26 @@ pub record IsGivenOver {A : Type 0} (all : History) (stop : Option ℕ) (old new
   pub made : new.made ≡ old.made ++ numbers given
   pub within : last ≤ position new.history
 
--- a statement that makes an event was read
+-- the text is a statement that appends an event
 abbrev pub ReadsEvent : Result (Stmt × Stream) Fault → Type 0
 ReadsEvent (Ok read) = makes_event (kind_of read.0) ≡ true
 ReadsEvent (Err fault) = ⊥
 
--- places, by the block that they are in
+-- a session state, by its block
 module _ {P : Type 0} (within : P → Block) where
-  -- the block had begun by then
+  -- the block had begun by the end of the history
   abbrev pub HadBegun : P → History → Type 0
   HadBegun p h = BegunBy (within p) h
 
   -- what lines do
   module _ (does : P → List ℕ → ℕ → Procedure (Turn P)) where
-    -- the block after a line had begun by its end
+    -- the block after a line had begun by the end of the history that gives the line
     abbrev pub BlocksBegin : Type 0
     BlocksBegin =
         (alone failed : Bool) (old : State) (p : P) (text : List ℕ) (skip : ℕ) (new : State) (y : Turn P)
         → HadBegun p old.history → Walks alone failed old (does p text skip) new y → HadBegun y.places new.history
 
-    -- a line of a statement that makes an event leaves its session outside a block, if it was there
+    -- a line with an event leaves its session outside a block, if it was outside
     abbrev pub StaysOutside : Type 0
     StaysOutside =
         (alone failed : Bool) (old : State) (p : P) (text : List ℕ) (skip : ℕ) (new : State) (y : Turn P)
@@ -56,8 +56,8 @@ module _ {P : Type 0} (within : P → Block) where
 
     -- and the replies to them
     module _ (reply : P → List ℕ → ℕ → Procedure (Turn P)) where
-      -- what was walked of a line its reply gives over each longer history that is allowed, also over one whose store
-      -- stopped later
+      -- the reply to a line gives the walk of the line over each longer allowed history, even if the store stopped
+      -- later
       abbrev pub LinesAreAnswered : Type 0
       LinesAreAnswered =
           (alone failed : Bool) (all : History) (stop : Option ℕ) (at : ℕ) (old : State) (p : P) (text : List ℕ)
@@ -66,7 +66,7 @@ module _ {P : Type 0} (within : P → Block) where
           → StopsLater (stop_of new) stop → Walks alone failed old (does p text skip) new y
           → IsGivenOver all stop old new at (reply p text skip) y
 
-      -- the replies report what the lines did. They are E24 only at stops, and name the events that were made
+      -- the replies report what the lines did. They are E24 only at stops, and name the events that were appended
       pub record TellsReplies : Type 0 where
         pub answered : LinesAreAnswered
         pub began : BlocksBegin

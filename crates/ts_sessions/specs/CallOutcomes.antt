@@ -8,11 +8,11 @@ use Rattle.ts_model.specs.Numbers.{stopped}
 use Rattle.ts_sessions.specs.declared.call_outcomes.Attempt.{Attempt}
 use Rattle.ts_sessions.specs.declared.call_outcomes.Attempt.TheVariants as tried
 
--- the refusal of an event where the store stopped at this position
+-- the refusal of an event in a store that stopped at this position
 abbrev pub stopped_at : ℕ → Refusal
 stopped_at position = record { code = stopped; pos = position; mark = 0 }
 
--- this came of the answer of a call, where the store has this position
+-- this is the outcome of a call with this result, at this position of the store
 abbrev pub IsTried : {A : Type 0} → ℕ → Outcome A → Result (Attempt A) NoMemory → Type 0
 IsTried position (outcomes.Done a) (Ok t) = t ≡ tried.Done a
 IsTried position (outcomes.Done a) (Err e) = ⊥

@@ -1,4 +1,4 @@
--- The outcomes of store calls, and what is left of a statement after each.
+-- The outcomes of store calls, and the rest of a statement after each.
 use Rattle.std.specs.Prelude.{◌≡◌, ℕ, ◌≤◌, ◌<◌, Bool, None, Result, Ok, Err, IsTrue, ⊤}
 use Rattle.ts_schema.specs.Counts.{raised_by}
 use Rattle.ts_schema.specs.declared.memory.NoMemory.{NoMemory}
@@ -22,10 +22,10 @@ use Rattle.ts_sessions.specs.Sound.{number_at}
 use Rattle.ts_sessions.specs.Step.{after_cut, after_line, turn_of_commit, cuts_refresh, turn_of_line}
 use Rattle.ts_sessions.specs.Walks.{Breaks}
 
--- ---- what a call leaves
+-- ---- the rest of a statement after a call
 
--- what is left of a statement after a call with this outcome: p is the session state, `read` how many rows it had
--- read, and h the history that the call saw
+-- the rest of a statement after a call with this outcome. p is the session state, `read` how many rows the statement
+-- had read, and h the history that the call saw
 abbrev pub left_after : {T : Type 0} → Places → ℕ → History → CallOutcome T → Procedure (Turn Places)
 left_after p read h (outcomes.Number line r) = ends (turn_of_line p (says line) r)
 left_after p read h (outcomes.Commit leaves r) = ends (turn_of_commit p (left_by leaves p) r)
@@ -46,21 +46,21 @@ meets_left (outcomes.Cut asked then r) = cut_meets then
 meets_left (outcomes.Finish f r) = 1
 meets_left (outcomes.Look then shot) = look_meets then
 
--- of so many rows read, those that the rest of the statement still counts
+-- how many of the rows read the rest of the statement still counts
 abbrev pub spent_after : {T : Type 0} → ℕ → CallOutcome T → ℕ
 spent_after read (outcomes.Finish f r) = spent_by read f
 spent_after read other = 0
 
--- the outcome fits the history that the call saw: an aggregate that was made exists under its name, one to be
--- refreshed exists, and a snapshot is one of an allowed history
+-- the outcome fits the history that the call saw: a new aggregate exists under its name, one that will be refreshed
+-- exists, and a snapshot is one of an allowed history
 abbrev pub OutcomeFits : {T J : Type 0} → Shown T J → History → CallOutcome T → Type 0
 OutcomeFits shown h (outcomes.View new filled r) = MadeFits r h new.name
 OutcomeFits shown h (outcomes.Found asked made) = IsAsked h asked
 OutcomeFits shown h (outcomes.Look then shot) = shown.stands shot h × IsTrue (all_allowed h)
 OutcomeFits shown h other = ⊤
 
--- ---- the two halves of the law: a call leads from the rest of a statement to what the call leaves, and what follows
--- the call is exactly that
+-- ---- the two halves of the law
+-- a call leads from the rest of a statement to the rest after the call, and what follows the call is exactly that rest
 
 -- a store call had this outcome at a history
 pub record AnswersDeed {T J : Type 0} (shown : Shown T J) (h : History) (deed : Deed T J) (outcome : CallOutcome T) : Type 0 where
@@ -81,7 +81,7 @@ abbrev pub MeetsTo :
 MeetsTo shown alone old deed (Ok m) new = Meets shown alone old deed m new
 MeetsTo shown alone old deed (Err e) new = (p : Places) (read : ℕ) → Breaks alone old (rest p read old.history deed) new
 
--- this follows a look at a history
+-- this follows a read at a history
 pub record IsLooked {T J : Type 0} (shown : Shown T J) (h : History) (then : AfterLook) (next : Next T J)
     (before after : ℕ) : Type 0 where
   pub read : ℕ
@@ -96,7 +96,7 @@ abbrev pub LooksTo :
 LooksTo shown h then (Ok next) before after = IsLooked shown h then next before after
 LooksTo shown h then (Err e) before after = before ≤ after
 
--- this follows a call: it leaves just what the call left, by the places and by the rows read so far
+-- this follows a call: it leaves exactly the rest after the call, by the session state and by the rows read before
 pub record IsFollowed {T J : Type 0} (shown : Shown T J) (h : History) (outcome : CallOutcome T) (f : Followed T J)
     (before after : ℕ) : Type 0 where
   pub read_then : ℕ → ℕ
@@ -113,7 +113,7 @@ abbrev pub FollowsTo :
 FollowsTo shown h outcome (Ok f) before after = IsFollowed shown h outcome f before after
 FollowsTo shown h outcome (Err e) before after = before ≤ after
 
--- what comes next, with no line said before it
+-- what comes next, with no line of the reply before it
 abbrev pub quiet : {T J : Type 0} → Result (Next T J) NoMemory → Result (Followed T J) NoMemory
 quiet (Ok next) = Ok (record { said = None; next = next })
 quiet (Err e) = Err e

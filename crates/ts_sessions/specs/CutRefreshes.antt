@@ -1,4 +1,4 @@
--- The block of a session whose line is given over a history had begun by the end of that history.
+-- After a line that a history gives, the block of its session had begun by the end of that history.
 use Rattle.std.specs.Prelude.{ℕ, List, [], Option}
 use Rattle.ts_model.specs.declared.events.Event.{Event}
 use Rattle.ts_model.specs.History.{History}
@@ -7,8 +7,7 @@ use Rattle.ts_sessions.specs.Gives.{Gives}
 use Rattle.ts_sessions.specs.Places.{Block, Turn}
 use Rattle.ts_sessions.specs.Procedures.{Procedure}
 
--- the block of a session after a line had begun by the end of the history that the line is given over, if the block
--- before it had
+-- the block after a line had begun by the end of the history that gives the line, if the block before it had
 abbrev pub GivenBlocksBegin : {P : Type 0} → (P → Block) → (P → List ℕ → ℕ → Procedure (Turn P)) → Type 0
 GivenBlocksBegin {P} within reply =
     (all : History) (stop : Option ℕ) (at : ℕ) (p : P) (text : List ℕ) (skip : ℕ) (looks : List (Option ℕ))

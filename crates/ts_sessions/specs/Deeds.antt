@@ -1,4 +1,4 @@
--- The store calls of a statement, and what is left of its procedure at each.
+-- The store calls of a statement, and the rest of its procedure at each.
 use Rattle.std.specs.Prelude.{◌≡◌, ℕ, ◌==◌, ◌≤◌, ◌<◌, ℤ, Bool, true, false, cond, ◌||◌, List, [], ◌∷◌, length, Option, Some, None, option_map, Result, Ok, Err, IfSome, IsSome, IsTrue, ⊤}
 use Rattle.std.specs.Option.{ForSome}
 use Rattle.std.specs.Map.{remove_entry}
@@ -69,9 +69,9 @@ use Rattle.ts_sessions.specs.Step.{after_cut, after_line, after_snapshot, after_
 use Rattle.ts_sessions.specs.Sound.{IsNamed, IsThere, number_at}
 use Rattle.ts_sessions.specs.Walks.{Walks, Breaks}
 
--- ---- what is left
+-- ---- the rest of a procedure
 
--- the refresh that is finished, and where its snapshot was taken
+-- the refresh that is finished, and the position of its snapshot
 abbrev pub cut_in : FinishSource → ℕ
 cut_in (finishing.Begun begun at) = begun.cut
 cut_in (finishing.Held cut at) = cut
@@ -80,13 +80,13 @@ abbrev pub at_in : FinishSource → ℕ
 at_in (finishing.Begun begun at) = at
 at_in (finishing.Held cut at) = at
 
--- the result of a finish, in a statement that read so many rows
+-- the result of a finish, in a statement that read this many rows
 abbrev pub turn_of_finish : Places → ℕ → FinishSource → Result ℕ Refusal → Turn Places
 turn_of_finish p read (finishing.Begun begun at) r =
     turn_of_refresh (cuts begun.cut p) begun.cut begun.span begun.min (record { at = at; reads = read }) r
 turn_of_finish p read (finishing.Held cut at) r = finish_turn p cut at r
 
--- what makes a table or sets one thing of a relation, which event that is, and the line that says it
+-- what creates a table or sets one property of a relation: its event, and the line that reports it
 abbrev pub making_of : RelationChange → History → Act ℕ
 making_of (making.Table def) = making_table def
 making_of (making.Hyper table hyper) = making_hyper table hyper
@@ -107,47 +107,47 @@ says lines.Table = said.Table
 says lines.Hyper = said.Hypertable
 says lines.Mode = said.Mode
 
--- the places after operations took effect, which ends a block or not
+-- the session state after a commit, which may end a block
 abbrev pub left_by : Bool → Places → Places
 left_by true p = enters none p
 left_by false p = p
 
--- what is left after an aggregate with this number was made, or not
+-- the rest after the call that creates the aggregate with number n
 abbrev pub view_leaves : Places → ℕ → ℤ → Bool → Result ℕ Refusal → Procedure (Turn Places)
 view_leaves p n min filled (Ok k) = view_made p n min k filled
 view_leaves p n min filled (Err r) = ends (refuses p r)
 
--- why a refresh that waits can't be finished, where its session lacks this
+-- the refusal code for a pending refresh whose session lacks this
 abbrev pub lack_code : MissingPart → History → ℕ
 lack_code lacks.Snapshot h = no_snapshot
 lack_code lacks.Job h = lost_code h
 
--- the end of a statement that says one line
+-- the end of a statement with a reply of one line
 abbrev pub said_once : {T J : Type 0} → Said → Change T J → Next T J
 said_once line change = nexts.End (record { said = line ∷ []; change = change; failed = false })
 
--- what begins a write block
+-- the start of a write block
 abbrev pub begin_write_block : {T J : Type 0} → Next T J
 begin_write_block = said_once said.Begin (changes.Enters (opens.Write (record { ops = []; bytes = 0 })))
 
--- what ends a block: the operations that wait take effect, if there are any
+-- the end of a block: a commit of the queue, unless it is empty
 abbrev pub end_of_block : {T J : Type 0} → Block → Next T J
 end_of_block none = said_once said.End (changes.Enters opens.Nothing)
 end_of_block (writing ops bytes) =
     cond (length ops == 0) (said_once said.CommitEmpty (changes.Enters opens.Nothing)) (nexts.Deed (deeds.Commit ops true))
 end_of_block (reading at) = said_once said.End (changes.Enters opens.Nothing)
 
--- what takes a snapshot for a refresh, if one is meant
+-- the snapshot for a refresh, if the statement names one
 abbrev pub hold_of : {T J : Type 0} → Option ℕ → Deed T J
 hold_of None = deeds.Look looks_for.Unknown
 hold_of (Some c) = deeds.Look (looks_for.Hold c)
 
--- what is left after a cut of a refresh whose aggregate's first bucket starts there
+-- the rest after a cut. The first bucket of the aggregate starts at the given time
 abbrev pub cut_left : Places → ℤ → AfterCut → Result CutDone Refusal → Procedure (Turn Places)
 cut_left p min after_cuts.Refresh r = after_cut p min r
 cut_left p min after_cuts.End r = ends (cut_turn p min r)
 
--- what is left after a look at a history, by what it is for
+-- the rest after a read at a history, by the purpose of the read
 abbrev pub look_left : Places → History → AfterLook → Procedure (Turn Places)
 look_left p h looks_for.BeginRead =
     ends (turns (enters (reading (position h)) p) (said.BeginRead (position h)))
@@ -157,8 +157,8 @@ look_left p h (looks_for.Hold cut) = ends (snap_turn p cut (snapshot_taken cut h
 look_left p h (looks_for.Refuse cut lack) = ends (refuses p (unfinished_refusal (lack_code lack h) h (pending h cut)))
 look_left p h looks_for.Unknown = ends (refuses p (refusal no_refresh h 0))
 
--- what is left of a statement of a session with these places, which has read so many rows, where this is to be done
--- next and this history was seen: a call, and what its answer leaves
+-- the rest of a statement before a store call: the call, and what its outcome leaves. The session has this state, the
+-- statement has read this many rows, and the store has this history
 abbrev pub rest : {T J : Type 0} → Places → ℕ → History → Deed T J → Procedure (Turn Places)
 rest p read h (deeds.Cut asked then) =
     followed_by (cuts_refresh asked.view asked.lo asked.hi) (cut_left p asked.min then)
@@ -172,12 +172,12 @@ rest p read h (deeds.View def filled) =
 rest p read h (deeds.Fill new made) = view_made p (number_at h new.name) (first_of new.width) made true
 rest p read h (deeds.Look then) = looks (λ g. look_left p g then)
 
--- the same of what comes next
+-- the same for what comes next
 abbrev pub rest_next : {T J : Type 0} → Places → ℕ → History → Next T J → Procedure (Turn Places)
 rest_next p read h (nexts.Deed d) = rest p read h d
 rest_next p read h (nexts.End t) = ends (turn_of p read t)
 
--- how many meetings with the store are left at most
+-- at most how many store calls are left
 abbrev pub cut_meets : AfterCut → ℕ
 cut_meets after_cuts.Refresh = 3
 cut_meets after_cuts.End = 1
@@ -195,7 +195,7 @@ left (deeds.View def filled) = 5
 left (deeds.Fill new made) = 4
 left (deeds.Look then) = look_meets then
 
--- what is left after a line that was said already
+-- the rest after a line of the reply that is already known
 abbrev pub with_line : Option Said → Procedure (Turn Places) → Procedure (Turn Places)
 with_line None procedure = procedure
 with_line (Some line) procedure = ending_as (after_line line) procedure
@@ -204,7 +204,7 @@ abbrev pub led_lines : Option Said → List Said → List Said
 led_lines None said = said
 led_lines (Some line) said = line ∷ said
 
--- a statement's end with what was said and whether the disk failed before it
+-- the end of a statement, with the line of the reply and the disk fault that came before it
 abbrev pub Joins : {T J : Type 0} → Option Said → Bool → Completion T J → Result (Completion T J) NoMemory → Type 0
 Joins said failed t (Ok u) =
     (u.said ≡ led_lines said t.said) × (u.change ≡ t.change) × (u.failed ≡ (failed || t.failed))
@@ -214,7 +214,7 @@ abbrev pub left_next : {T J : Type 0} → Next T J → ℕ
 left_next (nexts.Deed d) = left d
 left_next (nexts.End t) = 0
 
--- of so many rows read, those that the rest of the statement still counts
+-- how many of the rows read the rest of the statement still counts
 abbrev pub spent_by : ℕ → FinishSource → ℕ
 spent_by read (finishing.Begun begun at) = read
 spent_by read (finishing.Held cut at) = 0
@@ -227,15 +227,15 @@ abbrev pub spent_next : {T J : Type 0} → ℕ → Next T J → ℕ
 spent_next read (nexts.Deed d) = spent read d
 spent_next read (nexts.End t) = read
 
--- ---- what has to go with what was seen
+-- ---- what must fit the state of the store
 
 pub record IsAsked (h : History) (asked : RefreshRequest) : Type 0 where
   pub view : IsSome (view_of (roster h) asked.view)
   pub low : ForSome asked.lo (λ t. IsTrue (is_time t))
   pub high : ForSome asked.hi (λ t. IsTrue (is_time t))
 
--- what a store call needs of the state at which it is made: the aggregate of a refresh exists and its bounds are times,
--- a job is that of its refresh and snapshot, an event is sound, and an aggregate to be filled exists under its name
+-- what a store call needs of the state of the store. The aggregate of a refresh exists and its bounds are times. A job
+-- is that of its refresh and snapshot. An event is sound. An aggregate to be filled exists under its name
 abbrev pub DeedFits : {T J : Type 0} → Shown T J → Deed T J → State → Type 0
 DeedFits shown (deeds.Cut asked then) s = IsAsked s.history asked
 DeedFits shown (deeds.Finish job f) s = IsJobOf shown (cut_in f) (at_in f) s.history job
@@ -245,24 +245,24 @@ DeedFits shown (deeds.View def filled) s = IsTrue (sound s.history (events.View 
 DeedFits shown (deeds.Fill new made) s = IsNamed s.history new.name × IsThere s.history new.name
 DeedFits shown other s = ⊤
 
--- an aggregate that was made is there under its name
+-- an aggregate that was created exists under its name
 abbrev pub MadeFits : Result ℕ Refusal → History → List ℕ → Type 0
 MadeFits (Ok k) h name = IsNamed h name × IsThere h name
 MadeFits (Err r) h name = ⊤
 
--- what a statement brings to its session, where its disk hasn't failed
+-- what a statement brings to its session fits the state, and its disk hasn't failed
 pub record EndFits {T J : Type 0} (shown : Shown T J) (bytes : ℕ) (t : Completion T J) (s : State) : Type 0 where
   pub change : ChangeHolds shown bytes t.change s.history
   pub stands : t.failed ≡ false
 
--- what comes next, of a statement of a text of so many bytes
+-- what comes next fits the state, in a statement whose text has this many bytes
 abbrev pub NextFits : {T J : Type 0} → Shown T J → ℕ → Next T J → State → Type 0
 NextFits shown bytes (nexts.Deed d) s = DeedFits shown d s
 NextFits shown bytes (nexts.End t) s = EndFits shown bytes t s
 
--- `next` comes next in a statement. What is left of it is `left_then`, by the session state and the rows read so far;
--- `rows` says which of these rows it counts. It fits each state that meets its needs. It leaves fewer store calls than
--- `before`
+-- `next` comes next in a statement. The rest of the statement is `left_then`, by the session state and the rows read
+-- before; `rows` says which of these rows it counts. It fits each state that meets its needs. It leaves fewer store
+-- calls than `before`
 pub record FollowsReading {T J : Type 0} (shown : Shown T J) (next : Next T J) (before : ℕ) (needs : State → Type 0)
     (rows : ℕ → ℕ) (left_then : Places → ℕ → History → Procedure (Turn Places)) : Type 0 where
   pub rest : (p : Places) (read : ℕ) (h : History) → rest_next p (rows read) h next ≡ left_then p read h
@@ -270,11 +270,11 @@ pub record FollowsReading {T J : Type 0} (shown : Shown T J) (next : Next T J) (
   pub spent : (read : ℕ) → spent_next (rows read) next ≡ rows read
   pub shorter : left_next next < before
 
--- the same where no rows were read and nothing is needed
+-- the same if no rows were read and nothing is needed
 abbrev pub Follows : {T J : Type 0} → Shown T J → Next T J → ℕ → (Places → Procedure (Turn Places)) → Type 0
 Follows shown next before left_then = FollowsReading shown next before (λ s. ⊤) (λ read. 0) (λ p read h. left_then p)
 
--- the job of a snapshot that a session held was taken: its refresh can't be finished any more
+-- a store took the job of a snapshot that a session held: the refresh can't be finished any more
 abbrev pub IsLostBy : {T J : Type 0} → Deed T J → State → Type 0
 IsLostBy (deeds.Finish job f) s = IsTrue (is_lost s (cut_in f))
 IsLostBy other s = ⊤
@@ -285,14 +285,14 @@ IsLostNext (nexts.End t) s = ⊤
 
 -- ---- steps
 
--- a procedure was walked to where another is left
+-- a procedure was walked up to the point where another is left
 pub record Leads {A : Type 0} (alone failed : Bool) (old : State) (procedure : Procedure A) (mid : State)
     (left : Procedure A) : Type 0 where
   pub walks : (failed_then : Bool) (new : State) (y : A)
       → Walks alone failed_then mid left new y → Walks alone (failed || failed_then) old procedure new y
   pub breaks : (new : State) → Breaks alone mid left new → Breaks alone old procedure new
 
--- a store call was made, with this outcome
+-- a store call had this outcome
 pub record Goes {T J : Type 0} (alone : Bool) (old : State) (p : Places) (read : ℕ) (deed : Deed T J)
     (a : DeedOutcome T J) (new : State) (before after : ℕ) : Type 0 where
   pub read_then : ℕ
@@ -323,7 +323,7 @@ pub record CarriesOut {T J : Type 0} (alone : Bool) (old : State) (p : Places) (
 
 -- ---- jobs that a session held
 
--- the refresh whose held job it takes
+-- the refresh whose held job the finish takes
 abbrev pub held_in : FinishSource → Option ℕ
 held_in (finishing.Begun begun at) = None
 held_in (finishing.Held cut at) = Some cut
@@ -347,8 +347,8 @@ pub record Forgets {T J : Type 0} (gone : Option ℕ) (old new : Session T J) : 
   pub cut : new.cut ≡ old.cut
   pub held : new.held.entries ≡ without_entry gone old.held.entries
 
--- a session from which what comes next took what it needs, for the refresh that was meant. Where that came to its end,
--- the session goes with what is seen then; and where it broke off, it does so once it gave up the snapshot
+-- what comes next took what it needs from a session, for the refresh that the statement names. If the statement ends,
+-- the session fits the state of the store then. If it breaks off, the session fits once it has given up the snapshot
 pub record Takes {T J : Type 0} (shown : Shown T J) (meant : Option ℕ) (next : Next T J)
     (old new : Session T J) : Type 0 where
   pub places : places_in new ≡ places_in old
@@ -364,8 +364,8 @@ StandsFor next p s procedure = (alone : Bool) → Leads alone false s procedure 
 
 -- ---- what comes first
 
--- a procedure was walked to where this comes next, of a text of so many bytes: it goes with what is seen then, and the
--- rows that were read were counted
+-- a procedure was walked up to the point where this comes next, in a statement whose text has this many bytes. It fits
+-- the state of the store then, and the rows read were counted
 pub record Opens {T J : Type 0} (shown : Shown T J) (bytes : ℕ) (alone : Bool) (old : State)
     (procedure : Procedure (Turn Places)) (p : Places) (next : Next T J) (new : State) (before after : ℕ) : Type 0 where
   pub read : ℕ
@@ -384,7 +384,7 @@ OpensTo shown bytes alone old procedure p (Err e) new before after = Breaks alon
 
 -- ---- queries
 
--- a query asks for the rows of a hypertable that pass the tests of a grouping by buckets of the calendar
+-- a query asks for the rows of a hypertable that match the tests of a grouping by calendar buckets
 pub record AsksCalendar (r : Roster) (cal : CalPlan) (query : Query) : Type 0 where
   pub table : ℕ
   pub asks : query ≡ Rows table cal.fold.tests
@@ -392,13 +392,13 @@ pub record AsksCalendar (r : Roster) (cal : CalPlan) (query : Query) : Type 0 wh
   pub columns : IsTrue (columns_are_there most_columns cal.fold)
   pub place : option_map (λ hyper. hyper.at) (hyper_of r table) ≡ Some cal.at
 
--- a plan asks for the answer that its form is made of
+-- a plan asks for the answer that its form needs
 abbrev pub IsFormed : Roster → Plan → Form → Type 0
 IsFormed r plan forms.Own = ⊤
 IsFormed r plan (forms.RolledUp upper) = plan.query ≡ lower_query upper
 IsFormed r plan (forms.Calendar cal) = AsksCalendar r cal plan.query
 
--- an answer shows the rows that a grouping by buckets of the calendar takes
+-- an answer has rows that fit a grouping by calendar buckets
 pub record FitsCalendar (cal : CalPlan) (shown : Answer) : Type 0 where
   pub number : IsNumber cal.number
   pub columns : IsTrue (columns_are_there most_columns cal.fold)
@@ -409,7 +409,7 @@ pub record FitsRollUp (fold : Fold) (shown : Answer) : Type 0 where
   pub rows : AreRowsOf fold shown.rows
   pub stale : AreWholeRanges fold.width shown.stale
 
--- an answer is such as its form takes
+-- an answer fits the form
 abbrev pub FormFits : Roster → Form → Answer → Type 0
 FormFits r forms.Own shown = ⊤
 FormFits r (forms.RolledUp upper) shown = ForSome (view_of r upper.view) (λ def. FitsRollUp def.fold shown)

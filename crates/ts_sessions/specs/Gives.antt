@@ -4,10 +4,10 @@ use Rattle.ts_model.specs.declared.events.Event.{Event}
 use Rattle.ts_model.specs.History.{History, event_at, position, prefix}
 use Rattle.ts_sessions.specs.Procedures.{Procedure, sees, adds, ends}
 
--- over a whole history, which stopped at a position if it did, a procedure whose session had looked at `at` last ends
--- with y. It is given by its looks, each with its position where that is printed. They never fall,
--- and each event is the one directly after the last look, unless the store had stopped there. `last` is the last
--- printed look or event, and `given` what was so far and the events, each with its number
+-- over a whole history, which stopped at `stop` if it did, a procedure ends with y. Its session had last read at `at`.
+-- The list has its reads, each with its position if that is printed. Positions never fall, and each event is the one
+-- directly after the last read, unless the store had stopped there. `last` is the last printed read or event. `given`
+-- has the events of `so_far` and then those of the procedure, each with its number
 abbrev pub Gives :
     {A : Type 0} → History → Option ℕ → ℕ → List (ℕ × Event) → Procedure A → List (Option ℕ) → ℕ → List (ℕ × Event)
     → A → Type 0
@@ -23,15 +23,15 @@ Gives all stop at so_far (adds e next stopped) ps last given y =
 Gives all stop at so_far (ends a) [] last given y = (last ≡ at) × (given ≡ so_far) × (y ≡ a)
 Gives all stop at so_far (ends a) (p ∷ ps) last given y = ⊥
 
--- ---- looks and events
+-- ---- reads and events
 
--- the looks whose positions are printed
+-- the positions that are printed
 abbrev pub printed_looks : List (Option ℕ) → List ℕ
 printed_looks [] = []
 printed_looks (None ∷ ps) = printed_looks ps
 printed_looks (Some p ∷ ps) = p ∷ printed_looks ps
 
--- the last of some positions, and where there are none the one before
+-- the last of some positions, or the one before if there are none
 abbrev pub last_of : ℕ → List ℕ → ℕ
 last_of at [] = at
 last_of at (p ∷ ps) = last_of p ps
@@ -47,7 +47,7 @@ AreEvents all at (e ∷ es) last = (at < e.0) × (event_at all e.0 ≡ Some e.1)
 
 -- ---- stops
 
--- a store that had stopped at a position had stopped there; one that hadn't may have stopped since, anywhere
+-- a store that had stopped, stopped at that position. Any other may have stopped since, at any position
 abbrev pub StopsLater : Option ℕ → Option ℕ → Type 0
 StopsLater None later = Unit {0}
 StopsLater (Some p) later = later ≡ Some p

@@ -39,7 +39,7 @@ pub prefix_on : {g h : History} (p : ℕ) → Begins g h → p ≤ position g �
 prefix_on p same le = refl
 prefix_on p (further {h} {e} b) le = prefix_further h e p (omega (arith, le, position_begins b)) ∙ prefix_on p b le
 
--- ---- a refresh that was finished stays so
+-- ---- a finished refresh stays finished
 
 -- a refresh that is known has a number up to the position
 finished_known : (p : Pending) → is_finished p ≡ true → is_known p ≡ true
@@ -156,7 +156,7 @@ holds_on shown fits_on session g h on k = record {
   snapshots = snapshots_on shown fits_on g h session.held.entries on k.snapshots;
 }
 
--- ---- operations that wait
+-- ---- queued operations
 
 pub waits_inside : (b : Block) → WaitsInside (block_kind b) (bytes_queued b)
 waits_inside none = refl
@@ -187,7 +187,7 @@ fits_on_hypertables r (op ∷ ops) e =
     let parts = and_parts (op_fits r op) (list_all (op_fits r) ops) e in
     and_from _ _ (fits_on_hypertable r op parts.0) (fits_on_hypertables r ops parts.1)
 
--- the block of a session that goes with what its store has seen began by then
+-- the block of a session that fits its store began by the end of the history
 pub had_begun :
     {T : Type 0} (stands : T → History → Type 0) (block : Open T) (h : History) → HoldsBlock stands block h
     → BegunBy (block_of block) h

@@ -1,4 +1,4 @@
--- Taking the job of a snapshot that is held.
+-- Taking the job of a snapshot that a session holds.
 use Rattle.std.specs.Prelude.{◌≡◌, ℕ, List, Option, Some, None}
 use Rattle.std.specs.Map.{set_value}
 use Rattle.std.specs.Ordering.{nat_cmp}

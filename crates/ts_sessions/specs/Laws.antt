@@ -1,5 +1,5 @@
--- Laws of procedures, each in one sentence. They hold whatever a procedure ends with, and so for turns of any kind of
--- place.
+-- Laws of procedures, each in one sentence. They are true for any type of result, and so for turns of any type of
+-- session state.
 use Rattle.std.specs.Prelude.{◌≡◌, ℕ, ◌≤◌, max, Bool, false, ◌||◌, List, [], ◌++◌, Option}
 use Rattle.std.specs.List.{AllByRecursion}
 use Rattle.ts_model.specs.declared.events.Event.{Event}
@@ -10,10 +10,10 @@ use Rattle.ts_sessions.specs.Gives.{AreEvents, Gives, StopsAtEnd, StopsLater, la
 use Rattle.ts_sessions.specs.Steady.{Steady}
 use Rattle.ts_sessions.specs.Walks.{Walks}
 
--- ---- one after the other
+-- ---- procedures in order
 
--- a procedure that was walked, and then the procedure that follows it, are the walk of both, also where the disk
--- failed in the first
+-- two walks in order, of a procedure and of the one that follows it, are one walk of both. The disk may have failed in
+-- either
 abbrev pub PutTogether : (A B : Type 0) → Type 0
 PutTogether A B =
     (alone failed failed_then : Bool) (old : State) (first : Procedure A) (mid : State) (a : A)
@@ -23,8 +23,8 @@ PutTogether A B =
 
 -- ---- over a whole history
 
--- what a procedure that is steady from a history on gives by looks from there on, it gives over each longer history,
--- also over one whose store stopped later
+-- a procedure that is steady from a history on, and reads from there on, gives the same over each longer history. The
+-- store may have stopped later
 abbrev pub GivesOverLonger : (A : Type 0) → Type 0
 GivesOverLonger A =
     (fresh : Bool) (base all longer : History) (stop later : Option ℕ) (at : ℕ) (so_far : List (ℕ × Event))
@@ -33,8 +33,8 @@ GivesOverLonger A =
     → Begins all longer → StopsLater stop later → Gives all stop at so_far procedure looks last given y
     → Gives longer later at so_far procedure looks last given y
 
--- the last position of a procedure is its last printed look, or the number of its last event where that is later. So
--- a look that isn't printed raises nothing
+-- the last position of a procedure is its last printed read, or the number of its last event if that is later. So a
+-- read that isn't printed raises nothing
 abbrev pub LastIsPrinted : (A : Type 0) → Type 0
 LastIsPrinted A =
     (all : History) (stop : Option ℕ) (at : ℕ) (procedure : Procedure A) (looks : List (Option ℕ)) (last : ℕ)
@@ -50,12 +50,12 @@ GivesEvents A =
     (given : List (ℕ × Event)) (y : A)
     → Gives all stop at [] procedure looks last given y → AreEvents all at given last
 
--- two readings of a procedure came to the same
+-- two readings of a procedure have the same result and the same events
 pub record SameReading {A : Type 0} (y z : A) (given given_too : List (ℕ × Event)) : Type 0 where
   pub end : z ≡ y
   pub events : given_too ≡ given
 
--- what a procedure gives is determined by its printed looks, wherever its session had looked before
+-- printed reads determine what a procedure gives, wherever its session had read before
 abbrev pub PrintedLooksDetermine : (A : Type 0) → Type 0
 PrintedLooksDetermine A =
     (base all : History) (stop : Option ℕ) (at at_too : ℕ) (procedure : Procedure A)
@@ -66,9 +66,8 @@ PrintedLooksDetermine A =
 
 -- ---- walks
 
--- what was walked is what the procedure gives over the history that was left, to a session that had looked at or
--- before the beginning. Its printed looks are positions that the store had meanwhile, and its events those that were
--- made
+-- the procedure gives its walk over the history that it left, for a session that had read at the beginning or before.
+-- Its printed reads are positions that the store had meanwhile, and its events those that were appended
 pub record IsGiven {A : Type 0} (old new : State) (at : ℕ) (procedure : Procedure A) (y : A) : Type 0 where
   pub looks : List (Option ℕ)
   pub last : ℕ
@@ -78,7 +77,7 @@ pub record IsGiven {A : Type 0} (old new : State) (at : ℕ) (procedure : Proced
   pub made : new.made ≡ old.made ++ numbers given
   pub within : last ≤ position new.history
 
--- what was walked from a steady procedure on, it gives over the history that was left
+-- a walk of a steady procedure is given over the history that it left
 abbrev pub WalksAreGiven : (A : Type 0) → Type 0
 WalksAreGiven A =
     (alone failed : Bool) (old : State) (at : ℕ) (procedure : Procedure A) (new : State) (y : A)

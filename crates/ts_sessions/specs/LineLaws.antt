@@ -22,15 +22,16 @@ use Rattle.ts_sessions.specs.Steady.{Steady}
 use Rattle.ts_sessions.specs.Step.{acts, answers, kind_of, makes_event, on_hypertables, turn_of_names, passes_block, step}
 use Rattle.ts_sessions.specs.Walks.{Walks, history_after, end_of_walk}
 
--- where the names of a statement that makes an event passed, it does later what it does with its names looked at then
+-- the names of a statement with an event passed the checks once. Later its action does what the statement does with its
+-- names resolved then
 abbrev pub NamesStay : Type 0
 NamesStay =
     (p : Places) (bytes : ℕ) (stmt : Stmt) (g h : History) → Begins g h → all_allowed h ≡ true
     → makes_event (kind_of stmt) ≡ true → refusal_of (position g) (roster g) stmt ≡ None
     → acts p bytes h (action_of (roster g) stmt) ≡ turn_of_names p bytes stmt h
 
--- a step is what the reply to its line says: over a store that others change, where the history that it left is
--- allowed, and over one that is alone
+-- a step is what the reply to its line says. This is true over a store that others change, if the history that it left
+-- is allowed, and over a store that nobody else uses
 pub record StepsAreReplies : Type 0 where
   pub walks :
       (alone failed : Bool) (old : State) (p : Places) (text : List ℕ) (skip : ℕ) (new : State) (y : Turn Places)
@@ -42,8 +43,8 @@ pub record StepsAreReplies : Type 0 where
       (p : Places) (text : List ℕ) (skip : ℕ) (h : History)
       → end_of_walk (reply_to p text skip) h ≡ end_of_walk (step p text skip) h
 
--- a block of a session had begun by the end of a history: all operations of a write block are on hypertables there, and
--- a read block began at its position or before
+-- a block had begun by the end of a history: all operations of a write block are on hypertables there, and a read block
+-- began at its position or before
 abbrev pub BegunBy : Block → History → Type 0
 BegunBy none h = Unit {0}
 BegunBy (writing ops bytes) h = IsTrue (on_hypertables (roster h) ops)
@@ -55,14 +56,14 @@ RepliesAreSteady =
     (p : Places) (text : List ℕ) (skip : ℕ) (base : History) → BegunBy p.block base
     → Steady false base (reply_to p text skip)
 
--- a procedure makes so many events at most
+-- a procedure appends at most this many events
 abbrev pub AtMost : {A : Type 0} → ℕ → Procedure A → Type 0
 AtMost n (sees shown f) = (h : History) → AtMost n (f h)
 AtMost zero (adds e next stop) = ⊥
 AtMost (suc n) (adds e next stop) = AtMost n next × AtMost n stop
 AtMost n (ends a) = Unit {0}
 
--- a line of a session makes at most three events
+-- a line of a session appends at most three events
 abbrev pub LinesMakeFewEvents : Type 0
 LinesMakeFewEvents =
     (alone failed : Bool) (old : State) (p : Places) (text : List ℕ) (skip : ℕ) (new : State) (y : Turn Places)
@@ -76,30 +77,30 @@ answers_in [] = []
 answers_in (said.Answered answer pos queue min ∷ lines) = answer ∷ answers_in lines
 answers_in (s ∷ lines) = answers_in lines
 
--- two turns show the same answers, and looked at as many rows
+-- two turns show the same answers, and read as many rows
 pub record ShowAlike (y z : Turn Places) : Type 0 where
   pub answers : answers_in y.said ≡ answers_in z.said
   pub reads : y.reads ≡ z.reads
 
--- what a query shows in a write block, by whatever plan, it shows outside directly after the queue was committed
+-- a query in a write block, by any plan, shows what it shows outside directly after a commit of the queue
 abbrev pub QueriesShowTheQueue : Type 0
 QueriesShowTheQueue =
     (p : Places) (h : History) (ops : List Op) (bytes : ℕ) (plan : Plan)
     → ShowAlike (answers (enters (writing ops bytes) p) h plan) (answers (enters none p) (with_queue ops h) plan)
 
--- in a write block only COMMIT makes events
+-- in a write block only COMMIT appends events
 abbrev pub OnlyCommitsMakeEvents : Type 0
 OnlyCommitsMakeEvents =
     (p : Places) (ops : List Op) (queued bytes : ℕ) (stmt : Stmt) → (kind_of stmt ≡ kinds.Commits → ⊥)
     → AtMost 0 (passes_block (enters (writing ops queued) p) bytes stmt)
 
--- a line of the session with a name, in a script where another session has these places
+-- a line of the session with a name, in a script where another session has this state
 abbrev pub beside : ScriptState Places → List ℕ → Places → List ℕ → List ℕ → ℕ → LineResult Places
 beside s other p name text skip =
     executes_as session_semantics (record s { sessions = with_places other p s.sessions }) name text skip
     (places_of name (with_places other p s.sessions))
 
--- the reply to a line is the same whatever is queued in another session
+-- the reply to a line is the same whatever another session has queued
 abbrev pub OthersSeeNoQueue : Type 0
 OthersSeeNoQueue =
     (s : ScriptState Places) (other name text : List ℕ) (skip : ℕ) (p q : Places) → same_name other name ≡ false

@@ -21,16 +21,16 @@ has_position Finish = true
 has_position Count = true
 has_position Bytes = true
 
--- so has that of a refusal with this number
+-- the text of a refusal with this code has the read position
 abbrev pub shows_position : ℕ → Bool
 shows_position code = has_position (entry_of code).tail
 
--- a refusal tells its look twice. A refresh that was cut may have been refused at its snapshot or at its finish, and
--- its reply doesn't say which; but a snapshot at the position of the finish meets the same refusal
+-- a refusal prints its read position, which counts twice. A refresh that was cut may have been refused at its snapshot
+-- or at its finish, and its reply doesn't say which. But a snapshot at the position of the finish is refused alike
 abbrev pub refusal_told : Refusal → List ℕ → List ℕ
 refusal_told r more = cond (shows_position r.code) (r.pos ∷ r.pos ∷ more) more
 
--- the looks that a line of a reply tells, and then those of the lines behind it. Nothing comes behind an answer
+-- the read positions that a line of a reply prints, and then those of the later lines. No line follows an answer
 abbrev pub told_before : Said → List ℕ → List ℕ
 told_before (said.Table pos) more = before pos ∷ more
 told_before (said.Hypertable pos) more = before pos ∷ more

@@ -1,9 +1,9 @@
--- The numbers of the events that a reply names as made.
+-- The numbers of the events that a reply names.
 use Rattle.std.specs.Prelude.{ℕ, List, [], ◌∷◌, ◌++◌}
 use Rattle.result_text.specs.declared.replies.Said.{Said}
 use Rattle.result_text.specs.declared.replies.Said.TheVariants as said
 
--- of one line
+-- the numbers in one line
 abbrev pub made_by : Said → List ℕ
 made_by (said.Table pos) = pos ∷ []
 made_by (said.Hypertable pos) = pos ∷ []
@@ -15,7 +15,7 @@ made_by (said.Cut cut span min) = cut ∷ []
 made_by (said.Finish cut pos snap) = pos ∷ []
 made_by other = []
 
--- of all lines of a reply
+-- the numbers in all lines of a reply
 abbrev pub made_in : List Said → List ℕ
 made_in [] = []
 made_in (s ∷ lines) = made_by s ++ made_in lines

@@ -7,7 +7,7 @@ use Rattle.ts_sessions.specs.Made.{made_in}
 use Rattle.ts_sessions.specs.Places.{Turn}
 use Rattle.ts_sessions.specs.Procedures.{Procedure}
 
--- a reply names exactly the events that its line made, in order
+-- a reply names exactly the events that its line appended, in order
 abbrev pub RepliesNameTheirEvents : {P : Type 0} → (P → List ℕ → ℕ → Procedure (Turn P)) → Type 0
 RepliesNameTheirEvents {P} reply =
     (all : History) (stop : Option ℕ) (at : ℕ) (p : P) (text : List ℕ) (skip : ℕ) (looks : List (Option ℕ))

@@ -1,4 +1,4 @@
--- What a session does with the snapshots that it holds, as a procedure with a separate look.
+-- Finishes of refreshes whose snapshots a session holds, as procedures with a separate read.
 use Rattle.std.specs.Prelude.{ℤ, Option}
 use Rattle.ts_sessions.specs.Places.{Places, Turn}
 use Rattle.ts_sessions.specs.Procedures.{Procedure, looks}

@@ -10,14 +10,14 @@ use Rattle.ts_sessions.specs.declared.blocks.Block.TheVariants.{Outside, Write, 
 use Rattle.result_text.specs.declared.replies.Said.{Said}
 use Rattle.result_text.specs.declared.replies.Said.TheVariants as said
 
--- the block that a session is in: none; a write block with the operations that wait for its end, and how many bytes
--- the texts have that they came from; or a read block at a position
+-- the block that a session is in: none; a write block with its queue, and how many bytes the texts of the queued
+-- operations have; or a read block at a position
 pub data Block : Type 0 where
   none : Block
   writing : List Op → ℕ → Block
   reading : ℕ → Block
 
--- which block it is
+-- the kind of the block
 abbrev pub block_kind : Block → BlockKind
 block_kind none = Outside
 block_kind (writing ops bytes) = Write
@@ -76,7 +76,7 @@ pub record Turn (P : Type 0) : Type 0 where
   -- how many stored rows it read
   pub reads : ℕ
 
--- this session state, and one line
+-- a turn with this session state and one line
 abbrev pub turns : {P : Type 0} → P → Said → Turn P
 turns p s = record { places = p; said = s ∷ []; reads = 0 }
 

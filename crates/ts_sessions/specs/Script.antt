@@ -1,4 +1,4 @@
--- Scripts: lines of sessions, one after the other, over a history that nobody else changes.
+-- Scripts: lines of sessions in order, over a history that nobody else changes.
 use Rattle.std.specs.Prelude.{ℕ, suc, ◌+◌, Bool, true, false, ◌||◌, cond, nat_lt, List, [], ◌∷◌, ◌++◌, length, take, Option, Some, None}
 use Rattle.std.specs.List.{list_any}
 use Rattle.ts_model.specs.History.{History}
@@ -17,18 +17,18 @@ use Rattle.ts_sessions.specs.Places.{Places, Turn, no_places}
 use Rattle.ts_sessions.specs.Step.{bare, step}
 use Rattle.ts_sessions.specs.Walks.{history_after, end_of_walk}
 
--- a line that a session executes: its bytes before the comment, and how many of them stand before its statement
+-- a line that a session executes: its bytes before the comment, and how many of them precede its statement
 pub record SessionLine : Type 0 where
   pub text : List ℕ
   pub skip : ℕ
 
--- what a script has of one session: its name, and its lines in order
+-- the part of a script that one session executes: its name, and its lines in order
 pub record SessionScript : Type 0 where
   pub name : List ℕ
   pub lines : List SessionLine
 
--- what lines mean: the places of the session with a number at its first line, and what a line does by its session's
--- places. Sessions are numbered from 0 in order of appearance
+-- what lines mean: the state of the session with a number at its first line, and what a line does by its session state.
+-- Sessions are numbered from 0 in order of appearance
 pub record Semantics (P : Type 0) : Type 0 where
   pub opening : ℕ → P
   pub does : P → List ℕ → ℕ → Procedure (Turn P)
@@ -37,13 +37,13 @@ pub record Semantics (P : Type 0) : Type 0 where
 abbrev pub session_semantics : Semantics Places
 session_semantics = record { opening = λ number. no_places; does = step }
 
--- where a script has come to: the history, and the sessions in order of appearance, each with its name and its places
+-- the state of a script: the history, and the sessions in order of appearance, each with its name and its state
 pub record ScriptState (P : Type 0) : Type 0 where
   pub history : History
   pub sessions : List (List ℕ × P)
 
--- what a line came to: where the script is then, the text written, whether it is a FAULT, and how many stored rows
--- were looked at
+-- the result of a line: the state of the script after it, the text written, whether it is a FAULT, and how many stored
+-- rows were read
 pub record LineResult (P : Type 0) : Type 0 where
   pub script_state : ScriptState P
   pub text : List ℕ
@@ -75,21 +75,21 @@ abbrev pub is_fault : Said → Bool
 is_fault (said.Fault refusal) = true
 is_fault other = false
 
--- a reply is a FAULT where one of its lines is
+-- one of the lines of a reply is a FAULT
 abbrev pub has_fault : List Said → Bool
 has_fault lines = list_any is_fault lines
 
 -- ---- lines
 
--- nothing happens, and this is written
+-- the result of a line that changes nothing and writes this text
 abbrev pub line_of_refusal : {P : Type 0} → ScriptState P → List ℕ → LineResult P
 line_of_refusal s text = record { script_state = s; text = text; fault = true; reads = 0 }
 
--- a line that has no session is refused by its number
+-- a line without a session is refused with its number
 abbrev pub refused_line : {P : Type 0} → ScriptState P → ℕ → ℕ → LineResult P
 refused_line s n code = line_of_refusal s (line_fault_text n (bare code))
 
--- a session has taken its turn
+-- the result of a line after a turn of its session
 abbrev pub line_of_turn : {P : Type 0} → ScriptState P → List ℕ → History → Turn P → LineResult P
 line_of_turn s name h turn = record {
   script_state = record { history = h; sessions = with_places name turn.places s.sessions };
@@ -102,7 +102,7 @@ line_of_turn s name h turn = record {
 abbrev pub takes_turn : {P : Type 0} → ScriptState P → List ℕ → Procedure (Turn P) → LineResult P
 takes_turn s name procedure = line_of_turn s name (history_after procedure s.history) (end_of_walk procedure s.history)
 
--- a line of the session with a name: of one that has appeared, or of a new one, where there are fewer than 64
+-- a line of the session with a name: of one that has appeared, or of a new one if there are fewer than 64
 abbrev pub executes_as : {P : Type 0} → Semantics P → ScriptState P → List ℕ → List ℕ → ℕ → Option P → LineResult P
 executes_as semantics s name text skip (Some p) = takes_turn s name (semantics.does p text skip)
 executes_as semantics s name text skip None =
@@ -110,7 +110,7 @@ executes_as semantics s name text skip None =
     (takes_turn s name (semantics.does (semantics.opening (length s.sessions)) text skip))
     (line_of_refusal s (reply_text name (said.Fault (bare too_many_sessions))))
 
--- a line of this kind, which has this number
+-- a line of this kind, with this number
 abbrev pub executes_kind : {P : Type 0} → Semantics P → ScriptState P → ℕ → List ℕ → LineKind → LineResult P
 executes_kind semantics s n line Blank = record { script_state = s; text = []; fault = false; reads = 0 }
 executes_kind semantics s n line NotAscii = refused_line s n not_ascii
@@ -119,7 +119,7 @@ executes_kind semantics s n line (Stmt len skip end) =
     executes_as semantics s (session_name line len skip) (take end line) skip
     (places_of (session_name line len skip) s.sessions)
 
--- a line, which has this number
+-- a line with this number
 abbrev pub executes : {P : Type 0} → Semantics P → ScriptState P → ℕ → List ℕ → LineResult P
 executes semantics s n line =
     cond (nat_lt longest_line (length line)) (refused_line s n line_long)
@@ -127,13 +127,13 @@ executes semantics s n line =
 
 -- ---- a script: the lines from line n on, from a script state on
 
--- what is written
+-- the text written
 abbrev pub output : {P : Type 0} → Semantics P → ScriptState P → ℕ → List (List ℕ) → List ℕ
 output semantics s n [] = []
 output semantics s n (line ∷ lines) =
     (executes semantics s n line).text ++ output semantics (executes semantics s n line).script_state (suc n) lines
 
--- a reply is a FAULT
+-- one of the replies is a FAULT
 abbrev pub is_refused : {P : Type 0} → Semantics P → ScriptState P → ℕ → List (List ℕ) → Bool
 is_refused semantics s n [] = false
 is_refused semantics s n (line ∷ lines) =

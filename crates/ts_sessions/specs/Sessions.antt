@@ -54,22 +54,22 @@ abbrev pub Tries :
 Tries alone old procedure (Ok t) new = Walks alone (has_failed t) old procedure new (result_of t)
 Tries alone old procedure (Err e) new = Breaks alone old procedure new
 
--- the outcome of a snapshot for a refresh that read so many rows
+-- the outcome of a snapshot for a refresh that read this many rows
 abbrev pub taken_as : {J : Type 0} → ℕ → SnapOutcome J → Result Taken Refusal
 taken_as read (snapped.Taken at job) = Ok (record { at = at; reads = read })
 taken_as read (snapped.Refused r) = Err r
 
--- how many rows it read: none where the refresh wasn't pending
+-- how many rows a snapshot read: none if the refresh wasn't pending
 abbrev pub read_by : {J : Type 0} → ℕ → SnapOutcome J → ℕ
 read_by read (snapped.Taken at job) = read
 read_by read (snapped.Refused r) = 0
 
--- the job of a snapshot fits what was seen, and is that of a snapshot of this refresh
+-- the job of a snapshot fits the history, and is that of a snapshot for this refresh
 abbrev pub FitsSnapped : {T J : Type 0} → Shown T J → ℕ → History → SnapOutcome J → Type 0
 FitsSnapped shown c h (snapped.Taken at job) = IsJobOf shown c at h job
 FitsSnapped shown c h (snapped.Refused r) = ⊤
 
--- this is the outcome of a snapshot of a history for a refresh; the rows that it read were counted
+-- this is the outcome of a snapshot of a history for a refresh; the rows read were counted
 pub record IsTakenAs {J : Type 0} (h : History) (c : ℕ) (s : SnapOutcome J) (before after : ℕ) : Type 0 where
   pub read : ℕ
   pub is : taken_as read s ≡ snapshot_taken c h
@@ -80,21 +80,21 @@ abbrev pub TakenAs : {J : Type 0} → History → ℕ → Result (SnapOutcome J)
 TakenAs h c (Ok s) before after = IsTakenAs h c s before after
 TakenAs h c (Err e) before after = before ≤ after
 
--- a snapshot was taken for a refresh, or the refresh isn't pending; the rows that it read were counted
+-- a snapshot was taken for a refresh, or the refresh isn't pending; the rows read were counted
 pub record Snaps {J : Type 0} (alone : Bool) (old : State) (c : ℕ) (s : SnapOutcome J) (new : State)
     (before after : ℕ) : Type 0 where
   pub read : ℕ
   pub walks : Walks alone false old (takes_snapshot c) new (taken_as read s)
   pub counted : after ≡ raised_by (read_by read s) before
 
--- a snapshot for a refresh ended so, or ran out of memory
+-- a snapshot for a refresh ended like this, or ran out of memory
 abbrev pub SnapEnds : {J : Type 0} → Bool → State → ℕ → Result (SnapOutcome J) NoMemory → State → ℕ → ℕ → Type 0
 SnapEnds alone old c (Ok s) new before after = Snaps alone old c s new before after
 SnapEnds alone old c (Err e) new before after = Breaks alone old (takes_snapshot c) new × (before ≤ after)
 
 -- ---- statements
 
--- an operation waits for the end of a write block
+-- a block with one more queued operation
 abbrev pub queued_on : Op → ℕ → Block → Block
 queued_on op more none = none
 queued_on op more (writing ops bytes) = writing (ops ++ op ∷ []) (bytes + more)
@@ -109,28 +109,28 @@ places_after (changes.GivesUp c) p = gives_up c p
 places_after (changes.Enters b) p = enters (block_of b) p
 places_after (changes.Queues op more) p = enters (queued_on op more p.block) p
 
--- what a change brings goes with what was seen; an operation that is to wait came from a text of so many bytes
+-- a change fits the history. An operation that will be queued has a text of this many bytes
 abbrev pub ChangeHolds : {T J : Type 0} → Shown T J → ℕ → Change T J → History → Type 0
 ChangeHolds shown bytes (changes.Holds c at job) h = IsJobOf shown c at h job
 ChangeHolds shown bytes (changes.Enters b) h = HoldsBlock shown.stands b h × (bytes_queued (block_of b) ≡ 0)
 ChangeHolds shown bytes (changes.Queues op more) h = IsOperation h more op × (more ≡ bytes)
 ChangeHolds shown bytes other h = ⊤
 
--- what a statement brings to its session, where it came to an end, goes with what was seen
+-- what a statement brings to its session fits the history, unless the statement ran out of memory
 abbrev pub Brings : {T J : Type 0} → Shown T J → ℕ → Result (Completion T J) NoMemory → History → Type 0
 Brings shown bytes result h = IfOk result (λ t. ChangeHolds shown bytes t.change h)
 
--- a session that went with what was seen goes with it after a change that does
+-- a session that fits the state of its store still fits after a change that fits
 abbrev pub HoldsAfter : {T J : Type 0} → Shown T J → Change T J → Session T J → Session T J → Type 0
 HoldsAfter shown change old new =
     (s : State) (bytes : ℕ) → HoldsOf shown old s → ChangeHolds shown bytes change s.history → HoldsOf shown new s
 
--- there is room in a queue for what a change brings there
+-- a queue can hold what a change adds to it
 abbrev pub ChangeFits : {T J : Type 0} → Change T J → Block → Type 0
 ChangeFits (changes.Queues op more) b = bytes_queued b + more ≤ most_queued
 ChangeFits other b = ⊤
 
--- the result of a statement that began with this session state and read so many rows
+-- the result of a statement that began with this session state and read this many rows
 abbrev pub turn_of : {T J : Type 0} → Places → ℕ → Completion T J → Turn Places
 turn_of p read t = record { places = places_after t.change p; said = t.said; reads = read }
 
@@ -141,40 +141,40 @@ abbrev pub EndsAt :
 EndsAt alone old procedure p read (Ok t) new = Walks alone t.failed old procedure new (turn_of p read t)
 EndsAt alone old procedure p read (Err e) new = Breaks alone old procedure new
 
--- the rows that were read were counted; where there was no memory the count has not fallen
+-- the rows read were counted; out of memory, the count has not fallen
 abbrev pub Counts : {A : Type 0} → Result A NoMemory → ℕ → ℕ → ℕ → Type 0
 Counts (Ok a) read before after = after ≡ raised_by read before
 Counts (Err e) read before after = before ≤ after
 
--- a statement ended so, and the rows that it read were counted
+-- a statement ended like this, and the rows that it read were counted
 pub record Ends {T J : Type 0} (alone : Bool) (old : State) (procedure : Procedure (Turn Places)) (p : Places)
     (result : Result (Completion T J) NoMemory) (new : State) (before after : ℕ) : Type 0 where
   pub read : ℕ
   pub ends : EndsAt alone old procedure p read result new
   pub counted : Counts result read before after
 
--- a statement of a session with these places did this over a store, and read no stored row
+-- a statement of a session with this state did this on a store, and read no stored row
 abbrev pub Does :
     {B T J : Type 0} → Backend B T J → B → Procedure (Turn Places) → Places → Result (Completion T J) NoMemory → B
     → Type 0
 Does b old procedure p result new = EndsAt b.alone (b.state old) procedure p 0 result (b.state new)
 
--- the same of a statement that may read rows, which were counted
+-- the same for a statement that may read rows, which were counted
 abbrev pub DoesReading :
     {B T J : Type 0} → Backend B T J → B → Procedure (Turn Places) → Places → Result (Completion T J) NoMemory → B → ℕ
     → ℕ → Type 0
 DoesReading b old procedure p result new before after =
     Ends b.alone (b.state old) procedure p result (b.state new) before after
 
--- what a statement says and changes, and whether the disk failed
+-- a statement completed with these lines and this change; the flag says whether the disk failed
 abbrev pub Completes : {T J : Type 0} → List Said → Change T J → Bool → Result (Completion T J) NoMemory → Type 0
 Completes said change failed (Ok t) = (t.said ≡ said) × (t.change ≡ change) × (t.failed ≡ failed)
 Completes said change failed (Err e) = ⊤
 
 -- ---- lines
 
--- the reply reports the walk of the line's procedure, whose disk failed or not: its text, the numbers of the events
--- that were made, which it names, and the rows read
+-- the reply reports the walk of the line's procedure: its text, the numbers of the events that were appended, which it
+-- names, and the rows read. The flag says whether the disk failed
 pub record Reports {P : Type 0} (alone failed : Bool) (old : State) (procedure : Procedure (Turn P)) (name : List ℕ)
     (reply : ReplyMade) (new : State) (places : P) (before after : ℕ) : Type 0 where
   -- the lines of the reply, and how many rows were read
@@ -187,8 +187,8 @@ pub record Reports {P : Type 0} (alone failed : Bool) (old : State) (procedure :
   pub made : new.made ≡ old.made ++ reply.events
   pub counted : after ≡ raised_by read before
 
--- a line of the session with a name did this procedure: its reply reports it, with a disk fault or without, or the
--- line ran out of memory
+-- a line of the session with a name did this procedure. Its reply reports the procedure, with or without a disk fault,
+-- or the line ran out of memory
 abbrev pub Stepped : {P : Type 0} → Bool → State → Procedure (Turn P) → List ℕ → StepEnd → State → P → ℕ → ℕ → Type 0
 Stepped alone old procedure name (steps.Reply r) new places before after =
     Reports alone false old procedure name r new places before after
@@ -203,42 +203,42 @@ pub record IsReply (name : List ℕ) (said : List Said) (r : ReplyMade) : Type 0
   pub fault : r.fault ≡ has_fault said
   pub names : r.events ≡ made_in said
 
--- these lines were answered, of a disk that failed or not, unless there was no memory
+-- these lines are the reply, with or without a disk fault, unless the call ran out of memory
 abbrev pub AnswersSo : List ℕ → List Said → Bool → StepEnd → Type 0
 AnswersSo name said failed (steps.Reply r) = (failed ≡ false) × IsReply name said r
 AnswersSo name said failed (steps.DiskFault r) = (failed ≡ true) × IsReply name said r
 AnswersSo name said failed steps.NoMemory = ⊤
 
--- this is the answer, of a disk that failed or not
+-- this is the reply, with or without a disk fault
 abbrev pub IsReplied : Bool → ReplyMade → StepEnd → Type 0
 IsReplied failed r (steps.Reply q) = (failed ≡ false) × (q ≡ r)
 IsReplied failed r (steps.DiskFault q) = (failed ≡ true) × (q ≡ r)
 IsReplied failed r steps.NoMemory = ⊥
 
--- P holds where there was no memory
+-- P is true if the line ran out of memory
 abbrev pub IfNoMemory : StepEnd → Type 0 → Type 0
 IfNoMemory (steps.Reply r) P = ⊤
 IfNoMemory (steps.DiskFault r) P = ⊤
 IfNoMemory steps.NoMemory P = P
 
--- and where there was
+-- P is true unless the line ran out of memory
 abbrev pub IfAnswered : StepEnd → Type 0 → Type 0
 IfAnswered (steps.Reply r) P = P
 IfAnswered (steps.DiskFault r) P = P
 IfAnswered steps.NoMemory P = ⊤
 
--- the places without a snapshot that was given up, if one was
+-- the session state without the snapshot that was given up, if there was one
 abbrev pub without : Option ℕ → Places → Places
 without None p = p
 without (Some c) p = gives_up c p
 
--- the places are as before, or the snapshot was given up for the refresh that was meant to be finished
+-- the session state is as before, or without the snapshot for the refresh that the statement names to finish
 pub record Spares (meant : Option ℕ) (old new : Places) : Type 0 where
   pub gone : Option ℕ
   pub only : IfSome gone (λ cut. meant ≡ Some cut)
   pub same : new ≡ without gone old
 
--- the refresh that a statement is to finish, if it is to finish one
+-- the refresh that a statement names to finish, if there is one
 abbrev pub finish_meant : Places → Stmt → Option ℕ
 finish_meant p (stmts.Finish number) = refresh_meant p number
 finish_meant p other = None
@@ -247,6 +247,6 @@ abbrev pub finish_read : Places → Result (Stmt × Stream) Fault → Option ℕ
 finish_read p (Ok read) = finish_meant p read.0
 finish_read p (Err fault) = None
 
--- and a line, whose statement stands after the first `skip` bytes of its text
+-- the refresh that a line names to finish. Its statement begins after the first `skip` bytes of the text
 abbrev pub finish_in : Places → List ℕ → ℕ → Option ℕ
 finish_in p text skip = finish_read p (statement (stream text skip))

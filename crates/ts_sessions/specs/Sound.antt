@@ -14,7 +14,7 @@ use Rattle.stmt_check.specs.Sound.{IsSound}
 use Rattle.ts_sessions.specs.declared.kinds.StatementKind.{StatementKind}
 use Rattle.ts_sessions.specs.declared.kinds.StatementKind.TheVariants as kinds
 
--- what a statement of a text of so many bytes asks for is sound at each history at which nothing of it is refused
+-- what a statement asks for is sound at each history at which no check refuses it. The statement has this many bytes
 abbrev pub AsksSoundly : ℕ → Stmt → Type 0
 AsksSoundly bytes stmt =
     (h : History) → IsTrue (all_allowed h) → refusal_of (position h) (roster h) stmt ≡ None
@@ -27,7 +27,7 @@ pub record StandsForAllowed {T : Type 0} (stands : T → History → Type 0) (sh
   pub allowed : IsTrue (all_allowed history)
   pub fits : QueueFits queue history
 
--- the kind of what a statement asks for
+-- the kind of a statement with this action
 abbrev pub kind_of_action : Action → StatementKind
 kind_of_action (actions.Table def) = kinds.Defines
 kind_of_action (actions.Hyper t hyper) = kinds.Defines
@@ -45,7 +45,7 @@ kind_of_action actions.Rollback = kinds.RollsBack
 kind_of_action (actions.Calendar table number unit at fold) = kinds.Asks
 kind_of_action (actions.Ask q) = kinds.Asks
 
--- the number of the first aggregate with a name, where the aggregates are numbered from k, or how many there are
+-- the number of the first aggregate with a name, numbered from k, or the number after the last if none has the name
 abbrev pub number_from : List ℕ → ℕ → List ViewDef → ℕ
 number_from name k [] = k
 number_from name k (v ∷ vs) = if same_name v.name name then k else number_from name (k + 1) vs
@@ -58,10 +58,10 @@ view_number r name = number_from name 0 r.views
 abbrev pub number_at : History → List ℕ → ℕ
 number_at h name = view_number (roster h) name
 
--- that number is the one under which the name stands
+-- the name resolves to that number
 abbrev pub IsNamed : History → List ℕ → Type 0
 IsNamed h name = view_named (roster h) name ≡ Some (number_at h name)
 
--- and an aggregate has it
+-- an aggregate has that number
 abbrev pub IsThere : History → List ℕ → Type 0
 IsThere h name = IsSome (view_of (roster h) (number_at h name))

@@ -59,17 +59,17 @@ use Rattle.ts_sessions.specs.Places.{Block, none, writing, reading, Places, queu
 abbrev pub bare : ℕ → Refusal
 bare code = record { code = code; pos = 0; mark = 0 }
 
--- a refusal of the text at a place of the line
+-- a refusal of the text at a place in the line
 abbrev pub text_refusal_of : ℕ → ℕ → Refusal
 text_refusal_of code place = record { code = code; pos = 0; mark = place }
 
--- what can't be read is refused at its place
+-- the refusal of a text that can't be read, at the place of its first fault
 abbrev pub misread : Fault → Refusal
 misread (faults.NoToken place) = text_refusal_of no_token place
 misread (faults.Syntax place) = text_refusal_of syntax place
 misread (faults.BadNumber place) = text_refusal_of bad_number place
 
--- the kind of a statement, as blocks let it pass or not
+-- the kind of a statement, which decides what blocks let pass
 abbrev pub kind_of : Stmt → StatementKind
 kind_of (stmts.Table name cols) = kinds.Defines
 kind_of (stmts.Hyper table col interval) = kinds.Defines
@@ -90,13 +90,13 @@ kind_of (stmts.Buckets fold) = kinds.Asks
 kind_of (stmts.Calendar number unit fold) = kinds.Asks
 kind_of (stmts.Rows table tests) = kinds.Asks
 
--- why a statement of this kind may not be outside a block, where there is nothing to end
+-- the refusal of a statement of this kind outside a block, which has nothing to end
 abbrev pub refusal_outside : StatementKind → Option Refusal
 refusal_outside kinds.Commits = Some (bare no_block)
 refusal_outside kinds.RollsBack = Some (bare no_block)
 refusal_outside other = None
 
--- and in a write block, which lets changes and queries pass, and what ends it
+-- its refusal in a write block, which lets changes, queries, and its end pass
 abbrev pub refusal_writing : StatementKind → Option Refusal
 refusal_writing kinds.Changes = None
 refusal_writing kinds.Asks = None
@@ -104,14 +104,14 @@ refusal_writing kinds.Commits = None
 refusal_writing kinds.RollsBack = None
 refusal_writing other = Some (bare in_write_block)
 
--- and in a read block, which lets queries pass, and what ends it
+-- its refusal in a read block, which lets queries and its end pass
 abbrev pub refusal_reading : StatementKind → Option Refusal
 refusal_reading kinds.Asks = None
 refusal_reading kinds.Commits = None
 refusal_reading kinds.RollsBack = None
 refusal_reading other = Some (bare in_read_block)
 
--- and in any block
+-- its refusal in any block
 abbrev pub block_refusal : Block → StatementKind → Option Refusal
 block_refusal none kind = refusal_outside kind
 block_refusal (writing ops bytes) kind = refusal_writing kind
@@ -119,7 +119,7 @@ block_refusal (reading at) kind = refusal_reading kind
 
 -- ---- events
 
--- one line states the outcome, and the session stays as it is
+-- the reply is one line with the outcome, and the session stays as it is
 abbrev pub turn_of_line : {A : Type 0} → Places → (A → Said) → Result A Refusal → Turn Places
 turn_of_line p line (Ok a) = turns p (line a)
 turn_of_line p line (Err r) = refuses p r
@@ -131,12 +131,12 @@ abbrev pub least_start : Option ViewDef → ℤ
 least_start None = nonneg 0
 least_start (Some def) = first_of def.fold.width
 
--- a snapshot for a refresh: its position, and how many stored rows its job looked at
+-- a snapshot for a refresh: its position, and how many stored rows were read for its job
 pub record Taken : Type 0 where
   pub at : ℕ
   pub reads : ℕ
 
--- a snapshot of a history for a refresh that waits there
+-- a snapshot of a history for a refresh, which must be pending there
 abbrev pub taken_of : History → ℕ → Pending → Result Taken Refusal
 taken_of h c (Waiting n) = Ok (record { at = position h; reads = job_reads h c })
 taken_of h c (Finished f) = Err (refusal no_refresh h f)
@@ -146,7 +146,7 @@ taken_of h c Unknown = Err (refusal no_refresh h 0)
 abbrev pub snapshot_taken : ℕ → History → Result Taken Refusal
 snapshot_taken c h = taken_of h c (pending h c)
 
--- the three phases of a refresh, each with one look. Its cut
+-- the three phases of a refresh, each with one read position: its cut
 abbrev pub cuts_refresh : ℕ → Option ℤ → Option ℤ → Procedure (Result CutDone Refusal)
 cuts_refresh n lo hi = tries (act_of_cut n lo hi)
 
@@ -158,56 +158,56 @@ takes_snapshot c = looks (λ h. ends (snapshot_taken c h))
 abbrev pub finishes_refresh : ℕ → ℕ → Procedure (Result ℕ Refusal)
 finishes_refresh c at = tries (act_of_finish c at)
 
--- what a cut is said to have done
+-- the result of a cut
 abbrev pub cut_turn : Places → ℤ → Result CutDone Refusal → Turn Places
 cut_turn p min (Ok (CutMade c span)) = turns (cuts c p) (said.Cut c span min)
 cut_turn p min (Ok (NothingDone at)) = turns p (said.Nothing at)
 cut_turn p min (Err r) = refuses p r
 
--- a refresh that was cut and then refused, after so many rows were read
+-- the result of a refresh that was cut and then refused, after this many rows were read
 abbrev pub cut_refused : Places → ℕ → Span → ℤ → Refusal → ℕ → Turn Places
 cut_refused p c span min r read = record { places = p; said = said.Cut c span min ∷ said.Fault r ∷ []; reads = read }
 
--- the finish of a refresh that was cut, with a snapshot
+-- the result of the finish of a refresh that was cut, with a snapshot
 abbrev pub turn_of_refresh : Places → ℕ → Span → ℤ → Taken → Result ℕ Refusal → Turn Places
 turn_of_refresh p c span min t (Ok k) = record { places = p; said = said.Refresh c k t.at span min ∷ []; reads = t.reads }
 turn_of_refresh p c span min t (Err r) = cut_refused p c span min r t.reads
 
--- a refresh continues after its snapshot
+-- the rest of a refresh after its snapshot
 abbrev pub after_snapshot : Places → ℕ → Span → ℤ → Result Taken Refusal → Procedure (Turn Places)
 after_snapshot p c span min (Ok t) = ending_as (turn_of_refresh p c span min t) (finishes_refresh c t.at)
 after_snapshot p c span min (Err r) = ends (cut_refused p c span min r 0)
 
--- and after its cut
+-- the rest of a refresh after its cut
 abbrev pub after_cut : Places → ℤ → Result CutDone Refusal → Procedure (Turn Places)
 after_cut p min (Ok (CutMade c span)) = followed_by (takes_snapshot c) (after_snapshot (cuts c p) c span min)
 after_cut p min (Ok (NothingDone at)) = ends (turns p (said.Nothing at))
 after_cut p min (Err r) = ends (refuses p r)
 
--- a whole refresh: its phases one after the other
+-- a whole refresh: its phases in order
 abbrev pub refreshes : Places → ℕ → Option ℤ → Option ℤ → ℤ → Procedure (Turn Places)
 refreshes p n lo hi min = followed_by (cuts_refresh n lo hi) (after_cut p min)
 
--- a line comes before those of a turn
+-- a turn with one more line, at the beginning of its reply
 abbrev pub after_line : Said → Turn Places → Turn Places
 after_line s t = record t { said = s ∷ t.said }
 
--- an aggregate with this number was made, or not; with data it is refreshed
+-- the rest after event k created the aggregate with number n. With data it is refreshed
 abbrev pub view_made : Places → ℕ → ℤ → ℕ → Bool → Procedure (Turn Places)
 view_made p n min k false = ends (turns p (said.View k))
 view_made p n min k true = ending_as (after_line (said.View k)) (refreshes p n None None min)
 
--- whether an aggregate was made or not
+-- the rest after the call that creates the aggregate with number n, by its definition
 abbrev pub after_view : Places → ℕ → ViewDef → Bool → Result ℕ Refusal → Procedure (Turn Places)
 after_view p n def filled (Ok k) = view_made p n (first_of def.fold.width) k filled
 after_view p n def filled (Err r) = ends (refuses p r)
 
--- a number that counts something
+-- the number if it isn't negative
 abbrev pub natural : ℤ → Option ℕ
 natural (nonneg c) = Some c
 natural (negsuc c) = None
 
--- the refresh that a statement means: the one with its number, or the last that the session cut
+-- the refresh that a statement names: the one with its number, or the last that the session cut
 abbrev pub refresh_meant : Places → Option ℤ → Option ℕ
 refresh_meant p None = p.cut
 refresh_meant p (Some number) = natural number
@@ -217,49 +217,49 @@ abbrev pub snap_turn : Places → ℕ → Result Taken Refusal → Turn Places
 snap_turn p c (Ok t) = record { places = holds c t.at p; said = said.Snap c t.at ∷ []; reads = t.reads }
 snap_turn p c (Err r) = refuses p r
 
--- a snapshot for the refresh that is meant, if one is
+-- a snapshot for the named refresh, if there is one
 abbrev pub snaps : Places → History → Option ℕ → Turn Places
 snaps p h None = refuses p (refusal no_refresh h 0)
 snaps p h (Some c) = snap_turn p c (snapshot_taken c h)
 
--- why a refresh that waits can't be finished any more
+-- the refusal code for a pending refresh whose job is gone
 abbrev pub lost_code : History → ℕ
 lost_code h = cond (has_room h) stopped history_full
 
--- why a refresh can't be finished: with this number where it waits
+-- the refusal of the finish of a refresh. The code applies if the refresh is pending
 abbrev pub unfinished_refusal : ℕ → History → Pending → Refusal
 unfinished_refusal code h (Waiting n) = refusal code h 0
 unfinished_refusal code h (Finished f) = refusal no_refresh h f
 unfinished_refusal code h Unknown = refusal no_refresh h 0
 
--- a refresh is finished with the snapshot at a position, which the session then gives up
+-- the result of a finish with the snapshot at a position, which the session then gives up
 abbrev pub finish_turn : Places → ℕ → ℕ → Result ℕ Refusal → Turn Places
 finish_turn p c at (Ok k) = turns (gives_up c p) (said.Finish c k at)
 finish_turn p c at (Err r) = refuses p r
 
--- a refresh is finished with the snapshot at this position, if the session holds one for it
+-- the finish of a refresh with the snapshot at this position, if the session holds one for it
 abbrev pub finishes_held : Places → History → ℕ → Option ℕ → Procedure (Turn Places)
 finishes_held p h c None = ends (refuses p (unfinished_refusal no_snapshot h (pending h c)))
 finishes_held p h c (Some at) = ending_as (finish_turn p c at) (tries_at h (act_of_finish c at h))
 
--- the refresh that is meant is finished, if one is
+-- the finish of the named refresh, if there is one
 abbrev pub finishes : Places → History → Option ℕ → Procedure (Turn Places)
 finishes p h None = ends (refuses p (refusal no_refresh h 0))
 finishes p h (Some c) = finishes_held p h c (held_for c p.held)
 
 -- ---- queries
 
--- the start of the first bucket of what is asked, which is of no account where nothing can be stale
+-- the start of the first bucket of what a query asks for; it is 0 if nothing can be stale
 abbrev pub asked_start : Roster → Query → ℤ
 asked_start r (queries.Rows t tests) = nonneg 0
 asked_start r (queries.Buckets t fold) = nonneg 0
 asked_start r (queries.Aggregate n starts) = least_start (view_of r n)
 
--- what answers a query: its answer as it is
+-- the plan of a query: its answer as it is
 abbrev pub plan_of : Roster → Query → Plan
 plan_of r q = record { query = q; form = forms.Own; min = asked_start r q }
 
--- what answers a roll-up: the answer of the aggregate in wider buckets, the first of which is the start
+-- the plan of a roll-up: the answer of the aggregate in wider buckets. `min` is the start of the first of them
 abbrev pub roll_up_plan : UpperPlan → Plan
 roll_up_plan plan = record { query = lower_query plan; form = forms.RolledUp plan; min = first_of plan.width }
 
@@ -271,7 +271,7 @@ unit_of word =
     else if same_name word (codes "month") then units.Month
     else units.Year
 
--- what answers a grouping by buckets of the calendar: the rows that pass its tests, grouped. None of them is stale
+-- the plan of a grouping by calendar buckets: the rows that match its tests, grouped. None of them is stale
 abbrev pub calendar_plan : ℕ → CalPlan → Plan
 calendar_plan t cal = record { query = queries.Rows t cal.fold.tests; form = forms.Calendar cal; min = nonneg 0 }
 
@@ -280,13 +280,13 @@ abbrev pub rolled_up : Option ViewDef → UpperPlan → Answer → Answer
 rolled_up None plan shown = shown
 rolled_up (Some def) plan shown = upper_answer def.fold plan shown
 
--- what is made of an answer
+-- the answer in this form
 abbrev pub in_form : Roster → Form → Answer → Answer
 in_form r forms.Own shown = shown
 in_form r (forms.RolledUp plan) shown = rolled_up (view_of r plan.view) plan shown
 in_form r (forms.Calendar cal) shown = record { rows = plan_rows cal shown.rows; stale = [] }
 
--- the history that a query in a block shows, where this one is seen: in a write block the queue is one commit on top
+-- the history that a query in a block shows, if the store has this one: in a write block the queue is one commit on top
 abbrev pub shown_in : Block → History → History
 shown_in b h = with_queue (queue_in b) h
 
@@ -303,29 +303,29 @@ answers p h plan =
 
 -- ---- blocks
 
--- operations took effect, or they didn't, and the session stays in its block
+-- the result of a commit. If it was refused, the session stays in its block
 abbrev pub turn_of_commit : Places → Places → Result Committed Refusal → Turn Places
 turn_of_commit p after (Ok done) = turns after (said.Commit done)
 turn_of_commit p after (Err r) = refuses p r
 
--- operations are to take effect at a history, and the session then has these places
+-- the commit of operations at a history, after which the session has the new state
 abbrev pub commits : Places → Places → History → List Op → Procedure (Turn Places)
 commits p after h ops = ending_as (turn_of_commit p after) (tries_at h (act_of_commit ops h))
 
--- an operation from a text of so many bytes: it takes effect, or waits for its block to end
+-- an operation from a text of this many bytes takes effect, or is queued in a write block
 abbrev pub changes : Places → ℕ → History → Op → Block → Procedure (Turn Places)
 changes p bytes h op none = commits p p h (op ∷ [])
 changes p bytes h op (writing ops n) = ends (turns (enters (writing (ops ++ op ∷ []) (n + bytes)) p) said.Queued)
 changes p bytes h op (reading at) = commits p p h (op ∷ [])
 
--- a block ends: the operations of a write block take effect as one commit, if there are any
+-- the end of a block: the queue of a write block takes effect as one commit, unless it is empty
 abbrev pub closes : Places → History → Block → Procedure (Turn Places)
 closes p h none = ends (turns (enters none p) said.End)
 closes p h (writing [] n) = ends (turns (enters none p) said.CommitEmpty)
 closes p h (writing (op ∷ ops) n) = commits p (enters none p) h (op ∷ ops)
 closes p h (reading at) = ends (turns (enters none p) said.End)
 
--- a block is given up
+-- the line for a block that is given up
 abbrev pub given_up : Block → Said
 given_up none = said.End
 given_up (writing ops n) = said.Rollback
@@ -333,7 +333,7 @@ given_up (reading at) = said.End
 
 -- ---- statements
 
--- an action from a text of so many bytes, at the history that the statement looks at
+-- an action from a text of this many bytes, at the history in which the names of the statement are resolved
 abbrev pub acts : Places → ℕ → History → Action → Procedure (Turn Places)
 acts p bytes h (actions.Table def) = ending_as (turn_of_line p said.Table) (tries_at h (making_table def h))
 acts p bytes h (actions.Hyper t hyper) = ending_as (turn_of_line p said.Hypertable) (tries_at h (making_hyper t hyper h))
@@ -360,45 +360,45 @@ abbrev pub unless : Places → Option Refusal → Procedure (Turn Places) → Pr
 unless p (Some r) procedure = ends (refuses p r)
 unless p None procedure = procedure
 
--- a statement by what it asks of an aggregate: a roll-up is refused or answered, and any other is checked
+-- a statement, by what it asks of an aggregate: a roll-up is refused or answered, and any other is checked
 abbrev pub named_as : Places → ℕ → History → Stmt → UpperRead → Procedure (Turn Places)
 named_as p bytes h stmt (uppers.Plan plan) = ends (answers p h (roll_up_plan plan))
 named_as p bytes h stmt (uppers.Refused r) = ends (refuses p r)
 named_as p bytes h stmt other =
     unless p (refusal_of (position h) (roster h) stmt) (acts p bytes h (action_of (roster h) stmt))
 
--- a statement whose names are looked at in a history
+-- a statement whose names are resolved in a history
 abbrev pub turn_of_names : Places → ℕ → Stmt → History → Procedure (Turn Places)
 turn_of_names p bytes stmt h = named_as p bytes h stmt (upper_read (position h) (roster h) stmt)
 
--- the history that a session reads: in a read block, as it was when the block began
+-- the history that a session reads. In a read block it is the history at which the block began
 abbrev pub read_at : Block → History → History
 read_at none h = h
 read_at (writing ops n) h = h
 read_at (reading at) h = prefix h at
 
--- ---- looks
+-- ---- reads
 
--- statements of this kind make events by names
+-- statements of this kind append events by names
 abbrev pub makes_event : StatementKind → Bool
 makes_event kinds.Defines = true
 makes_event kinds.Changes = true
 makes_event other = false
 
--- outside a block their names are resolved first, and the event then has a separate look
+-- outside a block their names are resolved first, and the event then has a separate read
 abbrev pub looks_twice : Block → StatementKind → Bool
 looks_twice none kind = makes_event kind
 looks_twice (writing ops n) kind = false
 looks_twice (reading at) kind = false
 
--- such a statement. Its reply prints where its names were looked at only if they are refused
+-- such a statement. Its reply prints the position at which its names were resolved only if they are refused
 abbrev pub named_first : Places → ℕ → Stmt → Procedure (Turn Places)
 named_first p bytes stmt =
     sees (λ g. is_some (refusal_of (position g) (roster g) stmt))
     (λ g. unless p (refusal_of (position g) (roster g) stmt)
     (looks (λ h. acts p bytes h (action_of (roster g) stmt))))
 
--- the reply to any other statement outside a block prints its look, unless it only begins a block
+-- the reply to any other statement outside a block prints its read position, unless it only begins a block
 abbrev pub begins : StatementKind → Bool
 begins kinds.Begins = true
 begins other = false
@@ -408,47 +408,47 @@ abbrev pub is_on_hypertable : Roster → Op → Bool
 is_on_hypertable r (Insert t new) = is_some (hyper_of r t)
 is_on_hypertable r (Delete t tests) = is_some (hyper_of r t)
 
--- so is each of these
+-- each of these operations is on a hypertable
 abbrev pub on_hypertables : Roster → List Op → Bool
 on_hypertables r ops = list_all (is_on_hypertable r) ops
 
--- in a write block with these operations it prints where names are refused, or the operations take effect, or a query
--- reads. A query reads only where all operations are on hypertables
+-- whether the reply prints the read position in a write block with these operations. It does if names are refused, the
+-- operations take effect, or a query reads. A query reads only if all operations are on hypertables
 abbrev pub prints_writing : List Op → StatementKind → Roster → Option Refusal → Bool
 prints_writing ops kinds.Changes r refused = is_some refused
 prints_writing ops kinds.Asks r refused = on_hypertables r ops
 prints_writing (op ∷ ops) kinds.Commits r refused = true
 prints_writing ops other r refused = false
 
--- in a read block it prints the position of the block, whatever the look was
+-- whether the reply prints the read position. In a read block it prints the position of the block instead
 abbrev pub prints : Block → StatementKind → Roster → Option Refusal → Bool
 prints none kind r refused = not (begins kind)
 prints (writing ops n) kind r refused = prints_writing ops kind r refused
 prints (reading at) kind r refused = false
 
--- any other statement: its one look, and what it does there
+-- any other statement: its one read, and what it does there
 abbrev pub named_here : Places → ℕ → Stmt → Procedure (Turn Places)
 named_here p bytes stmt =
     sees (λ h. prints p.block (kind_of stmt) (roster h) (refusal_of (position h) (roster h) stmt))
     (λ h. turn_of_names p bytes stmt (read_at p.block h))
 
--- ---- lines: what is read of a line may pass its session's block or not, and then its names are looked at, and it acts
+-- ---- lines: the block of the session may refuse the statement that was read; otherwise its names are resolved, and it
+-- acts
 
--- a statement that its session's block lets pass, from a text of so many bytes
+-- a statement that the block of its session lets pass, from a text of this many bytes
 abbrev pub performs : Places → ℕ → Stmt → Procedure (Turn Places)
 performs p bytes stmt =
     cond (looks_twice p.block (kind_of stmt)) (named_first p bytes stmt) (named_here p bytes stmt)
 
--- a statement, by what its session's block says to its kind
+-- a statement, by whether the block of its session lets its kind pass
 abbrev pub passes_block : Places → ℕ → Stmt → Procedure (Turn Places)
 passes_block p bytes stmt = unless p (block_refusal p.block (kind_of stmt)) (performs p bytes stmt)
 
--- what was read, and what a statement then does
+-- what was read: a statement, or a text that is refused
 abbrev pub as_read : Places → (Stmt → Procedure (Turn Places)) → Result (Stmt × Stream) Fault → Procedure (Turn Places)
 as_read p does (Ok read) = does read.0
 as_read p does (Err f) = ends (refuses p (misread f))
 
--- a line of a session with these places: its text before the comment, in which a statement stands after the first
--- `skip` bytes
+-- a line of a session with this state: its text before the comment. Its statement begins after the first `skip` bytes
 abbrev pub step : Places → List ℕ → ℕ → Procedure (Turn Places)
 step p text skip = as_read p (passes_block p (length text)) (statement (stream text skip))

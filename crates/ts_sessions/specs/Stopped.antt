@@ -10,17 +10,17 @@ use Rattle.ts_sessions.specs.Gives.{Gives}
 use Rattle.ts_sessions.specs.Places.{Turn}
 use Rattle.ts_sessions.specs.Procedures.{Procedure}
 
--- a line of a reply is E24 only where the store had stopped, with that position
+-- a line of a reply is E24 only if the store had stopped, with that position
 abbrev pub StopsAt : Option ℕ → Said → Type 0
 StopsAt stop (said.Fault refusal) = refusal.code ≡ stopped → stop ≡ Some refusal.pos
 StopsAt stop other = ⊤
 
--- so is each line of the reply that a session's line came to
+-- each line of a reply is E24 only if the store had stopped, with that position
 abbrev pub ReplyStopsAt : {P : Type 0} → Option ℕ → Turn P → Type 0
 ReplyStopsAt stop turn = AllByRecursion (StopsAt stop) turn.said
 
--- a reply is E24 only where the store had stopped, with that position; the session had looked at what the history
--- begins with, or later
+-- a reply is E24 only if the store had stopped, with that position. The session had last read at the base of the
+-- history, or later
 abbrev pub OnlyStopsAreReported : {P : Type 0} → (P → List ℕ → ℕ → Procedure (Turn P)) → Type 0
 OnlyStopsAreReported {P} reply =
     (all : History) (stop : Option ℕ) (at : ℕ) (p : P) (text : List ℕ) (skip : ℕ) (looks : List (Option ℕ))

@@ -7,8 +7,8 @@ use std::thread::Threads;
 use ts_model::{Backend, Gate, Shown};
 use ts_schema::{Name, Steps};
 
-/// An actor executes the lines of a session on any store with snapshots of this type. A session is an actor; so is
-/// a type around a session that does more at each line.
+/// An actor executes the lines of a session on any store with snapshots of this type. A session is an actor. So is a
+/// type around a session that does more at each line.
 pub trait Actor {
     ghost use Rattle.std.specs.Prelude.{◌≡◌, ℕ, ◌+◌, ◌≤◌, List, length};
     ghost use Rattle.std.specs.Thread.{IsSync};
@@ -30,7 +30,8 @@ pub trait Actor {
     // The meaning of its lines.
     ghost semantics: { Semantics Self.Places };
 
-    // What the reply to a line says, by the session state, the bytes of the line, and how many precede its statement.
+    // What the reply to a line says, as a procedure. It depends on the session state, the bytes of the line, and how
+    // many of them precede its statement.
     ghost replies: { Self.Places → List ℕ → ℕ → Procedure (Turn Self.Places) };
 
     ghost places: { Self → Self.Places };
@@ -105,13 +106,13 @@ pub trait Actor {
         ensures holds { IfAnswered result (Self.holds self.new (B.state backend.new)) }
         ensures kin { B.kin backend.new ≡ B.kin backend.old };
 
-    /// States the law that the lines do what the replies to them say, over each longer history. It does nothing: its
-    /// clause is the law.
+    /// States the law that the lines do what their replies say, over each longer history. It does nothing: its clause
+    /// is the law.
     fn tells_replies()
         ensures { TellsReplies Self.within Self.semantics.does Self.replies };
 
-    /// States the law that a line whose statement makes an event leaves the session outside a block, if it was outside.
-    /// It does nothing: its clause is the law.
+    /// States the law that a line with an event leaves the session outside a block, if it was outside. It does nothing:
+    /// its clause is the law.
     fn stays_outside()
         ensures { StaysOutside Self.within Self.semantics.does };
 

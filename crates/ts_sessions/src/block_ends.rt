@@ -1,5 +1,5 @@
-//! What statements do first that begin or end a block, or use a snapshot that the session holds. None of them
-//! resolves names.
+//! What a statement does first if it begins or ends a block, or uses a snapshot that the session holds. None of these
+//! functions resolves names.
 ghost use Rattle.std.specs.Prelude.{◌≡◌, IfOk};
 ghost use Rattle.ts_model.specs.States.{State};
 ghost use Rattle.ts_sessions.specs.Deeds.{DeedFits, Forgets, StandsFor, Takes, end_of_block, hold_of, begin_write_block, said_once};

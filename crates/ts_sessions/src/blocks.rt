@@ -14,7 +14,7 @@ use ts_schema::{NoMemory, Seq};
 /// The block that a session is in.
 #[derive(Clone, Copy, Debug, PartialEq, Eq)]
 pub enum Block {
-    /// None.
+    /// No block.
     Outside,
     /// A write block.
     Write,
@@ -34,7 +34,7 @@ pub struct Queue {
 /// The block that a session is in, with what it holds there.
 #[derive(Drop)]
 pub enum Open<T> {
-    /// It is in none.
+    /// No block.
     Nothing,
     /// A write block.
     Write(Queue),
@@ -42,7 +42,7 @@ pub enum Open<T> {
     Read {
         /// The position at which the block began.
         at: u64,
-        /// The snapshot that it shows.
+        /// The snapshot that its queries read.
         shot: T,
     },
 }
@@ -110,8 +110,8 @@ impl<T> Open<T> {
         }
     }
 
-    /// Returns the refusal of a statement of this kind, or none if the block lets it pass: `E16` in a write block,
-    /// `E17` in a read block, and `E18` outside a block for a statement that ends one.
+    /// Returns the refusal of a statement of this kind, or none if the block lets it pass. The code is `E16` in a write
+    /// block and `E17` in a read block. It is `E18` outside a block for a statement that ends one.
     pub fn barrier(&self, kind: StatementKind) -> Option<Refusal>
         ensures { result ≡ block_refusal (block_of self.now) kind }
     {

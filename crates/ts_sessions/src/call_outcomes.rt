@@ -7,7 +7,7 @@ use crate::refusals::at;
 use ts_model::{Outcome, Refusal, codes};
 use ts_schema::NoMemory;
 
-/// The outcome of a call that may make an event.
+/// The outcome of a call that may append an event.
 #[derive(Drop, Debug, PartialEq, Eq)]
 pub enum Attempt<T> {
     /// The call succeeded.

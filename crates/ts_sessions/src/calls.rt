@@ -16,7 +16,7 @@ use ts_schema::NoMemory;
 /// The outcome of a store call, with what the statement needs to continue.
 #[derive(Drop)]
 pub enum CallOutcome<T> {
-    /// The event with this number made or set a relation, or the store refused it.
+    /// The event with this number created or set a relation, or the store refused it.
     Number {
         line: ChangeLine,
         came: Result<u64, Refusal>,
@@ -26,13 +26,13 @@ pub enum CallOutcome<T> {
         leaves: bool,
         came: Result<Committed, Refusal>,
     },
-    /// The event with this number made an aggregate, or the store refused it.
+    /// The event with this number created an aggregate, or the store refused it.
     View {
         new: NewView,
         filled: bool,
         came: Result<u64, Refusal>,
     },
-    /// The aggregate that the event `made` has made was found.
+    /// The aggregate that the event `made` created was found.
     Found {
         asked: RefreshRequest,
         made: u64,
@@ -55,7 +55,7 @@ pub enum CallOutcome<T> {
     },
 }
 
-/// A store call that was made.
+/// A store call that was performed.
 #[derive(Drop)]
 pub(crate) struct Meeting<T> {
     /// Its outcome.
@@ -64,7 +64,7 @@ pub(crate) struct Meeting<T> {
     pub failed: bool,
 }
 
-/// Makes a store call.
+/// Performs a store call.
 pub(crate) fn call<B: Backend, G: Gate>(
     backend: &mut B,
     gate: &G,
@@ -146,7 +146,7 @@ where
     }
 }
 
-/// Makes a table, or sets one property of a relation.
+/// Creates a table, or sets one property of a relation.
 #[tactic(auto, using(crate::proofs::CallWalks::called_tries))]
 fn make_one<B: Backend>(backend: &mut B, making: RelationChange) -> Result<Attempt<u64>, NoMemory>
     requires { IsTrue (sound (B.state backend.old).history (event_of making)) }

@@ -25,7 +25,7 @@ where
     GivesUp(u64),
     /// It is in this block now.
     Enters(Open<T>),
-    /// It queues an operation, from a text of so many bytes, in its write block.
+    /// It queues an operation, from a text of this many bytes, in its write block.
     Queues { op: Op, bytes: u64 },
 }
 

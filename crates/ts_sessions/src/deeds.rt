@@ -30,7 +30,7 @@ pub struct CutRefresh {
     pub min: i64,
 }
 
-/// Where the job of a finish comes from.
+/// The source of the job of a finish.
 #[derive(Drop)]
 pub enum FinishSource {
     /// The statement cut it, and took its snapshot at a position.
@@ -39,10 +39,10 @@ pub enum FinishSource {
     Held { cut: u64, at: u64 },
 }
 
-/// An event that makes a table, or sets one property of a relation.
+/// An event that creates a table, or sets one property of a relation.
 #[derive(Drop)]
 pub enum RelationChange {
-    /// Makes a table.
+    /// Creates a table.
     Table(TableDef),
     /// Makes a table a hypertable.
     Hyper { table: u32, hyper: Hyper },
@@ -53,7 +53,7 @@ pub enum RelationChange {
 /// The line that reports a `RelationChange`.
 #[derive(Clone, Copy, Debug, PartialEq, Eq)]
 pub enum ChangeLine {
-    /// A table was made.
+    /// A table was created.
     Table,
     /// A table was made a hypertable.
     Hyper,
@@ -79,18 +79,18 @@ pub enum AfterCut {
     End,
 }
 
-/// What a snapshot of the store is for.
+/// What a statement does with a snapshot of the store.
 #[derive(Drop)]
 pub enum AfterLook {
-    /// To begin a read block, at the position of the snapshot.
+    /// Begins a read block, at the position of the snapshot.
     BeginRead,
-    /// To compute the job of a refresh that the statement cut, and then finish it.
+    /// Computes the job of a refresh that the statement cut, and then finishes it.
     Snapshot(CutRefresh),
-    /// To compute the job of a refresh, for the session to hold.
+    /// Computes the job of a refresh, for the session to hold.
     Hold { cut: u64 },
-    /// To refuse the finish of a refresh, since the session lacks this.
+    /// Refuses the finish of a refresh, since the session lacks this.
     Refuse { cut: u64, lacks: MissingPart },
-    /// To refuse a statement that names no refresh.
+    /// Refuses a statement that names no refresh.
     Unknown,
 }
 
@@ -100,19 +100,19 @@ pub enum Deed<T: Shown>
 where
     T::Job: Drop,
 {
-    /// Makes or sets a relation.
+    /// Creates a table, or sets a relation.
     Make(RelationChange),
     /// Commits operations. `leaves` says whether this ends a block.
     Commit {
         ops: Seq<Op>,
         leaves: bool,
     },
-    /// Makes an aggregate. `filled` says whether a refresh follows.
+    /// Creates an aggregate. `filled` says whether a refresh follows.
     View {
         def: ViewDef,
         filled: bool,
     },
-    /// Refreshes all buckets of an aggregate that the event `made` has just made.
+    /// Refreshes all buckets of an aggregate that the event `made` has just created.
     Fill {
         new: NewView,
         made: u64,
@@ -219,7 +219,7 @@ where
     }
 }
 
-/// Makes one store call, and returns what follows it.
+/// Performs one store call, and returns what follows it.
 fn advance<R: Threads + Sync, B: Backend, G: Gate, L>(
     rt: &R,
     alloc: Global,
@@ -251,7 +251,7 @@ where
 }
 
 impl RelationChange {
-    /// The line that reports it.
+    /// The line that reports the change.
     pub fn line(&self) -> ChangeLine
         ensures { result ≡ line_of self.now }
     {
@@ -262,7 +262,7 @@ impl RelationChange {
         }
     }
 
-    /// The event that it is.
+    /// The event of the change.
     pub fn event(self) -> Event
         ensures { result ≡ event_of self }
     {
@@ -278,7 +278,7 @@ impl<T: Shown + Drop> Next<T>
 where
     T::Job: Drop,
 {
-    /// The refresh whose held job it takes, if it takes one.
+    /// The refresh whose held job the call takes, if it takes one.
     pub(crate) fn cut_taken(&self) -> Option<u64>
         ensures { result ≡ taken_next self.now }
     {
@@ -293,7 +293,7 @@ impl<T: Shown + Drop> Deed<T>
 where
     T::Job: Drop,
 {
-    /// The refresh whose held job it takes, if it takes one.
+    /// The refresh whose held job the finish takes, if it takes one.
     fn cut_taken(&self) -> Option<u64>
         ensures { result ≡ taken_by self.now }
     {

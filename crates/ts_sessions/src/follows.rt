@@ -134,7 +134,7 @@ where
     }
 }
 
-/// Ends the statement after a call that makes or sets a relation.
+/// Ends the statement after a call that creates a table or sets a relation.
 pub fn after_number<T: Shown + Drop>(
     alloc: Global,
     line: ChangeLine,
@@ -173,7 +173,7 @@ where
     }
 }
 
-/// Continues after an aggregate was made, or ends the statement if it was refused or isn't to be filled.
+/// Continues after an aggregate was created. Ends the statement if it was refused or needs no refresh.
 pub fn after_view<T: Shown + Drop>(
     alloc: Global,
     new: NewView,

@@ -7,7 +7,7 @@ use stmt_syntax::Stmt;
 /// The kind of a statement.
 #[derive(Clone, Copy, Debug, PartialEq, Eq)]
 pub enum StatementKind {
-    /// It makes or sets a relation, or refreshes an aggregate.
+    /// It creates or sets a relation, or refreshes an aggregate.
     Defines,
     /// It inserts or deletes rows.
     Changes,
@@ -23,7 +23,7 @@ pub enum StatementKind {
     BeginsRead,
     /// It ends a block, and commits what is queued there.
     Commits,
-    /// It gives a block up.
+    /// It gives up a block.
     RollsBack,
 }
 

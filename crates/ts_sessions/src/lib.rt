@@ -1,12 +1,12 @@
 //! Sessions: what a line of a script does to a store, and what it says.
 //!
-//! - `actors`: what executes the lines of a session.
+//! - `actors`: types that execute the lines of a session.
 //! - `sessions`: sessions, and what they hold.
 //! - `blocks`: blocks and their queues.
 //! - `steps`: the step of a session, which is one line.
 //! - `kinds`: the kinds of statements, by which blocks let them pass or not.
 //! - `name_checks`: resolves the names of a statement, and says what it does first.
-//! - `block_ends`: what statements do first that begin or end a block, or use a snapshot that the session holds.
+//! - `block_ends`: first steps of statements that begin or end a block, or use a snapshot that the session holds.
 //! - `openings`: what a statement does first, by its kind and by the block of its session.
 //! - `deeds`: store calls, and the one function that carries out a statement by them.
 //! - `calls`: performs store calls.

@@ -37,7 +37,7 @@ pub enum Resolved<T: Shown>
 where
     T::Job: Drop,
 {
-    /// Nothing: it is refused.
+    /// A refusal.
     Refused(Refusal),
     /// An answer by a plan.
     Shows(Plan),
@@ -68,7 +68,7 @@ where
     }
 }
 
-/// Resolves the names of a statement that is no roll-up.
+/// Resolves the names of a statement that isn't a roll-up.
 fn check_names<T: Shown + Drop>(
     alloc: Global,
     stmt: &Stmt,
@@ -88,7 +88,7 @@ where
     }
 }
 
-/// Returns what an action asks for whose statement has names.
+/// Returns what an action with names asks for.
 fn asked_by<T: Shown + Drop>(roster: &Roster, action: Action) -> Result<Resolved<T>, NoMemory>
 where
     T::Job: Drop,

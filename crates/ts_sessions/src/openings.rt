@@ -19,9 +19,9 @@ where
 {
     /// This store call, or the end of the statement.
     Next(Next<T>),
-    /// It resolves its names.
+    /// The resolution of its names.
     Names,
-    /// It finishes a refresh with the job that the session holds: the one with this number, or the last that it cut.
+    /// The finish of a refresh with the job that the session holds: the one with this number, or the last that it cut.
     Finish(Option<i64>),
 }
 
@@ -29,7 +29,7 @@ impl<T: Shown + Drop> Session<T>
 where
     T::Job: Drop,
 {
-    /// Returns what a statement does first that the block lets pass.
+    /// Returns what a statement that the block lets pass does first.
     pub fn opening(&self, alloc: Global, stmt: &Stmt) -> Result<Opening<T>, NoMemory>
         ensures { IfOk result (λ o. o ≡ opening_of (places_in self.now) stmt.now) }
     {

@@ -36,7 +36,7 @@ use ts_schema::{Name, NoMemory, Steps};
 /// The form in which a query shows the answer of its plan.
 #[derive(Drop)]
 pub enum Form {
-    /// As it is.
+    /// The answer itself.
     Own,
     /// In wider buckets.
     RolledUp(UpperPlan),
@@ -109,7 +109,7 @@ fn ask<R: Threads + Sync, T: Shown, L>(
     }
 }
 
-/// Returns the answer in this form, by the roster of its snapshot.
+/// Returns the answer in this form. `roster` is that of the snapshot.
 pub fn in_form(
     alloc: Global,
     roster: &Roster,
@@ -129,8 +129,8 @@ pub fn in_form(
     }
 }
 
-/// Rolls up an aggregate's answer. A plan that takes all of the aggregate returns the answer itself. A plan that
-/// keeps its groups only chooses cells.
+/// Rolls up an aggregate's answer. A plan that takes all of the aggregate returns the answer itself. A plan that keeps
+/// its groups only chooses cells.
 fn roll_up(
     alloc: Global,
     plan: &UpperPlan,

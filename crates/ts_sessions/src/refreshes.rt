@@ -1,4 +1,4 @@
-//! Refreshes: their three phases, each with one look.
+//! Refreshes: their three phases, each with one read position.
 ghost use Rattle.std.specs.Prelude.{◌≡◌, ◌<◌, ◌^◌, Ok, IsSome, IsTrue, IfOk};
 ghost use Rattle.std.specs.Option.{ForSome};
 ghost use Rattle.std.specs.Thread.{IsSync};
@@ -23,7 +23,7 @@ pub enum SnapOutcome<J> {
     Refused(Refusal),
 }
 
-/// A refresh that is requested.
+/// A refresh that a statement requests.
 #[derive(Drop)]
 pub struct RefreshRequest {
     /// The number of its aggregate.

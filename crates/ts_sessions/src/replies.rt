@@ -15,7 +15,7 @@ pub struct Reply {
     pub text: Seq<u8>,
     /// Whether one of its lines is a FAULT.
     pub fault: bool,
-    /// The numbers of the events that the line made, which its lines name.
+    /// The numbers of the events that the line appended, which its lines name.
     pub events: Seq<u64>,
 }
 
@@ -24,11 +24,11 @@ pub struct Reply {
 pub enum StepEnd {
     /// The line has this reply.
     Reply(Reply),
-    /// The disk failed at an event of the line, and the store has stopped. The reply has the lines of the events made
-    /// before, and then the refusal `E24`. A `TICK` continues: its reply then has those to the other statements that
-    /// are due.
+    /// The disk failed at an event of the line, and the store has stopped. The reply has the lines of the earlier
+    /// events, and then the refusal `E24`. A `TICK` continues: its reply then also has the lines of the other
+    /// statements that are due.
     DiskFault(Reply),
-    /// Out of memory. Events that the line made before remain.
+    /// Out of memory. Events that the line appended before remain.
     NoMemory,
 }
 
@@ -42,7 +42,7 @@ pub fn step_end(reply: Reply, failed: bool) -> StepEnd
     }
 }
 
-/// Returns the reply of the session with this name that has these lines.
+/// Returns the reply of the session `name` with these lines.
 pub fn write_reply(alloc: Global, name: &Name, said: &[Said]) -> Result<Reply, NoMemory>
     ensures { IfOk result (λ r. IsReply name.now said.now r) }
 {
@@ -67,7 +67,7 @@ fn put_lines(name: &Name, said: &[Said], text: &mut Vec<u8>) -> Result<(), NoMem
     Ok(())
 }
 
-/// Appends the numbers of the events that the lines report as made.
+/// Appends the numbers of the events that the lines report.
 fn put_numbers(said: &[Said], events: &mut Seq<u64>) -> Result<(), NoMemory>
     ensures { IfOk result (λ _. events.new ≡ events.old ++ made_in said.now) }
 {
@@ -77,7 +77,7 @@ fn put_numbers(said: &[Said], events: &mut Seq<u64>) -> Result<(), NoMemory>
     Ok(())
 }
 
-/// Appends the numbers of the events that a line reports as made.
+/// Appends the numbers of the events that a line reports.
 fn put_made(said: &Said, events: &mut Seq<u64>) -> Result<(), NoMemory>
     ensures { IfOk result (λ _. events.new ≡ events.old ++ made_by said.now) }
 {

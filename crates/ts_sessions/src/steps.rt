@@ -29,8 +29,8 @@ where
 {
     /// Executes a line. `text` is the line before its comment, and its statement begins after the first `skip` bytes.
     /// It is one step of the model: the procedure of the line, on any history that the store has by then. If it runs
-    /// out of memory, the session stays as it was, except that it may have given up the snapshot of a refresh that the
-    /// line would finish.
+    /// out of memory, the session stays as it was, with one exception. It may have given up the snapshot of a refresh
+    /// that the line would finish.
     pub fn step<R: Threads + Sync, B: Backend<Shot = T>, G: Gate, L>(
         &mut self,
         rt: &R,
@@ -184,7 +184,8 @@ where
         }
     }
 
-    /// Returns what a statement does first that the block lets pass. It calls the store only to resolve names.
+    /// Returns the first store call or the end of a statement that the block lets pass. It calls the store only to
+    /// resolve names.
     fn first<R: Threads + Sync, B: Backend<Shot = T>, L>(
         &mut self,
         rt: &R,

@@ -1,4 +1,4 @@
--- What an audit has done, by how the reading of its text ended and what was printed.
+-- What an audit has done, by how the reading of its text ended and what it printed.
 use Rattle.std.proofs.Common.{◌≡◌, inl, inr, ℕ, false, List, Option, Some, None, IfSome, refl, sym, ap, ◌∙◌, subst}
 use Rattle.std.specs.Prelude.{◌↔◌}
 use Rattle.std.specs.Io.KnownBytes.{Appends}
@@ -31,7 +31,7 @@ module _ (h : History) (unprinted : Type 0) (before written : Option (List ℕ))
     refused : status_audited audit ≡ Refused → (status : Status) → status ≡ status_audited audit → Appends before written (audit_text (position h) audit) → Audits h status unprinted text before written
     refused told status is printed = subst (λ s. Audits h s unprinted text before written) (sym (is ∙ told)) (with_line Refused (sym told) printed)
 
-  -- an audit of the text that was printed so
+  -- an audit of the text, with this line printed
   pub audited : (audit : Audit) (status : Status) → Answers h text audit → PrintsAudit audit (position h) status unprinted before written → Audits h status unprinted text before written
   audited audits.NoMemory status answers p = subst (λ s. Audits h s unprinted text before written) (sym p.0) p.1
   audited (audits.Yes n) status answers (inl p) = subst (λ s. Audits h s unprinted text before written) (sym p.0) (with_line (audits.Yes n) answers Done refl p.1)
@@ -47,7 +47,7 @@ module _ (h : History) (unprinted : Type 0) (before written : Option (List ℕ))
   audited audits.BadText status answers (inl p) = refused audits.BadText answers refl status p.0 p.1
   audited audits.BadText status answers (inr p) = with_part audits.BadText answers status p.0 p.1
 
--- over the history that the journal stood for
+-- over the history that the journal represented
 pub audits_beside : (status : Status) (unprinted : Type 0) (text : List ℕ) (o : Outside) (h : History) → IfSome o.file_before (λ file. Stands file h) → Audits h status unprinted text o.written_before o.written → AuditsBeside status unprinted text o
 audits_beside Done unprinted text o h stood a = record { opening = h; stood = stood; ran = a }
 audits_beside Refused unprinted text o h stood a = record { opening = h; stood = stood; ran = a }
@@ -71,7 +71,7 @@ audit_to (Damaged at) unprinted unasked text o read a = record { text = text; re
 audit_to NoMemory unprinted unasked text o read a = (a, inr (record { text = text; read = read; is = tt }))
 audit_to InputLong unprinted unasked text o read a = absurd a.ran
 
--- and it reads nothing more
+-- it reads nothing more
 pub beside_reads_nothing : (status : Status) (unprinted : Type 0) (text : List ℕ) (o : Outside) → AuditsBeside status unprinted text o → is_read_fault status ≡ false
 beside_reads_nothing Done unprinted text o a = refl
 beside_reads_nothing Refused unprinted text o a = refl
@@ -83,7 +83,7 @@ beside_reads_nothing (Damaged at) unprinted text o a = refl
 beside_reads_nothing NoMemory unprinted text o a = refl
 beside_reads_nothing InputLong unprinted text o a = refl
 
--- an audit over a history asks no disk
+-- an audit over a history doesn't call the disk
 pub disk_no_fault : (h : History) (status : Status) (unprinted : Type 0) (text : List ℕ) (before written : Option (List ℕ)) → Audits h status unprinted text before written → is_disk_fault status ≡ false
 disk_no_fault h Done unprinted text before written a = refl
 disk_no_fault h Refused unprinted text before written a = refl
@@ -95,7 +95,7 @@ disk_no_fault h (Damaged at) unprinted text before written a = refl
 disk_no_fault h NoMemory unprinted text before written a = refl
 disk_no_fault h InputLong unprinted text before written a = refl
 
--- an audit is asked for by a word
+-- the words of an audit name a command
 good_words : (status : Status) (unprinted unasked : Type 0) (o : Outside) → AuditTo status unprinted unasked o → status ≡ BadWords → ⊥
 good_words Done unprinted unasked o to is = cc is
 good_words Refused unprinted unasked o to is = cc is

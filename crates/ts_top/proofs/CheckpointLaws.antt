@@ -33,12 +33,12 @@ never_stopped : (h : History) (failed : Option Event) (p : ℕ) → failed ≡ N
 never_stopped h None p goes_on is = cc is
 never_stopped h (Some e) p goes_on is = cc goes_on
 
--- what a crash since the start might have left, where no event was made
+-- what a crash since the start might have left, if no event was appended
 pub history_or_image : (opening h : History) (failed : Option Event) (c : List ℕ) → opening ≡ h → failed ≡ None → IsBetween opening h failed c ⊎ StandsForImage h c → StandsSaved h c
 history_or_image opening h failed c whole goes_on either =
     ⊎_elim (λ between. inl (only_one h failed c goes_on (subst (λ g. IsBetween g h failed c) whole between))) (λ image. inr image) either
 
--- a base counts
+-- a base that exists isn't missing
 no_base_counts : (base : Option (List ℕ)) (some : List ℕ) → base ≡ Some some → base ≡ None → ⊥
 no_base_counts None some is none = cc is
 no_base_counts (Some b) some is none = cc none
@@ -169,7 +169,7 @@ module _ {D : Type 0} (bytes : D → Option (List ℕ)) (may_leave : D → List 
       ended_to ends.NoMemory status end safe same before images told =
           subst To (sym told.0) (told.1, inr (record { opening = h; stood = stood; ran = (later end.1, subst (AsBefore Known LeftSince h) (sym file) (as_before same before)) }))
 
-  -- the header is there
+  -- the header exists
   pub headed : (end : CheckEnd) → Safe end → (Known → IfUntouched end (IsSomeAnd (bytes new) HasHeader)) → IfSaved end (Known → IsSomeAnd (bytes new) HasHeader) × IfUntouched end (Known → IsSomeAnd (bytes new) HasHeader)
   headed (ends.Done p n) safe untouched =
       (λ some. let saved : HoldsImage bytes may_leave new h = (safe some).1 in some_is (bytes new) saved.file HasHeader saved.told (image_header h saved.file saved.stands), tt)
@@ -181,7 +181,7 @@ module _ {D : Type 0} (bytes : D → Option (List ℕ)) (may_leave : D → List 
 
 -- ---- the status
 
--- what holds where the image stands, and where nothing was written, holds where the call went on
+-- P is true if the call continued, if it is true when the image was saved and when nothing was written
 pub went_on : (end : CheckEnd) (status : Status) (unprinted : Type 0) (before written : Option (List ℕ)) (P : Type 0) → TellsEnd end status unprinted before written → IfSaved end P × IfUntouched end P → IfWentOn status P
 went_on (ends.Done p n) status unprinted before written P (inl told) holds = subst (λ x. IfWentOn x P) (sym told.0) holds.0
 went_on (ends.Done p n) status unprinted before written P (inr told) holds = subst (λ x. IfWentOn x P) (sym told.0) holds.0
@@ -221,7 +221,7 @@ counted_disk ends.NoMemory status unprinted before written past failed most faul
 -- ---- the opening
 
 module _ (told : Type 0) (left : List ℕ → Type 0) (unprinted : Type 0) (o : Outside) where
-  -- where the journal was opened the disk needn't be as it was
+  -- if the journal was opened, the disk may have changed
   pub changed_or_kept : (status : Status) (kept : Type 0) → CheckpointTo status told left unprinted ⊥ o → CheckpointTo status told left unprinted kept o
   changed_or_kept Done kept to = to
   changed_or_kept Refused kept to = to
@@ -245,7 +245,7 @@ module _ (told : Type 0) (left : List ℕ → Type 0) (unprinted : Type 0) (o : 
   not_opened_checkpoint NoMemory kept still n = (still, inl n)
   not_opened_checkpoint InputLong kept still n = absurd n
 
-  -- the words were good
+  -- the words named a command
   good_words : (status : Status) (kept : Type 0) → CheckpointTo status told left unprinted kept o → status ≡ BadWords → ⊥
   good_words Done kept to is = cc is
   good_words Refused kept to is = cc is

@@ -1,4 +1,4 @@
--- A demonstration reads no input, and no disk of others fails in it.
+-- A demonstration reads no input, and the disk of its caller doesn't fail in it.
 use Rattle.std.proofs.Common.{◌≡◌, ◌↔◌, ℕ, Option, Some, None, false, refl}
 use Rattle.ts_top.specs.declared.endings.Status.{Status}
 use Rattle.ts_top.specs.declared.endings.Status.TheVariants.{Done, Refused, BadWords, ReadFault, WriteFault, DiskFault, Damaged, NoMemory, InputLong}

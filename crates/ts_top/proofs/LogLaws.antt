@@ -15,7 +15,7 @@ use Rattle.engine_core.proofs.EventLaws.{base_of}
 use Rattle.result_text.specs.Events.{log_text}
 use Rattle.ts_top.specs.Logs.{base_text, begun_text, lines_after, log_of}
 
--- the events of a history that continues are its events and those that follow
+-- the events of a history that continues are its events and then the later ones
 events_followed : (h : History) (es : List Event) → events_of (h ▸▸ es) ≡ events_of h ++ es
 events_followed h [] = sym (append-nil (events_of h))
 events_followed h (e ∷ es) = events_followed (h ▸ e) es ∙ append_assoc (events_of h) (e ∷ []) es
@@ -35,7 +35,7 @@ image_at_first (Some i) = refl
 pub events_of_past : (past : Past) → events_of (history_of past) ≡ past.events
 events_of_past past = events_followed (begun_by past.base) past.events ∙ ap (λ (es : List Event). es ++ past.events) (none_at_first past.base)
 
--- the log of what an engine was told
+-- the log of an engine's history
 pub log_is : (past : Past) (names : Roster) (after : ℕ) → names ≡ roster (history_of past) → after ≡ position (begun_by past.base)
     → log_of (history_of past) ≡ begun_text past.base ++ lines_after names after past.events
 log_is past names after named is =
@@ -44,7 +44,7 @@ log_is past names after named is =
 
 -- ---- printing
 
--- the lines of some events were written, and those of the others are still to be
+-- the lines of some events were printed, and those of the others are left
 pub record PrintedUpTo (old new : Option (List ℕ)) (whole rest : List ℕ) : Type 0 where
   pub done : List ℕ
   pub wrote : Appends old new done
@@ -72,7 +72,7 @@ printed_part old mid new whole line rest so_far part = record {
 pub printed_all : (old new : Option (List ℕ)) (whole : List ℕ) → PrintedUpTo old new whole [] → Appends old new whole
 printed_all old new whole so_far = subst (Appends old new) (sym (so_far.split ∙ append-nil so_far.done)) so_far.wrote
 
--- the line of the event at a place, and those of the events behind it
+-- the line of the event at an index, and those of the later events
 pub next_line : (names : Roster) (number : ℕ) (events : List Event) (i : ℕ) (event : Event) → i < length events → event ≡ get_or events i event
     → lines_after names number (drop i events) ≡ log_text (number + 1) names event ++ lines_after names (number + 1) (drop (i + 1) events)
 next_line names number events i event within is =

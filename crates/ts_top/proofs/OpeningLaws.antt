@@ -7,7 +7,7 @@ use Rattle.ts_top.specs.Openings.{NotOpened}
 use Rattle.ts_top.specs.Outcomes.{IfWentOn, Outside, RanTo}
 
 module _ (told : Type 0) (left : List ℕ → Type 0) (before after : Option (List ℕ)) where
-  -- where the header was reached the disk needn't be as it was
+  -- if the header was reached, the disk may have changed
   pub failed_or_kept : (status : Status) (kept : Type 0) → NotOpened status told left ⊥ before after → NotOpened status told left kept before after
   failed_or_kept Done kept n = n
   failed_or_kept Refused kept n = n
@@ -20,7 +20,7 @@ module _ (told : Type 0) (left : List ℕ → Type 0) (before after : Option (Li
   failed_or_kept NoMemory kept n = absurd n
   failed_or_kept InputLong kept n = n
 
-  -- nothing was read and nothing printed, so no fault of source or sink is reported
+  -- nothing was read and nothing printed, so the call reports no fault of source or sink
   pub not_opened_reads : (status : Status) (kept : Type 0) → NotOpened status told left kept before after → is_read_fault status ≡ false
   not_opened_reads Done kept n = refl
   not_opened_reads Refused kept n = refl

@@ -1,4 +1,4 @@
--- What the top call has done, by how its script ended and what the store then says of its disk.
+-- What the top call has done, by how its script ended and what the store then reports about its disk.
 use Rattle.std.proofs.Common.{◌≡◌, ◌≤◌, inl, inr, ⊎_elim, ℕ, false, List, [], ◌∷◌, ◌++◌, Option, Some, None, IfSome, take, refl, sym, ap, ◌∙◌, subst, arith}
 use Rattle.std.specs.Prelude.{IsSome, IsSomeAnd}
 use Rattle.std.specs.Io.KnownBytes.{Appends}
@@ -32,7 +32,7 @@ if_some (Some x) P Q gives p = gives x p
 
 -- ---- files
 
--- what a store says of its disk once it is closed
+-- what a closed store reports about its disk
 pub record Closed (told : Type 0) (left : List ℕ → Type 0) (opening : History) (s : State) (file : Option (List ℕ)) : Type 0 where
   pub shown : told → IsSomeAnd file (StandsForEither s.history (latest s.history s.failed))
   pub images : (c : List ℕ) → left c → IsBetween opening s.history s.failed c
@@ -42,7 +42,7 @@ pub the_one : (h : History) (failed : Option Event) (file : List ℕ) → failed
 the_one h failed file none (inl stands) = stands
 the_one h failed file none (inr stands) = subst (λ g. Stands file g) (ap (latest h) none) stands
 
--- an image on the way to a history with which that of the store begins, where the disk didn't fail
+-- a crash image of a history on the way to one with which the store's history begins, if the disk didn't fail
 image_before : (opening seen to : History) (failed : Option Event) (c : List ℕ) → failed ≡ None → Begins seen to → IsBetween opening seen failed c → StandsBetween opening to c
 image_before opening seen to failed c none within image = record {
   history = image.history;
@@ -51,7 +51,7 @@ image_before opening seen to failed c none within image = record {
   within = ⊎_elim (λ upto. begins_trans upto within) (λ is. subst (λ g. Begins g to) (sym (is ∙ ap (latest seen) none)) within) image.upto;
 }
 
--- and where it failed at an event on that way
+-- the same if it failed at an event on that way
 image_failed : (opening seen to : History) (e : Event) (failed : Option Event) (c : List ℕ) → failed ≡ Some e → Begins (seen ▸ e) to → IsBetween opening seen failed c → StandsBetween opening to c
 image_failed opening seen to e failed c fails next image = record {
   history = image.history;
@@ -66,7 +66,7 @@ file_failed from seen to e failed file fails began next (inr stands) = record { 
 
 -- ---- scripts
 
--- what a script left, of which no row was read before
+-- what a script left, if no row was read before
 abbrev pub left_of : State → Outside → Left
 left_of s o = record { store = s; written_before = o.written_before; written = o.written; read_before = 0; read = o.reads }
 
@@ -136,7 +136,7 @@ module _ (told : Type 0) (left : List ℕ → Type 0) (unread unprinted kept : T
         counted = stopped.counted;
       }
 
-  -- what the call has done whose script ended so
+  -- what the call has done after its script ended like this
   pub told_run : (end : RunEnd) → stands_still s ≡ is_disk_fault_of end → IfSome o.file_before (λ file. Stands file h) → IfSome o.input (λ input. RanScript end program_semantics h input o.rest (left_of s o)) → RanTo (status_of end) told left unread unprinted kept o
   told_run ends.Done still stood ran =
       record { opening = h; stood = stood; ran = if_some o.input _ _ (λ input r. (r.0, r.2, ran_whole (executed_lines input) (none_there s.failed still) r.1)) ran }
@@ -153,7 +153,7 @@ module _ (told : Type 0) (left : List ℕ → Type 0) (unread unprinted kept : T
   told_run ends.InputLong still stood ran =
       record { opening = h; stood = stood; ran = if_some o.input _ _ (λ input r. (r.0, ran_whole (executed_lines input) (none_there s.failed still) r.1)) ran }
 
--- a run that read its source went on from a header, where the disk didn't fail
+-- a run that read its source had a header, if the disk didn't fail
 pub headed : (end : RunEnd) (P : Type 0) → (is_disk_fault_of end ≡ false → P) → IfWentOn (status_of end) P
 headed ends.Done P there = there refl
 headed ends.Refused P there = there refl
@@ -163,7 +163,7 @@ headed ends.DiskFault P there = tt
 headed ends.NoMemory P there = tt
 headed ends.InputLong P there = there refl
 
--- a run that did something is one that did something or nothing
+-- a run that did something did something or nothing
 pub ran_or_not : (status : Status) (told : Type 0) (left : List ℕ → Type 0) (unread unprinted kept : Type 0) (o : Outside) → RanTo status told left ⊥ ⊥ ⊥ o → RanTo status told left unread unprinted kept o
 ran_or_not Done told left unread unprinted kept o ran = ran
 ran_or_not Refused told left unread unprinted kept o ran = ran

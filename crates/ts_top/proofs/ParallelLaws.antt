@@ -1,4 +1,4 @@
--- What a parallel run has done, by how it stopped and what the closed store says of its disk.
+-- What a parallel run has done, by how it stopped and what the closed store reports about its disk.
 use Rattle.std.proofs.Common.{◌≡◌, ◌≢◌, inl, inr, ⊎_elim, ℕ, suc, ◌≤◌, ◌<◌, Bool, true, false, List, [], ◌++◌, append-nil, Option, Some, None, IfSome, length, refl, sym, ap, ◌∙◌, subst, arith}
 use Rattle.std.specs.Prelude.{cond, is_some}
 use Rattle.std.specs.Io.KnownBytes.{Appends, Consumes, IsAtEnd}
@@ -44,7 +44,7 @@ same_both (further b) back = absurd (too_long (position_begins b) (position_begi
     too_long : {m n : ℕ} → m ≤ n → suc n ≤ m → ⊥
     too_long le more = omega arith
 
--- an image of a store that made no event and whose disk didn't fail
+-- a crash image of a store without new events whose disk didn't fail
 pub only_one : (h : History) (failed : Option Event) (c : List ℕ) → failed ≡ None → IsBetween h h failed c → Stands c h
 only_one h failed c none image =
     let is : image.history ≡ h = ⊎_elim (λ upto. sym (same_both image.from upto)) (λ is. is ∙ ap (latest h) none) image.upto in
@@ -74,7 +74,7 @@ module _ (told : Type 0) (left : List ℕ → Type 0) (sink_failed : Type 0) (h 
   gave_up : RanAsFar → written ≡ before → GaveUp told left h input reads (written ≡ before) file
   gave_up ran none = record { printed_nothing = none; state = s; ran = ran; holds = closed.shown; images = closed.images }
 
-  -- the transcript of a run that didn't stop is explained by what it left
+  -- the history of a run that didn't stop explains its transcript
   explained : Ran → stands_still s ≡ false → ExplainedUnlessPolicies s.history (transcript_in (position h) out)
   explained ran stops = runs_explained h input [] s out reads ran stops
 
@@ -97,7 +97,7 @@ module _ (told : Type 0) (left : List ℕ → Type 0) (sink_failed : Type 0) (h 
     no_memory : RanAsFar → (status : Status) → (status ≡ NoMemory) × (written ≡ before) → InputTo replies status told left sink_failed h input reads before written file
     no_memory far status p = subst (λ x. InputTo replies x told left sink_failed h input reads before written file) (sym p.0) (gave_up far p.1)
 
-  -- what the run of an input that stopped so has done, once it was printed
+  -- what the run of an input has done after it was printed, by how it stopped
   pub input_to : (replies : Replies) (stop : ParStop) (status : Status) → Prints replies stop (position h) out status sink_failed before written → (stop ≢ stops.NoMemory → Ran) → (stop ≢ stops.NoMemory → stands_still s ≡ is_disk_fault_of stop)
       → RanAsFar → InputTo replies status told left sink_failed h input reads before written file
   input_to Plain stops.Done status (inl p) ran stop far = printed_whole Plain (ran (λ e. cc e)) (stop (λ e. cc e)) status p
@@ -112,7 +112,7 @@ module _ (told : Type 0) (left : List ℕ → Type 0) (sink_failed : Type 0) (h 
 
 -- ---- the input
 
--- a source that gave bytes and came to its end gave its whole input
+-- a source that gave bytes and reached its end gave its whole input
 pub read_whole : (old new : Option (List ℕ)) (out : List ℕ) → Consumes old new out → IsAtEnd new → length out ≤ INPUT_LIMIT → IfSome old (λ input. ReadWhole input new × (input ≡ out))
 read_whole None new out taken end within = tt
 read_whole (Some xs) None out taken end within = absurd taken
@@ -120,7 +120,7 @@ read_whole (Some xs) (Some ys) out taken end within =
     let is : xs ≡ out = taken ∙ ap (λ l. out ++ l) end ∙ append-nil out in
     (record { within = subst (λ l. length l ≤ INPUT_LIMIT) (sym is) within; at_end = end }, is)
 
--- one that gave more than the limit had more
+-- a source that gave more than the limit had more
 pub too_long : (old new : Option (List ℕ)) (out : List ℕ) → Passes INPUT_LIMIT old new out → IfSome old (λ input. INPUT_LIMIT < length input)
 too_long None new out p = tt
 too_long (Some xs) None out p = absurd p
@@ -157,7 +157,7 @@ module _ (replies : Replies) (told : Type 0) (left : List ℕ → Type 0) (sink_
       input_par NoMemory to = inr (inr (over_input NoMemory to))
       input_par InputLong to = absurd to
 
-  -- a call that did something is one that did something or nothing
+  -- a call that did something did something or nothing
   pub par_or_not : (status : Status) (unread unprinted kept : Type 0) → ParTo replies status told left sink_failed ⊥ ⊥ ⊥ o → ParTo replies status told left sink_failed unread unprinted kept o
   par_or_not Done unread unprinted kept ran = ran
   par_or_not Refused unread unprinted kept ran = ran
@@ -171,7 +171,7 @@ module _ (replies : Replies) (told : Type 0) (left : List ℕ → Type 0) (sink_
   par_or_not NoMemory unread unprinted kept (inr ran) = inr ran
   par_or_not InputLong unread unprinted kept ran = ran
 
-  -- one that opened no journal
+  -- a call that opened no journal
   pub not_opened_par : (unread unprinted kept : Type 0) → unread × unprinted × (o.reads ≡ 0) → (status : Status) → NotOpened status told left kept o.file_before o.file → ParTo replies status told left sink_failed unread unprinted kept o
   not_opened_par unread unprinted kept still Done n = absurd n
   not_opened_par unread unprinted kept still Refused n = absurd n
@@ -183,7 +183,7 @@ module _ (replies : Replies) (told : Type 0) (left : List ℕ → Type 0) (sink_
   not_opened_par unread unprinted kept still NoMemory n = inl (still.0, still.1, n, still.2)
   not_opened_par unread unprinted kept still InputLong n = absurd n
 
--- a call that opened no journal prints nothing, so no fault of the sink is reported
+-- a call that opened no journal prints nothing, so it reports no fault of the sink
 not_opened_plain : (told : Type 0) (left : List ℕ → Type 0) (before after : Option (List ℕ)) (status : Status) (kept : Type 0) (n : ℕ) → NotOpened status told left kept before after → CountedAfterDisk status n n
 not_opened_plain told left before after Done kept n e = refl
 not_opened_plain told left before after Refused kept n e = refl
@@ -249,7 +249,7 @@ counted_by Json stops.Done start out status sink_failed before written first now
 counted_by Json stops.DiskFault start out status sink_failed before written first now p is g = counted_disk first now g status p.0 (is (λ e. cc e))
 counted_by Json stops.NoMemory start out status sink_failed before written first now p is g = counted_memory first now g status p.0
 
--- ---- a call that went on
+-- ---- a call that continued
 
 -- unless a call ended with a disk fault or out of memory, its run stopped at its end
 module _ (P : Type 0) where
@@ -271,7 +271,7 @@ module _ (P : Type 0) where
   went_by Json stops.DiskFault start out status sink_failed before written p there = went_so status DiskFault p.0 tt
   went_by Json stops.NoMemory start out status sink_failed before written p there = went_so status NoMemory p.0 tt
 
--- one that opened no journal tells of the disk's fault as its parts do
+-- a call that opened no journal reports the disk's fault as its parts do
 pub not_opened_disk : (status : Status) (before now : ℕ) → Counted before now (is_disk_fault status) → CountedAfterWorkers status before now
 not_opened_disk Done before now counted = counted
 not_opened_disk Refused before now counted = counted

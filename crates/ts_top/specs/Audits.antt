@@ -15,15 +15,15 @@ use Rattle.ts_top.specs.Outcomes.{Outside, IsDamaged, Over}
 
 -- ---- its line
 
--- a reply by its session and its place, after a word
+-- a reply by its session and its index, after a word
 abbrev pub reply_line : List ℕ → ℕ → ℕ → List ℕ
 reply_line word session reply = word ++ decimal session ++ codes " reply " ++ decimal reply ++ codes "\n"
 
--- all replies are explained: how many there are, and where the history ends
+-- all replies are explained: the number of replies, and the position at which the history ends
 abbrev pub yes_text : ℕ → ℕ → List ℕ
 yes_text end n = codes "AUDIT YES replies " ++ decimal n ++ codes " @" ++ decimal end ++ codes "\n"
 
--- what is printed of an audit over a history that ends at a position
+-- the line of an audit over a history that ends at a position
 abbrev pub audit_text : ℕ → Audit → List ℕ
 audit_text end (audits.Yes n) = yes_text end n
 audit_text end (audits.No session reply) = reply_line (codes "AUDIT NO session ") session reply
@@ -33,15 +33,15 @@ audit_text end (audits.Early p) = codes "AUDIT EARLY @" ++ decimal p ++ codes "\
 audit_text end audits.BadText = codes "AUDIT BAD\n"
 audit_text end audits.NoMemory = []
 
--- how a call ends that printed it
+-- how a call ends that printed this line
 abbrev pub status_audited : Audit → Status
 status_audited (audits.Yes n) = Done
 status_audited audits.NoMemory = NoMemory
 status_audited other = Refused
 
--- ---- what was done
+-- ---- what the call did
 
--- a text was audited over a history, and this is so of the answer
+-- a text was audited over a history, and the answer has this property
 pub record Audited (h : History) (text : List ℕ) (Is : Audit → Type 0) : Type 0 where
   pub audit : Audit
   pub answers : Answers h text audit
@@ -70,14 +70,14 @@ AuditsBeside NoMemory unprinted text o = unprinted
 AuditsBeside status unprinted text o =
     Over o (λ h. Audits h status unprinted text o.written_before o.written)
 
--- the source was read to its end, and this is so of the text that it gave
+-- the source was read to its end, and the text that it gave has this property
 pub record OfWholeText (o : Outside) (Is : List ℕ → Type 0) : Type 0 where
   pub text : List ℕ
   pub read : IfSome o.input (λ input. ReadWhole input o.rest × (input ≡ text))
   pub is : Is text
 
--- what an audit that ended so has done. It reads its text to the end before it calls the disk: if the text can't be
--- read, no call was made of the disk, and if the journal can't be read, the text was
+-- what an audit with this end has done. It reads its text to the end before it calls the disk. If it couldn't read the
+-- text, it hasn't called the disk, and if it couldn't read the journal, it has read the text
 abbrev pub AuditTo : Status → Type 0 → Type 0 → Outside → Type 0
 AuditTo ReadFault unprinted unasked o = unprinted × unasked
 AuditTo InputLong unprinted unasked o = unprinted × unasked × IfSome o.input (λ text. INPUT_LIMIT < length text)
@@ -86,14 +86,14 @@ AuditTo status unprinted unasked o = OfWholeText o (λ text. AuditsBeside status
 
 -- ---- printing
 
--- the line of an answer was printed over a history that ends at a position, or a part of it, and so the call ended;
--- where memory ran out nothing was
+-- the line of an answer was printed, or a part of it, over a history that ends at a position. The call ended like this.
+-- If memory ran out, nothing was printed
 abbrev pub PrintsAudit : Audit → ℕ → Status → Type 0 → Option (List ℕ) → Option (List ℕ) → Type 0
 PrintsAudit audits.NoMemory end status unprinted before written = (status ≡ NoMemory) × unprinted
 PrintsAudit audit end status unprinted before written =
     Prints (status_audited audit) (audit_text end audit) status before written
 
--- a text was audited over a history, and the line of the answer was printed so
+-- a text was audited over a history, and the line of the answer was printed like this
 pub record AuditTold (h : History) (text : List ℕ) (status : Status) (unprinted : Type 0)
     (before written : Option (List ℕ)) : Type 0 where
   pub audit : Audit

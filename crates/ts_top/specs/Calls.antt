@@ -1,4 +1,4 @@
--- What the top call has done, by what it was asked for.
+-- What the top call has done, by its command.
 use Rattle.std.specs.Prelude.{◌≡◌, ℕ, Bool, false, List, Option, None, Some, ⊤}
 use Rattle.std.specs.Io.KnownBytes.{Appends}
 use Rattle.ts_io.specs.Faults.{Counted}
@@ -16,23 +16,23 @@ use Rattle.ts_top.specs.Outcomes.{Outside, PrintedTo, RanTo, Untouched}
 use Rattle.ts_top.specs.declared.parallel.Replies.TheVariants.{Plain, Json}
 use Rattle.ts_top.specs.Parallel.{CountedAfterPrinting, CountedAfterWorkers, ParTo}
 
--- the demonstration with a number has printed its summary, or a part of it; no reply to its script is a FAULT, and it
--- has looked at as many stored rows as all others
+-- the demonstration with a number has printed its summary, or a part of it. No reply to its script is a FAULT, and it
+-- has read as many stored rows as all others
 pub record DemoShown (demo : ℕ) (Wrote : List ℕ → Type 0) (o : Outside) : Type 0 where
   pub wrote : Wrote (demo_summary demo)
   pub answered : is_refused_demo demo ≡ false
   pub counted : o.reads ≡ reads_of_demo demo
   pub alike : o.reads ≡ 39600
 
--- what the demonstration with a number has done that ended so
+-- what the demonstration with a number has done, by how it ended
 abbrev pub DemoTo : ℕ → Status → Type 0 → Outside → Type 0
 DemoTo demo Done unprinted o = DemoShown demo (Appends o.written_before o.written) o
 DemoTo demo WriteFault unprinted o = DemoShown demo (AppendsPart o.written_before o.written) o
 DemoTo demo NoMemory unprinted o = unprinted
 DemoTo demo other unprinted o = ⊥
 
--- what a call with this command has done. One that prints, and the demonstration, read no input and leave the disk as
--- it was; a checkpoint reads no input. `unasked` says that the disk is the very one that was handed in
+-- what a call with this command has done. A call that prints, and the demonstration, read no input and leave the disk
+-- as it was; a checkpoint reads no input. `unasked` says that the disk is exactly the one that the caller gave
 abbrev pub Outcome :
     Command → Status → Type 0 → (List ℕ → Type 0) → Type 0 → Type 0 → Type 0 → Type 0 → Type 0 → Outside → Type 0
 Outcome Run status told left sink_failed unread unprinted kept unasked o =
@@ -50,7 +50,7 @@ Outcome Checkpoint status told left sink_failed unread unprinted kept unasked o 
 Outcome Audit status told left sink_failed unread unprinted kept unasked o =
     kept × (o.reads ≡ 0) × AuditTo status unprinted unasked o
 
--- what a call with these words has done: where they ask for nothing, that is all
+-- what a call with these words has done. If they name no command, it has done nothing
 abbrev pub OutcomeOf :
     Option Command → Status → Type 0 → (List ℕ → Type 0) → Type 0 → Type 0 → Type 0 → Type 0 → Type 0 → Outside
     → Type 0
@@ -59,7 +59,7 @@ OutcomeOf None status told left sink_failed unread unprinted kept unasked o =
 OutcomeOf (Some command) status told left sink_failed unread unprinted kept unasked o =
     Outcome command status told left sink_failed unread unprinted kept unasked o
 
--- P of a call that writes to the journal
+-- P is true if the command writes to the journal
 abbrev pub IfWrites : Option Command → Type 0 → Type 0
 IfWrites None P = ⊤
 IfWrites (Some Run) P = P
@@ -70,7 +70,7 @@ IfWrites (Some (Print text)) P = ⊤
 IfWrites (Some Checkpoint) P = P
 IfWrites (Some Audit) P = ⊤
 
--- P of a call that runs the demonstration
+-- P is true if the command runs the demonstration
 abbrev pub IfDemo : Option Command → Type 0 → Type 0
 IfDemo None P = ⊤
 IfDemo (Some Run) P = ⊤
@@ -81,7 +81,8 @@ IfDemo (Some (Print text)) P = ⊤
 IfDemo (Some Checkpoint) P = ⊤
 IfDemo (Some Audit) P = ⊤
 
--- the count of the sink's faults rises where the call tells of one, and else stays
+-- the count of the sink's faults rises if the call ends with a write fault, and otherwise stays, with the exception in
+-- Parallel
 abbrev pub SinkCounted : Option Command → Status → ℕ → ℕ → Type 0
 SinkCounted None status before now = Counted before now (is_write_fault status)
 SinkCounted (Some Run) status before now = Counted before now (is_write_fault status)
@@ -92,7 +93,8 @@ SinkCounted (Some (Print text)) status before now = Counted before now (is_write
 SinkCounted (Some Checkpoint) status before now = Counted before now (is_write_fault status)
 SinkCounted (Some Audit) status before now = Counted before now (is_write_fault status)
 
--- and so does the count of the disk's
+-- the count of the disk's faults rises if the call ends with a disk fault, and otherwise stays, with the exception in
+-- Parallel
 abbrev pub DiskCounted : Option Command → Status → ℕ → ℕ → Type 0
 DiskCounted None status before now = Counted before now (is_disk_fault status)
 DiskCounted (Some Run) status before now = Counted before now (is_disk_fault status)

@@ -15,7 +15,7 @@ use Rattle.ts_top.specs.declared.endings.Status.TheVariants.{Done, Refused, BadW
 
 -- ---- lines
 
--- the most bytes that an image may have
+-- the greatest length of an image in bytes
 abbrev pub longest_image : ℕ
 longest_image = 2 ^ 30
 
@@ -51,28 +51,28 @@ pub record TellsTooLong (h : History) (line : List ℕ) : Type 0 where
 
 -- ---- the journal
 
--- where the disk told its bytes at first, reads give a file that has the one, and where all of them were on it, what a
--- crash at any moment of the call might have left has the other
+-- if the disk reported its bytes at first, reads give a file with the first property. If all of these bytes were on the
+-- disk, what a crash at any moment of the call might have left has the second property
 pub record JournalLeft (told : Type 0) (left : List ℕ → Type 0) (Shown MaySee : List ℕ → Type 0)
     (file : Option (List ℕ)) : Type 0 where
   pub holds : told → IsSomeAnd file Shown
   pub images : (c : List ℕ) → left c → MaySee c
 
--- it represents the history
+-- the journal represents the history
 abbrev pub AsBefore : Type 0 → (List ℕ → Type 0) → History → Option (List ℕ) → Type 0
 AsBefore told left h file = JournalLeft told left (λ c. Stands c h) (λ c. Stands c h) file
 
--- it represents the image of the history; a crash image represents the history or its image
+-- the journal represents the image of the history; a crash image represents the history or its image
 abbrev pub AsImage : Type 0 → (List ℕ → Type 0) → History → Option (List ℕ) → Type 0
 AsImage told left h file = JournalLeft told left (StandsForImage h) (StandsSaved h) file
 
--- it represents the history, or its image
+-- the journal represents the history, or its image
 abbrev pub AsEither : Type 0 → (List ℕ → Type 0) → History → Option (List ℕ) → Type 0
 AsEither told left h file = JournalLeft told left (StandsSaved h) (StandsSaved h) file
 
 -- ---- the call
 
--- a line that reports this was written, and the journal is left so
+-- a line that reports this was written, and the journal is left like this
 pub record Told (Tells Wrote : List ℕ → Type 0) (Journal : Type 0) : Type 0 where
   pub line : List ℕ
   pub tells : Tells line
@@ -88,12 +88,12 @@ ToldNothing told left Wrote o h = Told (TellsNothing h) Wrote (AsBefore told lef
 abbrev pub ToldTooLong : Type 0 → (List ℕ → Type 0) → (List ℕ → Type 0) → Outside → History → Type 0
 ToldTooLong told left Wrote o h = Told (TellsTooLong h) Wrote (AsBefore told left h o.file)
 
--- a history has events after its image, and the journal is left so
+-- a history has events after its image, and the journal is left like this
 abbrev pub Later : History → Type 0 → Type 0
 Later h Journal = (events_of h ≢ []) × Journal
 
--- what a checkpoint that ended so has done. It prints one line, or nothing where the disk failed, the journal is
--- damaged, or memory ran out
+-- what a checkpoint with this end has done. It prints one line, or nothing if the disk failed, the journal is damaged,
+-- or memory ran out
 abbrev pub CheckpointTo : Status → Type 0 → (List ℕ → Type 0) → Type 0 → Type 0 → Outside → Type 0
 CheckpointTo Done told left unprinted kept o =
     Over o
@@ -119,12 +119,12 @@ CheckpointTo InputLong told left unprinted kept o = ⊥
 
 -- ---- how the call ends, by the checkpoint's end
 
--- a line was printed and the call ends so, or the sink failed and a part of it was printed
+-- a line was printed and the call ends like this, or the sink failed and a part of it was printed
 abbrev pub Prints : Status → List ℕ → Status → Option (List ℕ) → Option (List ℕ) → Type 0
 Prints end line status before written =
     ((status ≡ end) × Appends before written line) ⊎ ((status ≡ WriteFault) × AppendsPart before written line)
 
--- its line was printed, where it has one
+-- the line of the checkpoint's end was printed, if it has one
 abbrev pub TellsEnd : CheckEnd → Status → Type 0 → Option (List ℕ) → Option (List ℕ) → Type 0
 TellsEnd (ends.Done pos bytes) status unprinted before written =
     Prints Done (saved_text pos bytes) status before written

@@ -5,7 +5,7 @@ use Rattle.script_run.specs.declared.ends.RunEnd.TheVariants as ends
 use Rattle.ts_top.specs.declared.endings.Status.{Status}
 use Rattle.ts_top.specs.declared.endings.Status.TheVariants.{Done, Refused, BadWords, ReadFault, WriteFault, DiskFault, Damaged, NoMemory, InputLong}
 
--- the exit status of a program that ends so
+-- the exit status of a program that ends like this
 abbrev pub exit_status : Status → ℕ
 exit_status Done = 0
 exit_status Refused = 1
@@ -17,12 +17,12 @@ exit_status (Damaged at) = 6
 exit_status NoMemory = 7
 exit_status InputLong = 8
 
--- how a call ends whose lines were all answered, with a FAULT among the replies or without one
+-- how a call that answered all lines ends, by whether a reply is a FAULT
 abbrev pub status_answered : Bool → Status
 status_answered true = Refused
 status_answered false = Done
 
--- how the call ends whose script ended so
+-- how the call ends after its script ended like this
 abbrev pub status_of : RunEnd → Status
 status_of ends.Done = Done
 status_of ends.Refused = Refused
@@ -34,17 +34,17 @@ status_of ends.InputLong = InputLong
 
 -- ---- the object whose count of faults rose
 
--- that of the source
+-- the source
 abbrev pub is_read_fault : Status → Bool
 is_read_fault ReadFault = true
 is_read_fault other = false
 
--- that of the sink
+-- the sink
 abbrev pub is_write_fault : Status → Bool
 is_write_fault WriteFault = true
 is_write_fault other = false
 
--- that of the disk
+-- the disk
 abbrev pub is_disk_fault : Status → Bool
 is_disk_fault DiskFault = true
 is_disk_fault other = false

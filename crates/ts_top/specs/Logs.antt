@@ -1,4 +1,4 @@
--- What is printed of a journal.
+-- The texts that a call prints of a journal.
 use Rattle.std.specs.Prelude.{ℕ, suc, List, [], ◌∷◌, ◌++◌, Option, Some, None, codes, decimal}
 use Rattle.ts_bucket.specs.Bucket.{first_of}
 use Rattle.ts_model.specs.declared.events.Event.{Event}
@@ -26,7 +26,7 @@ abbrev pub begun_text : Option Image → List ℕ
 begun_text None = []
 begun_text (Some i) = image_text i.pos
 
--- the line of the image that a history begins with, where there is one
+-- the line of the image that a history begins with, if there is one
 abbrev pub base_text : History → List ℕ
 base_text start = []
 base_text (resumed i) = image_text i.pos
@@ -49,7 +49,7 @@ waiting_texts names (refresh ∷ more) = waiting_text refresh (view_of names ref
 abbrev pub check_of : History → List ℕ
 check_of h = history_text (position h) ++ waiting_texts (roster h) (waiting h)
 
--- what is printed of a history
+-- the text that a call prints of a history
 abbrev pub text_of : Text → History → List ℕ
 text_of Log h = log_of h
 text_of Check h = check_of h

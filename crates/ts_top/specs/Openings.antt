@@ -1,4 +1,4 @@
--- How a call ended that opened no journal, so that its source wasn't read.
+-- How a call that opened no journal ended. It didn't read its source.
 use Rattle.std.specs.Prelude.{◌⊎◌, ℕ, List, Option, IfSome}
 use Rattle.ts_store.specs.Stands.{IsDamagedAt}
 use Rattle.ts_top.specs.declared.endings.Status.{Status}

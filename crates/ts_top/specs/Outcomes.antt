@@ -12,8 +12,8 @@ use Rattle.ts_top.specs.Scripts.{replies_of, reply_after, history_after, rows_re
 use Rattle.ts_top.specs.declared.endings.Status.{Status}
 use Rattle.ts_top.specs.declared.endings.Status.TheVariants.{Done, Refused, BadWords, ReadFault, WriteFault, DiskFault, Damaged, NoMemory, InputLong}
 
--- what is outside of the call, before it and after it, if it is known: the bytes that the source has left, those that
--- the sink has written, those that reads of the disk give; and how many stored rows were read
+-- what is outside of the call, before it and after it, if it is known: the bytes that the source has left, the bytes
+-- that the sink has written, and those that reads of the disk give. `reads` is how many stored rows the call read
 pub record Outside : Type 0 where
   pub input : Option (List ℕ)
   pub rest : Option (List ℕ)
@@ -25,22 +25,20 @@ pub record Outside : Type 0 where
 
 -- ---- the journal
 
--- a file represents a history between one and another
+-- a file represents a history between two others
 pub record StandsBetween (from to : History) (file : List ℕ) : Type 0 where
   pub history : History
   pub stands : Stands file history
   pub began : Begins from history
   pub within : Begins history to
 
--- where all that reads gave of the one disk was on it, this is what a crash since then might have left of the other,
--- which it became
+-- what a crash since the call began might have left of the new disk, if all bytes that the old disk gave were on it
 abbrev pub LeftAfter :
     {D : Type 0} → (D → Option (List ℕ)) → (D → List ℕ → Type 0) → (D → ℕ) → (D → ℕ → List ℕ → Type 0) → D → D
     → List ℕ → Type 0
 LeftAfter bytes may_leave moment left_since old new c = IsDurable bytes may_leave old × left_since new (moment old) c
 
--- each crash image that any moment of the call might have left represents a history from the opening one up to this
--- one
+-- what a crash at any moment of the call might have left represents a history from the opening one up to this one
 abbrev pub ImagesUpTo : (List ℕ → Type 0) → History → History → Type 0
 ImagesUpTo left opening to = (c : List ℕ) → left c → StandsBetween opening to c
 
@@ -48,14 +46,15 @@ ImagesUpTo left opening to = (c : List ℕ) → left c → StandsBetween opening
 abbrev pub Holds : Option (List ℕ) → History → Type 0
 Holds file h = IsSomeAnd file (λ bytes. Stands bytes h)
 
--- reads give a file that represents a history between one and another
+-- reads give a file that represents a history between two others
 abbrev pub HoldsBetween : Option (List ℕ) → History → History → Type 0
 HoldsBetween file from to = IsSomeAnd file (StandsBetween from to)
 
--- ---- scripts, over a history. What is said of reads of the journal holds where the disk told its bytes at first, and
--- what is said of crashes, where all of them were on the disk
+-- ---- scripts, over a history
+-- What these records say about reads of the journal is true if the disk reported its bytes at first. What they say
+-- about crashes is true if all of these bytes were on the disk.
 
--- the lines were run to the last, and their replies written
+-- all lines were run, and their replies written
 pub record RanWhole (told : Type 0) (left : List ℕ → Type 0) (h : History) (lines : List (List ℕ))
     (o : Outside) : Type 0 where
   pub wrote : Appends o.written_before o.written (replies_of h lines)
@@ -63,7 +62,7 @@ pub record RanWhole (told : Type 0) (left : List ℕ → Type 0) (h : History) (
   pub images : ImagesUpTo left h (history_after h lines)
   pub counted : o.reads ≡ raised_by (rows_read h lines) 0
 
--- some first lines were run, their replies written, and nothing done of the others
+-- some first lines were run and their replies written, and the others not run
 pub record RanBefore (told : Type 0) (left : List ℕ → Type 0) (h : History) (lines : List (List ℕ))
     (o : Outside) : Type 0 where
   pub done : List (List ℕ)
@@ -71,7 +70,7 @@ pub record RanBefore (told : Type 0) (left : List ℕ → Type 0) (h : History) 
   pub split : lines ≡ done ++ rest
   pub ran : RanWhole told left h done o
 
--- the replies to some first lines were written, and nothing of the next one's, of which the first events may stand
+-- the replies to some first lines were written, and nothing of the next one's, whose first events may exist
 pub record RanWithin (told : Type 0) (left : List ℕ → Type 0) (h : History) (lines : List (List ℕ))
     (o : Outside) : Type 0 where
   pub done : List (List ℕ)
@@ -82,7 +81,7 @@ pub record RanWithin (told : Type 0) (left : List ℕ → Type 0) (h : History) 
   pub images : ImagesUpTo left h (history_after h (done ++ take 1 rest))
   pub counted : raised_by (rows_read h done) 0 ≤ o.reads
 
--- the replies to some first lines were written, and the next line was run, of whose reply a part was written
+-- the replies to some first lines were written, and the next line was run, with a part of its reply written
 pub record RanWriting (told : Type 0) (left : List ℕ → Type 0) (h : History) (lines : List (List ℕ))
     (o : Outside) : Type 0 where
   pub done : List (List ℕ)
@@ -109,11 +108,11 @@ pub record Over (o : Outside) (Ran : History → Type 0) : Type 0 where
 abbrev pub OverScript : Outside → (History → List ℕ → Type 0) → Type 0
 OverScript o Ran = Over o (λ h. IfSome o.input (Ran h))
 
--- nothing was read, nothing was printed, the disk stayed as it was, and no stored row was read
+-- the call read nothing, printed nothing, left the disk as it was, and read no stored row
 abbrev pub Untouched : Type 0 → Type 0 → Type 0 → Outside → Type 0
 Untouched unread unprinted kept o = unread × unprinted × kept × (o.reads ≡ 0)
 
--- the disk failed while the journal's header was written: reads give a file that represents the opening history as
+-- the disk failed during the write of the journal's header. Reads give a file that represents the opening history as
 -- before, and so does each crash image
 pub record HeaderFailed (told : Type 0) (left : List ℕ → Type 0) (before after : Option (List ℕ)) : Type 0 where
   pub opening : History
@@ -121,8 +120,8 @@ pub record HeaderFailed (told : Type 0) (left : List ℕ → Type 0) (before aft
   pub holds : told → Holds after opening
   pub images : (c : List ℕ) → left c → Stands c opening
 
--- nothing was read and nothing printed, no stored row was read, and the disk stayed as it was, or failed while the
--- header was written
+-- the call read nothing, printed nothing, and read no stored row. The disk stayed as it was, or failed during the write
+-- of the header
 abbrev pub NotBegun : Type 0 → (List ℕ → Type 0) → Type 0 → Type 0 → Type 0 → Outside → Type 0
 NotBegun told left unread unprinted kept o =
     unread × unprinted × (kept ⊎ HeaderFailed told left o.file_before o.file) × (o.reads ≡ 0)
@@ -131,7 +130,7 @@ NotBegun told left unread unprinted kept o =
 abbrev pub IsDamaged : ℕ → Outside → Type 0
 IsDamaged at o = IfSome o.file_before (λ file. IsDamagedAt file at)
 
--- what a run that ended so has done
+-- what a run with this end has done
 abbrev pub RanTo : Status → Type 0 → (List ℕ → Type 0) → Type 0 → Type 0 → Type 0 → Outside → Type 0
 RanTo Done told left unread unprinted kept o =
     OverScript o
@@ -153,7 +152,7 @@ RanTo NoMemory told left unread unprinted kept o =
 RanTo InputLong told left unread unprinted kept o =
     OverScript o (λ h input. (INPUT_LIMIT < length input) × RanWhole told left h (executed_lines input) o)
 
--- P of a call that opened the journal, unless it ended with a disk fault or out of memory
+-- P is true if the call opened the journal, unless it ended with a disk fault or out of memory
 abbrev pub IfWentOn : Status → Type 0 → Type 0
 IfWentOn BadWords P = ⊤
 IfWentOn DiskFault P = ⊤
@@ -172,7 +171,7 @@ Printed text o = Over o (λ h. Appends o.written_before o.written (text h))
 abbrev pub PrintedPart : (History → List ℕ) → Outside → Type 0
 PrintedPart text o = Over o (λ h. AppendsPart o.written_before o.written (text h))
 
--- what a call that prints this text of its journal, and ended so, has printed
+-- what a call that prints this text of its journal has printed, by how it ended
 abbrev pub PrintedTo : (History → List ℕ) → Status → Type 0 → Outside → Type 0
 PrintedTo text Done unprinted o = Printed text o
 PrintedTo text WriteFault unprinted o = PrintedPart text o

@@ -27,9 +27,9 @@ use Rattle.ts_top.specs.declared.endings.Status.TheVariants.{Done, Refused, BadW
 use Rattle.ts_top.specs.Endings.{is_disk_fault, is_write_fault, status_answered}
 use Rattle.ts_top.specs.Outcomes.{Outside, Holds, IsDamaged, NotBegun, Over, OverScript, Untouched}
 
--- ---- what is printed
+-- ---- the text that the call prints
 
--- what the sessions of a run were replied, as an output
+-- the replies of a run, as an output
 abbrev pub output_in : RunReplies → Output
 output_in r = record { text = r.text; fault = r.fault; sessions = r.sessions }
 
@@ -39,24 +39,24 @@ pub record IsTranscribed (Wrote : List ℕ → Type 0) (t : Transcript) : Type 0
   pub ascii : IsTrue (is_ascii_transcript t)
   pub start : t.start < 2 ^ 64
 
--- this was written of a run that began at a position and left a history: of all refusals and replies, or of its
--- transcript, which the history explains unless a line is a statement on policies
+-- this was written of a run that began at a position and left a history: its refusals and replies, or its transcript.
+-- The history explains the transcript, unless a line is a statement on policies
 abbrev pub IsPrinted : Replies → (List ℕ → Type 0) → ℕ → History → Output → Type 0
 IsPrinted Plain Wrote start all out = Wrote out.text
 IsPrinted Json Wrote start all out =
     IsTranscribed Wrote (transcript_in start out) × ExplainedUnlessPolicies all (transcript_in start out)
 
--- ---- what was done
+-- ---- what the call did
 
--- no statement was run over a history, and nothing was printed
+-- no statement ran over a history, and nothing was printed
 pub record NothingRan (told : Type 0) (left : List ℕ → Type 0) (h : History) (unprinted : Type 0)
     (file : Option (List ℕ)) : Type 0 where
   pub printed_nothing : unprinted
   pub holds : told → Holds file h
   pub images : (c : List ℕ) → left c → Stands c h
 
--- memory ran out while workers ran, or a transcript isn't ASCII: nothing was printed. Sessions had run until memory ran
--- out, read so many stored rows, and left a state. The journal represents its history, or that and the event at which
+-- memory ran out while workers ran, or a transcript isn't ASCII: nothing was printed. Sessions ran until memory ran
+-- out, read this many stored rows, and left a state. The journal represents its history, or that and the event at which
 -- the disk failed
 pub record GaveUp (told : Type 0) (left : List ℕ → Type 0) (h : History) (input : List ℕ) (reads : ℕ)
     (unprinted : Type 0) (file : Option (List ℕ)) : Type 0 where
@@ -66,9 +66,9 @@ pub record GaveUp (told : Type 0) (left : List ℕ → Type 0) (h : History) (in
   pub holds : told → IsSomeAnd file (StandsForEither state.history (latest state.history state.failed))
   pub images : (c : List ℕ) → left c → IsBetween h state.history state.failed c
 
--- over a history, an input was run by a worker for each session. They read so many stored rows, and left a state and
--- an output. Of that, this was written, by the history that they left. The journal represents that history, or that
--- and the event at which the disk failed
+-- over a history, a worker for each session ran the lines of an input. They read this many stored rows, and left a
+-- state and an output. This was written of the output, by the history that they left. The journal represents that
+-- history, or that and the event at which the disk failed
 pub record ByWorkers (told : Type 0) (left : List ℕ → Type 0) (h : History) (input : List ℕ) (reads : ℕ)
     (stopped : Bool) (Faulted : Bool → Type 0) (Wrote : History → Output → Type 0)
     (file : Option (List ℕ)) : Type 0 where
@@ -81,22 +81,22 @@ pub record ByWorkers (told : Type 0) (left : List ℕ → Type 0) (h : History) 
   pub holds : told → IsSomeAnd file (StandsForEither state.history (latest state.history state.failed))
   pub images : (c : List ℕ) → left c → IsBetween h state.history state.failed c
 
--- whether a reply is a FAULT is left open
+-- a reply may be a FAULT or not
 abbrev pub Any : Bool → Type 0
 Any fault = ⊤
 
--- the whole text was printed, or, where the sink failed, a part of it
+-- the whole text was printed, or a part of it if the sink failed
 abbrev pub PrintedUnless : Type 0 → Option (List ℕ) → Option (List ℕ) → List ℕ → Type 0
 PrintedUnless sink_failed before written text =
     Appends before written text ⊎ (sink_failed × AppendsPart before written text)
 
--- where the disk failed the replies are printed all the same, and a transcript isn't
+-- after a disk fault the replies are printed, and a transcript isn't
 abbrev pub IsPrintedAfterFault : Replies → Type 0 → Option (List ℕ) → Option (List ℕ) → Output → Type 0
 IsPrintedAfterFault Plain sink_failed before written out = PrintedUnless sink_failed before written out.text
 IsPrintedAfterFault Json sink_failed before written out = written ≡ before
 
--- what the run of an input by workers that ended so has done over a history, where so many rows were looked at, this
--- was written before and after, and reads give this file
+-- what the run of an input by workers has done over a history, by how it ended. It read this many rows, the sink had
+-- and has these bytes, and reads give this file
 abbrev pub InputTo :
     Replies → Status → Type 0 → (List ℕ → Type 0) → Type 0 → History → List ℕ → ℕ → Option (List ℕ)
     → Option (List ℕ) → Option (List ℕ) → Type 0
@@ -121,12 +121,12 @@ InputRan replies status told left sink_failed o =
     (λ h input. ReadWhole input o.rest
     × InputTo replies status told left sink_failed h input o.reads o.written_before o.written o.file)
 
--- over the opening history no statement was run, and no stored row was looked at
+-- no statement ran over the opening history, and no stored row was read
 abbrev pub RanNothing : Type 0 → (List ℕ → Type 0) → Outside → Type 0
 RanNothing told left o =
     Over o (λ h. NothingRan told left h (o.written ≡ o.written_before) o.file) × (o.reads ≡ 0)
 
--- what a parallel run that ended so has done
+-- what a parallel run with this end has done
 abbrev pub ParTo :
     Replies → Status → Type 0 → (List ℕ → Type 0) → Type 0 → Type 0 → Type 0 → Type 0 → Outside → Type 0
 ParTo replies Done told left sink_failed unread unprinted kept o = InputRan replies Done told left sink_failed o
@@ -145,8 +145,7 @@ ParTo replies InputLong told left sink_failed unread unprinted kept o =
 
 -- ---- printing
 
--- a parallel run that stopped so had this text of its replies printed, or, where the sink failed, a part of it, and so
--- the call ended
+-- the text of a parallel run's replies was printed, or a part of it if the sink failed, and the call ended like this
 abbrev pub PrintsReplies :
     ParStop → Bool → List ℕ → Status → Type 0 → Option (List ℕ) → Option (List ℕ) → Type 0
 PrintsReplies stops.Done fault text status sink_failed before written =
@@ -157,7 +156,8 @@ PrintsReplies stops.DiskFault fault text status sink_failed before written =
 PrintsReplies stops.NoMemory fault text status sink_failed before written =
     (status ≡ NoMemory) × (written ≡ before)
 
--- and so with the transcript of one that began at a position and left an output. One that isn't ASCII isn't printed
+-- the transcript of a parallel run was printed, or a part of it if the sink failed, and the call ended like this. A
+-- transcript that isn't ASCII isn't printed
 abbrev pub PrintsTranscript : ParStop → Bool → Transcript → Status → Option (List ℕ) → Option (List ℕ) → Type 0
 PrintsTranscript stops.Done fault t status before written =
     ((status ≡ status_answered fault) × IsTranscribed (Appends before written) t)
@@ -166,7 +166,7 @@ PrintsTranscript stops.Done fault t status before written =
 PrintsTranscript stops.DiskFault fault t status before written = (status ≡ DiskFault) × (written ≡ before)
 PrintsTranscript stops.NoMemory fault t status before written = (status ≡ NoMemory) × (written ≡ before)
 
--- by what is printed of it
+-- the same for either form
 abbrev pub Prints :
     Replies → ParStop → ℕ → Output → Status → Type 0 → Option (List ℕ) → Option (List ℕ) → Type 0
 Prints Plain stop start out status sink_failed before written =
@@ -176,19 +176,19 @@ Prints Json stop start out status sink_failed before written =
 
 -- ---- counts of faults
 
--- that of the sink rises where the call tells of one, and else stays; but where the disk failed in a parallel run its
--- replies are printed all the same, and the sink may fail after that
+-- the count of the sink's faults rises if the call ends with a write fault, and otherwise stays. There is one
+-- exception: after a disk fault of a parallel run its replies are printed, and the sink may fail then
 abbrev pub CountedAfterDisk : Status → ℕ → ℕ → Type 0
 CountedAfterDisk DiskFault before now = (failed : Bool) × Counted before now failed
 CountedAfterDisk status before now = Counted before now (is_write_fault status)
 
--- by what was printed
+-- the same for either form
 abbrev pub CountedAfterPrinting : Replies → Status → ℕ → ℕ → Type 0
 CountedAfterPrinting Plain status before now = CountedAfterDisk status before now
 CountedAfterPrinting Json status before now = Counted before now (is_write_fault status)
 
--- that of the disk rises where the call tells of one, and else stays; but where memory ran out while workers ran, the
--- disk may have failed before
+-- the count of the disk's faults rises if the call ends with a disk fault, and otherwise stays. There is one exception:
+-- if memory ran out while workers ran, the disk may have failed before
 abbrev pub CountedAfterWorkers : Status → ℕ → ℕ → Type 0
 CountedAfterWorkers NoMemory before now = (failed : Bool) × Counted before now failed
 CountedAfterWorkers status before now = Counted before now (is_disk_fault status)

@@ -14,13 +14,13 @@ abbrev pub failed_writing : {T : Type 0} → Result T PrintStop → Bool
 failed_writing (Ok done) = false
 failed_writing (Err stop) = is_fault stop
 
--- how the call ends whose printing ended so
+-- how a call ends after printing ended like this
 abbrev pub status_of_print : {T : Type 0} → Result T PrintStop → Status
 status_of_print (Ok done) = status.Done
 status_of_print (Err WriteFault) = status.WriteFault
 status_of_print (Err NoMemory) = status.NoMemory
 
--- how the call ends whose summary was written or not
+-- how the call ends, by whether its summary was written
 abbrev pub status_of_shown : {T E : Type 0} → Result T E → Status
 status_of_shown (Ok done) = status.Done
 status_of_shown (Err failed) = status.WriteFault

@@ -36,7 +36,7 @@ fn word_at(word: &str, at: u64) -> Line
     line
 }
 
-/// A reply by its session and its place, after a word.
+/// A reply by its session and its index, after a word.
 fn reply_at(word: &str, session: u64, reply: u64) -> Line
     requires short { length word.now ≤ 21 }
     ensures line { result.bytes ≡ reply_line word.now session reply }
@@ -50,7 +50,7 @@ fn reply_at(word: &str, session: u64, reply: u64) -> Line
     line
 }
 
-/// The line if all replies are explained: how many there are, and the position at which the history ends.
+/// The line if all replies are explained: the number of replies, and the position at which the history ends.
 fn yes_line(replies: u64, end: u64) -> Line
     ensures line { result.bytes ≡ yes_text end replies }
 {
@@ -100,8 +100,8 @@ fn bad_line() -> Line
     line
 }
 
-/// Prints the line of an audit over a history that ends at a position. Returns how the call ends. If memory ran
-/// out, nothing is printed.
+/// Prints the line of an audit over a history that ends at a position. Returns how the call ends. Prints nothing if
+/// memory ran out.
 fn print_audit<K: Sink>(sink: &mut K, audit: Audit, end: u64) -> Status
     ensures prints { PrintsAudit audit end result (sink.new ≡ sink.old) (K.written sink.old) (K.written sink.new) }
     ensures counted { Counted (K.faults sink.old) (K.faults sink.new) (is_write_fault result) }

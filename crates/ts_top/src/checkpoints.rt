@@ -19,10 +19,10 @@ use ts_disk::Disk;
 use ts_io::{Sink, WriteFault, write_whole};
 use ts_store::{CheckEnd, Checkpointed, Store};
 
-/// The most bytes that an image may have.
+/// The greatest length of an image in bytes.
 const LONGEST_IMAGE: u64 = 1_073_741_824;
 
-/// The line of a checkpoint. It needs no memory, so that memory can't run out after the image is written.
+/// The line of a checkpoint. It needs no memory, so the call can't run out of memory after the image is written.
 type Line = ArrayString<70>;
 
 /// A word, a position and a count of bytes.
@@ -64,7 +64,7 @@ fn nothing_line(pos: u64) -> Line
     line
 }
 
-/// Prints a line of a call that ends so. If the sink fails, the call ends with that instead.
+/// Prints a line. Returns `end`, or a write fault if the sink fails.
 pub(crate) fn print_line<K: Sink>(sink: &mut K, line: Line, end: Status) -> Status
     requires writes { is_write_fault end ≡ false }
     ensures prints { Prints end line.bytes result (K.written sink.old) (K.written sink.new) }
@@ -88,13 +88,13 @@ fn tell_end<K: Sink>(sink: &mut K, end: CheckEnd) -> Status
             print_line(sink, too_long_line(pos, bytes), Status::Refused)
         }
         CheckEnd::DiskFault => Status::DiskFault,
-        // A store that hasn't stopped doesn't answer so.
+        // Can't occur: the store hasn't stopped.
         CheckEnd::Stopped(_) => Status::DiskFault,
         CheckEnd::NoMemory => Status::NoMemory,
     }
 }
 
-/// Appends the image of a store's history to its journal, which has its header. Prints how that ended.
+/// Appends the image of a store's history to its journal, which has its header. Prints the line of the outcome.
 fn save<K: Sink, D: Disk>(sink: &mut K, store: Store<D>) -> Ended<D>
     requires goes_on { store.failed ≡ None }
     requires armed { store.armed ≡ true }
@@ -131,8 +131,8 @@ fn save<K: Sink, D: Disk>(sink: &mut K, store: Store<D>) -> Ended<D>
     }
 }
 
-/// Appends the image of the history that the journal on the disk represents to that journal. Prints how that
-/// ended. Nothing is read from the source.
+/// Appends the image of the history that the journal on the disk represents to that journal. Prints the line of the
+/// outcome. It reads nothing from the source.
 pub(crate) fn checkpoint<R: Threads + Sync, K: Sink, D: Disk>(
     rt: &R,
     alloc: Global,

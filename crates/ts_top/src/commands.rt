@@ -5,19 +5,19 @@ ghost use Rattle.ts_top.specs.Commands.{command_of, demo_number, is_digit, comma
 /// A command of the command line.
 #[derive(Clone, Copy, Debug, PartialEq, Eq)]
 pub enum Command {
-    /// Run the lines of the input in order, on the history of the journal.
+    /// Runs the lines of the input in order, on the history of the journal.
     Run,
-    /// Run the lines of the input by a worker for each session, on the history of the journal.
+    /// Runs the lines of the input by a worker for each session, on the history of the journal.
     Par,
-    /// The same, and print the transcript of the run instead of its replies.
+    /// The same, but prints the transcript of the run instead of its replies.
     ParJson,
-    /// Run the script of the demonstration with a number below a million, and print a summary.
+    /// Runs the script of the demonstration with a number below a million, and prints a summary.
     Demo(u32),
-    /// Print a text of the journal.
+    /// Prints a text of the journal.
     Print(Text),
-    /// Append the image of the journal's history to the journal.
+    /// Appends the image of the journal's history to the journal.
     Checkpoint,
-    /// Audit a transcript against the journal.
+    /// Audits a transcript against the journal.
     Audit,
 }
 
@@ -38,7 +38,7 @@ impl Command {
     }
 }
 
-/// The text that is printed of a journal.
+/// A text of the journal to print.
 #[derive(Clone, Copy, Debug, PartialEq, Eq)]
 pub enum Text {
     /// A line for each event.

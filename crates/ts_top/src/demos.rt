@@ -13,8 +13,8 @@ use ts_disk::Disk;
 use ts_io::{Sink, WriteFault, write_whole};
 use ts_schema::NoMemory;
 
-/// Runs the script of the demonstration with this number on a new memory disk, and prints the summary. The given
-/// disk isn't touched.
+/// Runs the script of the demonstration with this number on a new disk in memory, and prints the summary. It doesn't
+/// use the given disk.
 #[tactic(auto, using(demo_run::proofs::DemoLaws::never_refused))]
 pub(crate) fn print_demo<R: Threads + Sync, K: Sink, D: Disk>(
     rt: &R,

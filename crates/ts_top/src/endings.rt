@@ -8,9 +8,9 @@ use ts_disk::Disk;
 /// How the top call ended.
 #[derive(Clone, Copy, Debug, PartialEq, Eq)]
 pub enum Status {
-    /// Everything was done, and no reply is a FAULT.
+    /// The call did everything, and no reply is a FAULT.
     Done,
-    /// Everything was done, but a reply is a FAULT, the image of a checkpoint is too long, or an audit didn't
+    /// The call did everything, but a reply is a FAULT, the image of a checkpoint is too long, or an audit didn't
     /// answer `YES`.
     Refused,
     /// The words name no command.
@@ -23,14 +23,14 @@ pub enum Status {
     DiskFault,
     /// The journal represents no history. This is its first damaged place.
     Damaged(u64),
-    /// Memory ran out.
+    /// Out of memory.
     NoMemory,
     /// The source gave a byte beyond the limit. `run` has executed the lines that end within it; `par` has
     /// executed none, and `audit` has printed nothing.
     InputLong,
 }
 
-/// The end of the top call: how it ended, the disk that it was given, and how many stored rows its answers and
+/// The end of the top call: how it ended, the disk that the caller gave it, and how many stored rows its answers and
 /// refreshes read.
 #[derive(Drop)]
 pub struct Ended<D: Disk> {
@@ -43,7 +43,7 @@ pub struct Ended<D: Disk> {
 }
 
 impl Status {
-    /// The exit status of a program that ends so.
+    /// The exit status of a program that ends like this.
     pub fn code(self) -> u8
         ensures { result ≡ exit_status self }
     {
@@ -61,7 +61,7 @@ impl Status {
     }
 }
 
-/// How the call ends whose script ended so.
+/// How the call ends after its script ended like this.
 pub(crate) fn status_of(end: RunEnd) -> Status
     ensures { result ≡ status_of_run end }
 {
@@ -76,7 +76,7 @@ pub(crate) fn status_of(end: RunEnd) -> Status
     }
 }
 
-/// How a call ends whose lines were all answered. `refused` is whether a reply is a FAULT.
+/// How a call that answered all lines ends. `refused` is whether a reply is a FAULT.
 pub(crate) fn status_answered(refused: bool) -> Status
     ensures { result ≡ status_answered refused }
 {

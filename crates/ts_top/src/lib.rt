@@ -1,14 +1,14 @@
-//! The top call: from the words of the command line, the bytes of a script and a journal to the bytes of
-//! the replies and the journal with what was acknowledged.
+//! The top call. It takes the words of the command line, the bytes of a script and a journal. It gives the bytes of the
+//! replies, and the journal with all acknowledged events.
 //!
-//! - `commands`: what words ask for.
+//! - `commands`: the commands that words name.
 //! - `run`: the top call.
-//! - `openings`: how a journal is opened for a script.
-//! - `scripts`: scripts over the history of a journal.
-//! - `prints`: what is printed of a journal.
-//! - `parallel`: inputs that are run by a worker for each session.
-//! - `checkpoints`: the image of a journal's history, put behind the journal.
-//! - `audits`: the audit of a transcript beside a journal.
+//! - `openings`: opens a journal for a script.
+//! - `scripts`: scripts on the history of a journal.
+//! - `prints`: prints texts of a journal.
+//! - `parallel`: runs inputs by a worker for each session.
+//! - `checkpoints`: appends the image of a journal's history to the journal.
+//! - `audits`: audits a transcript against a journal.
 //! - `demos`: the demonstration.
 //! - `endings`: how a call ended.
 #![tactic(auto)]

@@ -53,7 +53,7 @@ fn write_header<D: Disk>(mut store: Store<D>) -> Result<Store<D>, Ended<D>>
             disk: store.close(),
             reads: 0,
         }),
-        // A store that hasn't stopped doesn't answer so.
+        // Can't occur: the store hasn't stopped.
         Append::Stopped => Err(Ended {
             status: Status::DiskFault,
             disk: store.close(),
@@ -63,7 +63,7 @@ fn write_header<D: Disk>(mut store: Store<D>) -> Result<Store<D>, Ended<D>>
 }
 
 /// Opens a store on the history that the journal on the disk represents, and writes the journal's header if it is
-/// missing. If that fails, returns how the call ends. Nothing is read from the source or printed.
+/// missing. If that fails, returns how the call ends. It reads nothing from the source, and prints nothing.
 pub(crate) fn open<R: Threads + Sync, D: Disk>(
     rt: &R,
     alloc: Global,

@@ -37,7 +37,7 @@ use ts_schema::Seq;
 use ts_sessions::Session;
 use ts_store::Store;
 
-/// The form in which a parallel run is printed.
+/// The form in which the call prints a parallel run.
 #[derive(Clone, Copy, Debug, PartialEq, Eq)]
 pub(crate) enum Replies {
     /// The refusals of lines that no session answers, and all replies.
@@ -61,7 +61,7 @@ struct RunReplies {
     stop: ParStop,
 }
 
-/// Ends a call without a statement, over a store whose journal has its header.
+/// Ends a call that ran no statement. Its store's journal has its header.
 fn close_store<D: Disk>(store: Store<D>, status: Status) -> Ended<D>
     requires goes_on { store.failed ≡ None }
     requires armed { store.armed ≡ true }
@@ -82,7 +82,7 @@ fn close_store<D: Disk>(store: Store<D>, status: Status) -> Ended<D>
     }
 }
 
-/// Prints the replies of a parallel run that stopped so. Returns how the call ends. A disk fault is reported even
+/// Prints the replies of a parallel run that stopped like this. Returns how the call ends. It returns a disk fault even
 /// if the sink fails after it. If memory ran out, there are no replies.
 fn print_replies<K: Sink>(sink: &mut K, text: &[u8], fault: bool, stop: ParStop) -> Status
     ensures prints { PrintsReplies stop fault text.now result (Rose (K.faults sink.old) (K.faults sink.new))
@@ -116,8 +116,8 @@ fn print_ascii<K: Sink>(sink: &mut K, transcript: &Transcript, refused: bool) ->
     }
 }
 
-/// Prints a transcript. Returns how the call ends. Each reply is ASCII, but no clause of the sessions says so: one
-/// that isn't would be reported as out of memory.
+/// Prints a transcript. Returns how the call ends. Each reply is ASCII, but no clause of the sessions says so: the call
+/// would end one that isn't as out of memory.
 fn print_made<K: Sink>(sink: &mut K, transcript: &Transcript, refused: bool) -> Status
     requires start { transcript.now.start < 2 ^ 64 }
     ensures prints { PrintsTranscript ParStop.Done refused transcript.now result
@@ -144,13 +144,13 @@ fn print_executed<K: Sink>(
 {
     let transcript = Transcript { start, sessions };
     let status = print_made(sink, &transcript, refused);
-    // The call ends after it, so its memory isn't freed.
+    // Not freed, since the process ends after the call.
     forget(transcript);
     status
 }
 
-/// Prints the transcript of a parallel run. Returns how the call ends. If the disk failed, or memory ran out,
-/// nothing is printed.
+/// Prints the transcript of a parallel run. Returns how the call ends. It prints nothing if the disk failed or memory
+/// ran out.
 fn print_transcript<K: Sink>(sink: &mut K, replied: RunReplies) -> Status
     ensures prints { PrintsTranscript replied.stop replied.fault (transcript_in replied.start (output_in replied))
         result (K.written sink.old) (K.written sink.new) }
@@ -179,7 +179,7 @@ fn print_run<K: Sink>(replies: Replies, sink: &mut K, replied: RunReplies) -> St
     match replies {
         Replies::Plain => {
             let status = print_replies(sink, replied.text.items(), replied.fault, replied.stop);
-            // The call ends after them, so their memory isn't freed.
+            // Not freed, since the process ends after the call.
             forget(replied);
             status
         }
@@ -187,7 +187,7 @@ fn print_run<K: Sink>(replies: Replies, sink: &mut K, replied: RunReplies) -> St
     }
 }
 
-/// Runs an input by a worker for each session, on a store that is alone and hasn't stopped.
+/// Runs an input by a worker for each session, on a store that nobody else uses and that hasn't stopped.
 fn run_sessions<B, R, G>(rt: &R, alloc: Global, backend: B, input: &[u8], gate: &G) -> ParEnd<B>
 where
     B: Backend + Send,

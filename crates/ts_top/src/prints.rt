@@ -31,7 +31,7 @@ use ts_store::{HistoryRead, read_history};
 enum PrintStop {
     /// The sink failed, and its count of faults rose.
     WriteFault,
-    /// Memory ran out.
+    /// Out of memory.
     NoMemory,
 }
 
@@ -205,7 +205,7 @@ fn print_text<K: Sink>(
     }
 }
 
-/// How the call ends whose printing ended so.
+/// How a call ends after printing ended like this.
 fn status_of_print(printed: Result<(), PrintStop>) -> Status
     ensures { result ≡ status_of_print printed }
 {

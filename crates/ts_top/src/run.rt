@@ -24,17 +24,16 @@ use ts_disk::Disk;
 use ts_io::{Sink, Source};
 use ts_model::Gate;
 
-/// Runs the command that the words name, with or without `--` before them. `run` runs the lines of the source in
-/// order on the history of the journal on the disk, and writes their replies to the sink. `par` reads all lines,
-/// and runs them by a worker for each session. `par json` does the same, and writes the transcript of the run
-/// instead of its replies, unless memory or the disk failed. `demo` and a number runs the script of a
-/// demonstration on a new disk in memory, and writes a summary. `log` and `check` print the contents of the
-/// journal. `checkpoint` appends the image of the journal's history to the journal, so that a later call begins
-/// there. `audit` reads a transcript, and writes whether the history of the journal explains it. Other words do
-/// nothing.
+/// Runs the command that the words name, with or without `--` before them. `run` runs the lines of the source in order
+/// on the history of the journal on the disk, and writes their replies to the sink. `par` reads all lines, and runs
+/// them by a worker for each session. `par json` does the same, and writes the transcript of the run instead of its
+/// replies, unless the disk failed or memory ran out. `demo` and a number runs the script of a demonstration on a new
+/// disk in memory, and writes a summary. `log` and `check` print the contents of the journal. `checkpoint` appends the
+/// image of the journal's history to the journal, so that a later call begins there. `audit` reads a transcript, and
+/// writes whether the history of the journal explains it. Other words do nothing.
 ///
-/// The source hasn't reported its end. Only the workers of `par` and `par json` call the worker hook; the call may
-/// wait for it.
+/// The source must not have reported its end. Only the workers of `par` and `par json` call the worker hook; the call
+/// may wait for it.
 pub fn run_words<R, S, K, D, G>(
     rt: &R,
     alloc: Global,
@@ -67,7 +66,7 @@ where
         }) }
     ensures header { IfWrites (command_of (map string_bytes words.now))
         (HeaderAfter result.status (IsSome (D.bytes disk)) (D.bytes result.disk)) }
-    // No later crash takes an event or an image back.
+    // No later crash removes an event or an image.
     ensures lasting { IfWrites (command_of (map string_bytes words.now)) (IfWentOn result.status
         (IsDurable D.bytes D.may_leave disk → IsDurable D.bytes D.may_leave result.disk)) }
     ensures untouched { IfDemo (command_of (map string_bytes words.now)) (result.disk ≡ disk) }

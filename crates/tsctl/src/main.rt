@@ -1,5 +1,5 @@
-//! The program. It passes standard input, standard output and the journal's file to the top call, and reports the
-//! ending by the exit status and a line on standard error.
+//! The program. It passes standard input, standard output and the journal's file to the top call. It reports the
+//! outcome by the exit status and a line on standard error.
 #![tactic(auto)]
 
 use std::alloc::Global;
@@ -18,13 +18,13 @@ use ts_top::{Command, Status, command_of, run_words};
 /// The journal, in the folder that the program runs in.
 const JOURNAL: &str = "tsctl.journal";
 
-/// A file that is always there, and has no bytes.
+/// A file that always exists and is empty.
 const NOTHING: &str = "/dev/null";
 
 /// The size in bytes of a block whose release makes the C library keep more freed memory.
 const KEPT_MEMORY: usize = 32_000_000;
 
-/// The line on standard error for an ending. A damaged journal has a line with a place instead.
+/// The line on standard error for a status. A damaged journal has a line with its first damaged place instead.
 fn message(status: Status) -> Option<&'static str> {
     match status {
         Status::Done | Status::Refused => None,
@@ -40,9 +40,9 @@ fn message(status: Status) -> Option<&'static str> {
     }
 }
 
-/// Makes the C library keep freed memory for the next statement. The library returns the end of its heap to the
-/// system if more than a threshold is free there, and raises the threshold to twice the size of a large block that
-/// is released. This function allocates such a block and releases it untouched.
+/// Makes the C library keep freed memory for the next statement. The library returns the end of its heap to the system
+/// if more than a threshold is free there. It raises the threshold to twice the size of a large block that is released.
+/// This function allocates such a block and releases it untouched.
 fn keep_freed_memory(alloc: Global) {
     let _block: Result<Vec<u8>, _> = Vec::with_capacity(alloc, KEPT_MEMORY);
 }
@@ -52,8 +52,8 @@ fn words<R: Env + AllocGlobal>(rt: &R) -> io::Result<Vec<String>> {
     Ok(env::args(rt)?.skip(1).collect(rt.alloc())?)
 }
 
-/// Opens the file of the journal. For a command that writes, the file is created if it is missing, and no other
-/// run may hold it. Other commands only read it.
+/// Opens the file of the journal. For a command that writes, it creates the file if it is missing, and locks it against
+/// other runs. Other commands only read it.
 fn open<R: Files<File = File>>(rt: &R, writes: bool) -> io::Result<File> {
     let mut options = File::options();
     options.read(true).write(writes).create(writes);
@@ -64,8 +64,8 @@ fn open<R: Files<File = File>>(rt: &R, writes: bool) -> io::Result<File> {
     Ok(file)
 }
 
-/// Waits until the input has a byte or ends. If the transcript of a run is piped into an audit, the run has
-/// created its journal by then, so the audit opens that journal.
+/// Waits until the input has a byte or ends. If the transcript of a run is piped into an audit, the run has created its
+/// journal by then. So the audit opens that journal.
 fn wait_for_input<B: BufRead>(reader: &mut B) {
     let _ = reader.fill_buf();
 }
@@ -82,14 +82,14 @@ where
 }
 
 /// Runs the command that the words name on the journal's file. For a command that only reads, a missing file is an
-/// empty disk. If the file can't be opened, or another run holds it, the disk is one whose every call fails and is
-/// counted.
+/// empty disk. If the file can't be opened, or another run has locked it, the disk is one on which every call fails and
+/// is counted.
 fn run<R>(rt: &R, words: &[String]) -> Status
 where
     R: Input + Print + Threads + Wait + Sync + Files<File = File> + AllocGlobal,
 {
-    // If standard input, output or error is closed, the next file that is opened gets its number, and replies
-    // would go into the journal. These three take such numbers first: a write to one of them fails.
+    // If standard input, output or error is closed, the next file that is opened gets its number, and replies would go
+    // into the journal. These three files take such numbers first: a write to one of them fails.
     let _input = File::open(rt, NOTHING);
     let _output = File::open(rt, NOTHING);
     let _error = File::open(rt, NOTHING);

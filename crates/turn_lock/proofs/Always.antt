@@ -1,4 +1,4 @@
--- What the rule says of every moment, in sentences.
+-- What the rule says about every moment, in sentences.
 use Rattle.std.proofs.Common.{◌≡◌, ℕ, List, length, get_or, refl, sym, ap, ◌∙◌, subst, inl, inr, arith}
 use Rattle.std.specs.Prelude.{Option, Some, None, slice_index}
 use mathlib.Core.Logic.{dite}
@@ -19,7 +19,7 @@ use Rattle.turn_lock.proofs.Lists.{prefix_length, prefix_shorter}
 use Rattle.turn_lock.proofs.Numbers.{times_between}
 
 module _ {E : Type 0} where
-  -- the holder of a ticket is where the ticket says
+  -- the holder of a ticket is the view that the ticket names
   ticket_place : (next serving : ℕ) (holder : ℕ → ℕ) (log : List E) (shut : Option E) (away : Type 0) (j n : ℕ) (g : Stage E) → InPlace next serving holder log shut away j g → HasTicket g n → j ≡ holder n
   ticket_place next serving holder log shut away j n Idle p h = absurd h
   ticket_place next serving holder log shut away j n (Waiting t) p h = sym p.2 ∙ ap holder h

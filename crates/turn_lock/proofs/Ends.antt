@@ -53,11 +53,11 @@ module _ {V B E : Type 0} (base : V → B) (first : B → ℕ) (events : V → L
         made = λ p. sym (ap (times p) (positions_none (end_of (first root) log)));
       }
 
-  -- the same where the slots are known by an equation
+  -- the same if an equation gives the slots
   pub opens_with : (v : V) (pos : ℕ) (slots : List (Option V)) → slots ≡ Some v ∷ [] → key.value.value ≡ v → pos ≡ end_of (first (base v)) (events v) → 0 < key.shares → key.shares < 2 ^ 32 → Holds (opening (0 ∷ 0 ∷ pos ∷ []) slots whole)
   opens_with v pos slots one same is live few = subst (λ l. Holds (opening (0 ∷ 0 ∷ pos ∷ []) l whole)) (sym one) (opens v pos same is live few)
 
-  -- what the last pass and the value are at the close
+  -- the last pass and the value at the close
   pub record Closes (v : PassState B E) (x : V) : Type 0 where
     pub opened : base x ≡ root
     pub one_base : v.base ≡ Some root
@@ -114,7 +114,7 @@ module _ {V B E : Type 0} (base : V → B) (first : B → ℕ) (events : V → L
       let c = closing g.0 id v g.1.0 g.1.1 all idle live in
       (c.0, some_is slot (Some c.0) (sym got ∙ g.4 0 (Some c.0) (ap (λ (hs : List (maybe.Option (Option V))). get_elem? hs 0) c.1)), c.2)
 
-  -- the same of the value found there
+  -- the same for the value found there
   pub closes_value : (id : ℕ) (me : Me (Option V) (PassState B E)) (v : PassState B E) (taken : List (ℕ × Option V)) (words : List ℕ) (slots : List (Option V)) (slot : Option V) (x : V) → me ≡ (v, taken) → v.stage ≡ Idle → 0 < v.shares → v.shares ≡ key.shares
       → Final (Seen Holds id me.0) words slots → get_elem? slots 0 ≡ some slot → slot ≡ Some x → Closes v x
   closes_value id me v taken words slots slot x is idle live all f got there =

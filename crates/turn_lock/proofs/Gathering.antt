@@ -1,4 +1,4 @@
--- One pass after another.
+-- Passes in order.
 use Rattle.std.proofs.Common.{◌∙◌}
 use Rattle.turn_lock.specs.Pass.{Carried, StaysIn}
 

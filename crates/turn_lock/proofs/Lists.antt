@@ -27,7 +27,7 @@ module _ {A : Type 0} where
   prefix_tail : (x y : A) (xs ys zs : List A) → (x ∷ xs) ++ zs ≡ y ∷ ys → (x ≡ y) × (xs ++ zs ≡ ys)
   prefix_tail x y xs ys zs e = (cc, cc)
 
-  -- of two beginnings of one list the shorter begins the other
+  -- of two prefixes of one list the shorter begins the other
   pub prefix_shorter : (xs ys zs : List A) → IsPrefix xs zs → IsPrefix ys zs → length xs ≤ length ys → IsPrefix xs ys
   prefix_shorter [] ys zs p q le = prefix_none ys
   prefix_shorter (x ∷ xs) [] zs p q le = absurd (omega arith)
@@ -37,7 +37,7 @@ module _ {A : Type 0} where
       let rest = prefix_shorter xs ys zs (p.0, a.1) (q.0, b.1) (omega arith) in
       (rest.0, λ k. (a.0 ∙ sym b.0) k ∷ rest.1 k)
 
-  -- a beginning that is as long is the whole
+  -- a prefix that is as long is the whole
   pub prefix_whole : (xs ys : List A) → IsPrefix xs ys → length ys ≤ length xs → xs ≡ ys
   prefix_whole xs ys p le = let q = prefix_shorter ys xs ys (prefix_self ys) p le in both p.0 p.1 q
     where

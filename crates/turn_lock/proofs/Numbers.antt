@@ -1,4 +1,4 @@
--- Positions and how often each stands in a list.
+-- Positions, and how often each is in a list.
 use Rattle.std.proofs.Common.{◌≡◌, ℕ, zero, suc, ◌+◌, ◌-◌, ◌<◌, ◌≤◌, ◌&&◌, cond, true, false, List, [], ◌∷◌, ◌++◌, eqb, refl, sym, ap, ◌∙◌, subst, arith, eq-eqb, ne_eqb, length-append}
 use Rattle.std.specs.Prelude.{IsPermutation, nat_lt, nat_le}
 use Rattle.std.proofs.lemmas.List.Sums.{sum_by-cons, sum_by-append}
@@ -41,7 +41,7 @@ times-append p xs ys = sum_by-append (λ q. cond (eqb q p) 1 0) xs ys
 pub times-cons : (p x : ℕ) (xs : List ℕ) → times p (x ∷ xs) ≡ cond (eqb x p) 1 0 + times p xs
 times-cons p x xs = sum_by-cons (λ q. cond (eqb q p) 1 0) x xs
 
--- of the positions after p up to p + n each stands there once
+-- each of the positions after p up to p + n is there once
 pub times_after : (p q n : ℕ) → times q (positions_after p n) ≡ cond (nat_lt p q && nat_le q (p + n)) 1 0
 times_after p q zero = grind (arith, nat_tests)
 times_after p q (suc n) = let t = times_after (p + 1) q n in let c = times-cons q (p + 1) (positions_after (p + 1) n) in grind (arith, nat_tests, t, c)
@@ -49,7 +49,7 @@ times_after p q (suc n) = let t = times_after (p + 1) q n in let c = times-cons 
 pub times_between : (p q r : ℕ) → p ≤ r → times q (positions_between p r) ≡ cond (nat_lt p q && nat_le q r) 1 0
 times_between p q r le = times_after p q (r - p) ∙ λ i. cond (nat_lt p q && nat_le q ((let e : p + (r - p) ≡ r = omega arith in e) i)) 1 0
 
--- what stands in a list stands between a front and a rest
+-- an element of a list has elements before and after it
 pub found_in : (x : ℕ) (ys : List ℕ) → 0 < times x ys → (front : List ℕ) × ((rest : List ℕ) × (ys ≡ front ++ x ∷ rest))
 found_in x [] h = absurd (omega arith)
 found_in x (y ∷ ys) h = dite (ℕ_discrete y x)
@@ -58,7 +58,7 @@ found_in x (y ∷ ys) h = dite (ℕ_discrete y x)
     let h' : 0 < times x ys = subst (λ b. 0 < cond b 1 0 + times x ys → 0 < times x ys) (sym z) (λ k. omega arith) (subst (λ n. 0 < n) c h) in
     let r = found_in x ys h' in (y ∷ r.0, (r.1.0, λ i. y ∷ r.1.1 i)))
 
--- two lists in which each number stands as often are one in another order
+-- two lists that have each number equally often are one in another order
 pub counts_permute : (xs ys : List ℕ) → ((p : ℕ) → times p xs ≡ times p ys) → IsPermutation xs ys
 counts_permute [] [] h = IsPermutation-refl []
 counts_permute [] (y ∷ ys) h = absurd (let e = h y in let c = times-cons y y ys in let t : eqb y y ≡ true = eq-eqb y y refl in

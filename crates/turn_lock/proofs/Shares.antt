@@ -1,4 +1,4 @@
--- The steps of sharing keep the rule: a split, a join, and the look back that follows it.
+-- The steps of sharing keep the rule: a split, a join, and the check that follows it.
 use Rattle.std.proofs.Common.{◌≡◌, ◌⊎◌, ℕ, suc, ◌<◌, ◌≤◌, true, false, cond, List, [], ◌∷◌, ◌++◌, length, set, refl, sym, ap, ◌∙◌, subst, inl, inr, ⊎_elim, arith}
 use Rattle.std.specs.Prelude.{Option, Some, None, nat_lt}
 use Rattle.std.proofs.lemmas.Bool.Decides.{nat_tests}
@@ -35,7 +35,7 @@ module _ {E : Type 0} where
   shorter_begins : (xs ys log : List E) → IsPrefix xs log → IsPrefix ys log → IsPrefix (shorter xs ys) log
   shorter_begins xs ys log p q = ⊎_elim (λ c. subst (λ l. IsPrefix l log) (sym c.2) p) (λ c. subst (λ l. IsPrefix l log) (sym c.2) q) (longer_cases xs ys)
 
-  -- where one of two beginnings is the whole, the longer is
+  -- if one of two prefixes is the whole, so is the longer
   longer_all : (xs ys log : List E) → IsPrefix xs log → IsPrefix ys log → (xs ≡ log) ⊎ (ys ≡ log) → longer xs ys ≡ log
   longer_all xs ys log p q one =
       let a = prefix_length xs log p in let b = prefix_length ys log q in
@@ -64,7 +64,7 @@ module _ {E : Type 0} where
   either_same_right (Some x) b c is f = sym (f x refl)
 
 module _ {B E : Type 0} where
-  -- where one of two passes has seen the value closed, so has what both become, by the same
+  -- if one of two passes has seen the value closed, so has the joined pass, by the same entry
   joined_cases : (k l : PassState B E) (e : E) → joined_shut k l ≡ Some e → (k.shut ≡ Some e) ⊎ (l.shut ≡ Some e)
   joined_cases k l e =
       elim (nat_lt (length k.seen) (length l.seen)) as (λ t. cond t (either l.shut k.shut) (either k.shut l.shut) ≡ Some e → (k.shut ≡ Some e) ⊎ (l.shut ≡ Some e)) [
@@ -86,7 +86,7 @@ module _ {B E : Type 0} where
         | false ↦ either_same_right k.shut l.shut c is f
       ]
 
-  -- where the pass with the shorter list has seen the value closed, that list is the whole
+  -- if the pass with the shorter list has seen the value closed, that list is the whole
   shorter_closed : (root : B) (log : List E) (shut : Option E) (k l : PassState B E) → Fits root log shut k → Fits root log shut l → (e : E) → shorter_shut k l ≡ Some e → (shorter k.seen l.seen ≡ log) × (shut ≡ Some e)
   shorter_closed root log shut k l f g e =
       elim (nat_lt (length k.seen) (length l.seen)) as (λ t. cond t k.shut l.shut ≡ Some e → (cond t k.seen l.seen ≡ log) × (shut ≡ Some e)) [
@@ -94,7 +94,7 @@ module _ {B E : Type 0} where
         | false ↦ g.closed e
       ]
 
-  -- and what both become has seen it closed by the same
+  -- the joined pass has seen it closed by the same entry
   shorter_joined : (root : B) (log : List E) (shut : Option E) (k l : PassState B E) → Fits root log shut k → Fits root log shut l → (e : E) → shorter_shut k l ≡ Some e → joined_shut k l ≡ Some e
   shorter_joined root log shut k l f g e is =
       let whole = (shorter_closed root log shut k l f g e is).1 in
@@ -103,11 +103,11 @@ module _ {B E : Type 0} where
         | false ↦ λ mine. either_same_right k.shut l.shut (Some e) mine (λ x its. sym whole ∙ (f.closed x its).1)
       ] is
 
-  -- and the longer list is no longer
+  -- the longer list is no longer
   seen_all : (log : List E) (k : PassState B E) → IsPrefix k.seen log → k.other_seen ≡ log → length k.other_seen ≤ length k.seen → k.seen ≡ k.other_seen
   seen_all log k p whole le = prefix_whole k.seen log p (let l = ap length whole in omega (arith, l, le)) ∙ sym whole
 
-  -- of two joined passes each that has seen the value closed has seen what both have
+  -- of two joined passes, each that has seen the value closed has seen what both have
   stays_left : (k l : PassState B E) → IsCounted (joined k l) → StaysClosed k.shut k.seen (joined_shut k l) (longer k.seen l.seen)
   stays_left k l c e is =
       elim (nat_lt (length k.seen) (length l.seen)) as (λ t. nat_lt (length k.seen) (length l.seen) ≡ t → (cond t k.shut l.shut ≡ Some e → length (cond t k.seen l.seen) ≤ length (cond t l.seen k.seen) → (cond t l.seen k.seen ≡ cond t k.seen l.seen) × (cond t (either l.shut k.shut) (either k.shut l.shut) ≡ Some e)) → (cond t (either l.shut k.shut) (either k.shut l.shut) ≡ Some e) × (cond t l.seen k.seen ≡ k.seen)) [
@@ -122,7 +122,7 @@ module _ {B E : Type 0} where
         | false ↦ λ less stays. let s = stays is (grind (arith, nat_tests, less)) in (s.1, s.0)
       ] refl (c.stays e)
 
-  -- and what both become is closed by what closed the one or the other
+  -- the joined pass is closed by the entry that closed the one or the other
   pub closed_both : (k l : PassState B E) → IsCounted (joined k l) → joined_shut k l ≡ either k.shut l.shut
   closed_both k l c = by_shut k.shut refl
     where

@@ -45,7 +45,7 @@ module _ {E : Type 0} (log : List E) (shut : Option E) where
   place_out next serving holder away away' f j (Waiting t) p = p
   place_out next serving holder away away' f j (Turn t xs c) p = (p.0, p.1, p.2, p.3, p.4, f p.5)
 
-  -- another view than the one with the turn has no turn
+  -- a view other than the one with the turn has no turn
   place_posted : (next serving : ℕ) (holder : ℕ → ℕ) (away away' : Type 0) (log' : List E) (shut' : Option E) (j : ℕ) → j ≢ holder serving → (g : Stage E)
       → InPlace next serving holder log shut away j g → InPlace next serving holder log' shut' away' j g
   place_posted next serving holder away away' log' shut' j ne Idle p = tt
@@ -77,7 +77,7 @@ module _ {V B E : Type 0} (base : V → B) (first : B → ℕ) (events : V → L
   abbrev root : B
   root = base key.value.value
 
-  -- a step that leaves the word i at n, and tells `told`
+  -- a step that leaves the word i at n, and reports `told`
   abbrev Goes : St → ℕ → ℕ → M → (M → Type 0) → ℕ → Type 0
   Goes s i id me told n = (w : PassState B E) × (a : Act (Option V)) × Valid s.homes me.1 a × Holds (stepped s i n id me.1 w a) × told (w, carried_after me.1 a)
 
@@ -127,7 +127,7 @@ module _ {V B E : Type 0} (base : V → B) (first : B → ℕ) (events : V → L
       (λ hit. (at_stage (Waiting t) me.0, keeps, tt, draws_next s id me.0 t r at idle live (sym (ap (λ (ws : List ℕ). get_or ws 0 0) r.words) ∙ hit), ((λ _. refl), λ miss. absurd (miss hit))))
       (λ miss. still s 0 id me told at r ((λ hit. absurd (miss hit)), λ _. refl))
 
-  -- the value is at home while the ticket served is one that waits
+  -- the value is at home if the ticket served is one that waits
   at_home : (s : St) (id : ℕ) (v : PassState B E) (r : Holds s) → get_elem? s.views id ≡ some v → r.holder r.serving ≡ id → (HasTurn v.stage → ⊥)
       → (home : maybe.Option (Option V)) → Stands base events closed root r.log r.shut (Rules s.views (r.holder r.serving)) home → (x : V) × (home ≡ some (Some x)) × IsValue base events closed root r.log r.shut x
   at_home s id v r at mine idle none h = absurd (idle (subst (λ (u : PassState B E). HasTurn u.stage) (one_at s.views id h.0 v (subst (λ k. get_elem? s.views k ≡ some h.0) mine h.1) at) h.2))
@@ -201,7 +201,7 @@ module _ {V B E : Type 0} (base : V → B) (first : B → ℕ) (events : V → L
       looks_hit n id me t h.0 s r at waits live hit is h.1 h.2)
       (λ miss. still s 1 id me told at r (subst (λ (g : Stage E). LooksAt base events closed g me y me) (sym waits) ((λ hit. absurd (miss hit)), λ _. refl)))
 
-  -- what a pass with the turn did to the value, as far as the rule is concerned
+  -- what a pass with the turn did to the value, as the rule sees it
   pub record Turned (v : PassState B E) (t : ℕ) (xs : List E) (c : Option E) (x : V) : Type 0 where
     pub turn : v.stage ≡ Turn t xs c
     pub live : 0 < v.shares
@@ -280,7 +280,7 @@ module _ {V B E : Type 0} (base : V → B) (first : B → ℕ) (events : V → L
         subst (λ (g : Stage E). PostsAt base first events closed g me.1 me (w, me.1)) (sym did.turn) (subst (λ (l : List (ℕ × Option V)). PostsAt base first events closed (Turn t xs c) l me (w, me.1)) (sym out) refl),
       )
 
-  -- what a post told, where the turn and the value are known
+  -- what a post reported, if the turn and the value are known
   pub posted_is : (me n : M) (t : ℕ) (xs : List E) (c : Option E) (x : V) → me.0.stage ≡ Turn t xs c → me.1 ≡ (0, Some x) ∷ [] → PostsAt base first events closed me.0.stage me.1 me n
       → n ≡ (published t (first (base x)) xs (events x) (closed x) me.0, me.1)
   posted_is me n t xs c x turn out told = subst (λ (l : List (ℕ × Option V)). PostsAt base first events closed (Turn t xs c) l me n) out (subst (λ (g : Stage E). PostsAt base first events closed g me.1 me n) turn told)

@@ -1,4 +1,4 @@
--- One view of a list changes, and the others stay: who has a ticket, who has the turn, what fits, and the sums.
+-- One view of a list changes, and the others stay: which has a ticket, which has the turn, what fits, and the sums.
 use Rattle.std.proofs.Common.{◌≡◌, ℕ, ◌+◌, ◌<◌, List, get_or, set, refl, sym, ap, ◌∙◌, subst, arith}
 use Rattle.std.specs.Prelude.{Option, Some, None}
 use mathlib.Core.Logic.{dite}
@@ -78,7 +78,7 @@ module _ {B E : Type 0} where
   turn_shares root log shut v f turn = dite (ℕ_discrete v.shares 0) (λ e. absurd (no_turn_spent v (f.gone e) turn)) (λ ne. omega arith)
 
 module _ {V B E : Type 0} (base : V → B) (events : V → List E) (closed : V → Option E) where
-  -- away with another, or at home as before
+  -- the value is away with another view, or at home as before
   pub stands_as : (root : B) (log : List E) (shut : Option E) (away away' : Type 0) (home : maybe.Option (Option V)) → (home ≡ none → away → away')
       → Stands base events closed root log shut away home → Stands base events closed root log shut away' home
   stands_as root log shut away away' none f h = f refl h
@@ -86,7 +86,7 @@ module _ {V B E : Type 0} (base : V → B) (events : V → List E) (closed : V �
   stands_as root log shut away away' (some (Some v)) f h = h
 
 module _ {V B E : Type 0} (base : V → B) (first : B → ℕ) (events : V → List E) (closed : V → Option E) where
-  -- a load and no change of the view leave all as it is
+  -- a load without a change of the view leaves everything as it is
   pub rests : (key : Opening V) (s : State (Option V) (PassState B E)) (i id : ℕ) (v : PassState B E) → get_elem? s.views id ≡ some v → Kept base first events closed key s
       → Kept base first events closed key record { words = set s.words i (get_or s.words i 0); homes = s.homes; views = set s.views id v }
   rests key s i id v at r = subst (λ (x : List ℕ × List (PassState B E)). Kept base first events closed key record { words = x.0; homes = s.homes; views = x.1 })

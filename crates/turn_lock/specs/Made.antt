@@ -1,4 +1,4 @@
--- The result of making a lock.
+-- The result of creating a lock.
 use Rattle.std.specs.Prelude.{◌≡◌, ℕ, Option, Some, List, []}
 use Rattle.turn_lock.specs.declared.making.MadeLock.{MadeLock}
 use Rattle.turn_lock.specs.declared.making.MadeLock.TheVariants.{Made, NoMemory}
@@ -6,7 +6,7 @@ use Rattle.turn_lock.specs.Pass.{Carried, Guarded, IsPassOf, IsIdle, shares_of, 
 
 module _ {V B E : Type 0} (base : V → B) (events : V → List E) (closed : V → Option E) (value : V) (shares : ℕ) where
   -- the first pass of a lock around the value: it has all shares and the value's base, has seen its events, and has
-  -- made nothing
+  -- added nothing
   pub record IsFirstPass (lock : Guarded V) (pass : Carried V B E) : Type 0 where
     pub from_lock : IsPassOf lock pass
     pub idle : IsIdle pass

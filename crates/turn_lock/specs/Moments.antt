@@ -1,5 +1,5 @@
--- What the rule says of every moment, in sentences over the words, the slot and the views. A view without shares is
--- what a joined pass left behind.
+-- What the rule says about every moment, in sentences about the words, the slot and the views. A view without shares is
+-- what a joined pass left.
 use Rattle.std.specs.Prelude.{◌≡◌, ℕ, ◌<◌, ◌≤◌, ◌⊎◌, ◌&&◌, cond, nat_lt, nat_le, Option, Some, List, slice_index}
 use mathlib.Core.Option.{some}
 use mathlib.Core.List.{IsPrefix}
@@ -23,7 +23,7 @@ module _ {V B E : Type 0} (base : V → B) (first : B → ℕ) (events : V → L
   abbrev pub seen_end : Opening V → PassState B E → ℕ
   seen_end key v = end_of (first (base key.value.value)) v.seen
 
-  -- the position at which the lock was made
+  -- the position at which the lock was created
   abbrev pub opening_end : Opening V → ℕ
   opening_end key = end_of (first (base key.value.value)) (events key.value.value)
 
@@ -42,18 +42,18 @@ module _ {V B E : Type 0} (base : V → B) (first : B → ℕ) (events : V → L
     pub turn : (j : ℕ) (v : PassState B E) → ViewAt s j v → HasTurn v.stage → HasTicket v.stage (slice_index s.words 1)
     -- the shares of each view that is not spent are positive
     pub live : (j : ℕ) (v : PassState B E) → ViewAt s j v → (0 < v.shares) ⊎ (v ≡ spent)
-    -- together the shares are the number that the lock was made with
+    -- the shares of all views add up to those with which the lock was created
     pub shares : shares_in s.views ≡ key.shares
     -- of two seen lists one begins the other
     pub seen :
         (i j : ℕ) (v w : PassState B E) → ViewAt s i v → ViewAt s j w → IsPrefix v.seen w.seen ⊎ IsPrefix w.seen v.seen
     -- no seen list ends above word 2
     pub below : (j : ℕ) (v : PassState B E) → ViewAt s j v → seen_end key v ≤ slice_index s.words 2
-    -- where a view has seen the value closed, its list ends at word 2, and a value at home is closed by the same
+    -- if a view has seen the value closed, its list ends at word 2, and a value at home is closed by the same entry
     pub ends : (j : ℕ) (v : PassState B E) (e : E) → ViewAt s j v → v.shut ≡ Some e → seen_end key v ≡ slice_index s.words 2
     pub closes :
         (j : ℕ) (v : PassState B E) (x : V) (e : E) → ViewAt s j v → v.shut ≡ Some e → AtHome s x → closed x ≡ Some e
-    -- the made lists share no position, and together are all positions above the opening position up to word 2
+    -- the added lists share no position, and together are all positions above the opening position up to word 2
     pub made :
         (p : ℕ) → times_made p s.views ≡ cond (nat_lt (opening_end key) p && nat_le p (slice_index s.words 2)) 1 0
     -- all views that are not spent have one base
@@ -61,7 +61,7 @@ module _ {V B E : Type 0} (base : V → B) (first : B → ℕ) (events : V → L
     -- a value at home has that base and begins with every seen list
     pub home_base : (x : V) → AtHome s x → base x ≡ base key.value.value
     pub home_begins : (j : ℕ) (v : PassState B E) (x : V) → ViewAt s j v → AtHome s x → IsPrefix v.seen (events x)
-    -- where no view has the turn, a value is at home
+    -- if no view has the turn, a value is at home
     pub home : ((j : ℕ) (v : PassState B E) → ViewAt s j v → HasTurn v.stage → ⊥) → (x : V) × AtHome s x
-    -- and the events of a value at home end at word 2
+    -- the events of a value at home end at word 2
     pub home_ends : (x : V) → AtHome s x → end_of (first (base x)) (events x) ≡ slice_index s.words 2

@@ -10,7 +10,7 @@ positions_after p (suc n) = (p + 1) ∷ positions_after (p + 1) n
 abbrev pub positions_between : ℕ → ℕ → List ℕ
 positions_between p q = positions_after p (q - p)
 
--- how often p stands among the positions
+-- how often p is among the positions
 abbrev pub times : ℕ → List ℕ → ℕ
 times p ps = count_by (λ q. q == p) ps
 

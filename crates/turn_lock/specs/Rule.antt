@@ -1,6 +1,6 @@
--- The rule of the lock, which holds at every moment. Word 0 is the next ticket to draw, word 1 the ticket that is
--- served, and word 2 the position at which the events end.
--- Slot 0 has the value, and is out with the pass that has the turn.
+-- The rule of the lock, which is true at every moment. Word 0 is the next ticket to draw, word 1 the ticket that is
+-- served, and word 2 the position at which the events end. Slot 0 has the value, unless the pass with the turn has
+-- taken it out.
 use Rattle.std.specs.Prelude.{◌≡◌, ℕ, ◌<◌, ◌≤◌, ◌^◌, Option, Some, None, List, [], ◌∷◌, length, sum_by}
 use mathlib.Core.Option.{none, some}
 use mathlib.Core.Option as maybe
@@ -25,8 +25,8 @@ module _ {E : Type 0} where
   HasTurn (Waiting t) = ⊥
   HasTurn (Turn t xs c) = Unit {0}
 
-  -- the stage of the view j: its ticket has not been served before, was drawn, and is its own, and with the turn it
-  -- is the one served, and what it found stands
+  -- the stage of the view j. Its ticket was drawn, has not been served before, and belongs to it. With the turn, its
+  -- ticket is the one served, and what it found is the log
   abbrev pub InPlace :
       (next serving : ℕ) (holder : ℕ → ℕ) (log : List E) (shut : Option E) (away : Type 0) (j : ℕ) → Stage E → Type 0
   InPlace next serving holder log shut away j Idle = Unit {0}
@@ -35,15 +35,15 @@ module _ {E : Type 0} where
       (t ≡ serving) × (t < next) × (holder t ≡ j) × (xs ≡ log) × (c ≡ shut) × away
 
 module _ {B E : Type 0} where
-  -- the view at the place j has the ticket n
+  -- the view with index j has the ticket n
   abbrev pub Queues : List (PassState B E) → ℕ → ℕ → Type 0
   Queues views j n = (v : PassState B E) × (get_elem? views j ≡ some v) × HasTicket v.stage n
 
-  -- the view at the place j has the turn
+  -- the view with index j has the turn
   abbrev pub Rules : List (PassState B E) → ℕ → Type 0
   Rules views j = (v : PassState B E) × (get_elem? views j ≡ some v) × HasTurn v.stage
 
-  -- what a view has seen begins the events, and a view without shares is spent
+  -- the log begins with the list that a view has seen, and a view without shares is spent
   pub record Fits (root : B) (log : List E) (shut : Option E) (v : PassState B E) : Type 0 where
     pub seen : IsPrefix v.seen log
     pub other_seen : IsPrefix v.other_seen log
@@ -52,7 +52,7 @@ module _ {B E : Type 0} where
     pub live : 0 < v.shares → (v.base ≡ Some root) × (v.other_base ≡ Some root)
     pub gone : v.shares ≡ 0 → v ≡ spent
 
-  -- a view with shares that has seen all
+  -- a view with shares that has seen the whole log
   pub record Newest (log : List E) (shut : Option E) (v : PassState B E) : Type 0 where
     pub live : 0 < v.shares
     pub seen : v.seen ≡ log
@@ -78,10 +78,9 @@ module _ {V B E : Type 0} (base : V → B) (events : V → List E) (closed : V �
   Stands root log shut away (some (Some v)) = IsValue root log shut v
 
 module _ {V B E : Type 0} (base : V → B) (first : B → ℕ) (events : V → List E) (closed : V → Option E) where
-  -- the rule, by the next ticket and the one that is served, the holder of each ticket, what slot 0 has, the events so
-  -- far and what closed them, and the place of a view that has seen them all. Each ticket that was drawn and isn't past
-  -- has a holder; each view is in place and fits the events; the value is at home, or away with the view that has the
-  -- turn; there are as many shares as at first; and each position added since then was made once
+  -- the rule at a state of the lock. Each ticket that was drawn and isn't past has a holder. Each view is in place and
+  -- fits the events. The value is at home, or away with the view that has the turn. There are as many shares as at
+  -- first. Each position added since then was added once. `last` is the index of a view that has seen all events
   pub record Kept (key : Opening V) (s : State (Option V) (PassState B E)) : Type 0 where
     pub next : ℕ
     pub serving : ℕ

@@ -1,4 +1,4 @@
--- What each step of the lock makes of a view, and what it tells its pass.
+-- The effect of each step of the lock on a view, and what it reports to its pass.
 use Rattle.std.specs.Prelude.{◌≡◌, ◌≢◌, ℕ, ◌+◌, ◌-◌, ◌<◌, ◌≤◌, ◌^◌, cond, nat_lt, Option, Some, None, List, [], ◌∷◌, ◌++◌, length}
 use mathlib.Core.List.{IsPrefix}
 use Rattle.atomic_table.specs.Table.{Me, Step, rest}
@@ -8,7 +8,7 @@ use Rattle.turn_lock.specs.declared.view.PassState.{PassState}
 use Rattle.turn_lock.specs.Positions.{positions_between, end_of}
 use Rattle.turn_lock.specs.Pass.{longer, either, found_at, found_closed_at, StaysClosed}
 
--- the list that is not the longer one
+-- the shorter of two lists, or the second if neither is longer
 abbrev pub shorter : {E : Type 0} → List E → List E → List E
 shorter xs ys = cond (nat_lt (length xs) (length ys)) xs ys
 
@@ -28,7 +28,7 @@ module _ {B E : Type 0} where
         other_shut = None;
       }
 
-  -- what is left of a pass that was joined into another
+  -- the view of a pass that was joined into another
   abbrev pub spent : PassState B E
   spent =
       record {
@@ -56,7 +56,7 @@ module _ {B E : Type 0} where
       (m.0.stage ≡ Turn t (found_at m.0.stage) (found_closed_at m.0.stage)) × (m.1 ≡ (0, None) ∷ [])
       × (0 < m.0.shares) × (t + 1 < 2 ^ 64)
 
-  -- the pass has published the events xs, which a turn found as ys, over a base that ends at p
+  -- the pass has published the events xs over a base that ends at p, after its turn found the events ys
   abbrev pub published : ℕ → ℕ → List E → List E → Option E → PassState B E → PassState B E
   published t p ys xs c k =
       record k
@@ -79,15 +79,15 @@ module _ {B E : Type 0} where
         other_shut = None;
       }
 
-  -- what closed the value, if the one with the shorter list has seen it closed
+  -- what closed the value, if the view with the shorter list has seen it closed
   abbrev pub shorter_shut : PassState B E → PassState B E → Option E
   shorter_shut k l = cond (nat_lt (length k.seen) (length l.seen)) k.shut l.shut
 
-  -- what closed the value, if one of the two has seen it closed, by the longer list first
+  -- what closed the value, if one of the two has seen it closed; the longer list comes first
   abbrev pub joined_shut : PassState B E → PassState B E → Option E
   joined_shut k l = cond (nat_lt (length k.seen) (length l.seen)) (either l.shut k.shut) (either k.shut l.shut)
 
-  -- one view of two; it keeps the other's base and the shorter list, of which the next step tells
+  -- one view of two. It keeps the other's base and the shorter list, which the next step checks
   abbrev pub joined : PassState B E → PassState B E → PassState B E
   joined k l =
       record {
@@ -102,12 +102,12 @@ module _ {B E : Type 0} where
         other_shut = shorter_shut k l;
       }
 
-  -- a draw gives the ticket where the word was still the one expected
+  -- a draw takes the ticket if the word is still the expected one
   abbrev pub Draws : {S : Type 0} → Step S → Me S (PassState B E) → ℕ → Me S (PassState B E) → Type 0
   Draws s m found n = (found ≡ s.first → n ≡ waiting_with s.first m) × (found ≢ s.first → n ≡ m)
 
-  -- a count tells that the shares fit a u32, that the two bases were one, that the shorter list begins the longer,
-  -- and is as long and closed by the same where its value was closed
+  -- a count reports that the shares fit a u32, that the two bases were equal, and that the longer list begins with the
+  -- shorter one. If the value of the shorter list was closed, that list is as long, and closed by the same entry
   pub record IsCounted (k : PassState B E) : Type 0 where
     pub fits : k.shares < 2 ^ 32
     pub one_base : k.other_base ≡ k.base
@@ -131,7 +131,7 @@ module _ {V B E : Type 0} (base : V → B) (events : V → List E) (closed : V �
     pub begins : IsPrefix m.0.seen (events v)
     pub stays : StaysClosed m.0.shut m.0.seen (closed v) (events v)
 
-  -- a look finds the turn where the word is the ticket
+  -- a look finds the turn if the word is the ticket
   abbrev pub LooksAt : Stage E → Me (Option V) (PassState B E) → ℕ → Me (Option V) (PassState B E) → Type 0
   LooksAt Idle m found n = Unit {0}
   LooksAt (Waiting t) m found n = (found ≡ t → (v : V) × Found t m n v) × (found ≢ t → n ≡ m)
@@ -141,7 +141,7 @@ module _ {V B E : Type 0} (base : V → B) (events : V → List E) (closed : V �
   Looks s m found n = LooksAt m.0.stage m found n
 
 module _ {V B E : Type 0} (base : V → B) (first : B → ℕ) (events : V → List E) (closed : V → Option E) where
-  -- the value that is out has become what the pass has seen
+  -- the value that is out becomes what the pass has seen
   abbrev pub PostsAt : Stage E → List (ℕ × Option V) → Me (Option V) (PassState B E) → Me (Option V) (PassState B E) → Type 0
   PostsAt Idle taken m n = Unit {0}
   PostsAt (Waiting t) taken m n = Unit {0}

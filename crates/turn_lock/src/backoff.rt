@@ -1,14 +1,14 @@
 //! How long a pass that waits for its turn checks for it before it sleeps.
 use std::time::Duration;
 
-/// How often the next in line checks for the end of one turn before it sleeps: it continues as soon as a
-/// short turn ends.
+/// How often the next pass in line checks for the end of a turn before it sleeps. So it continues as soon as a short
+/// turn ends.
 const LOOKS_OF_THE_NEXT: u32 = 256;
 
-/// How often the others check. Many passes that yield in turn would take all processors while a disk works.
+/// How often other passes check. If many passes yielded in turn, they would use all processors while a disk works.
 const LOOKS_OF_OTHERS: u32 = 4;
 
-/// How long one sleeps, unless the turn ends meanwhile, in microseconds: less than a sync of a disk.
+/// How long a pass sleeps, unless the turn ends meanwhile, in microseconds: less than a sync of a disk.
 const NAP: u64 = 50;
 
 /// What a pass that waits has seen.
@@ -21,7 +21,7 @@ pub(crate) struct Backoff {
 }
 
 impl Backoff {
-    /// Nothing was seen.
+    /// Returns a back-off that has seen nothing.
     pub(crate) fn new() -> Backoff {
         Backoff {
             serving: 0,

@@ -8,8 +8,8 @@ use crate::lock::{TurnLock, VALUE};
 use crate::pass::Pass;
 
 impl<V: Grown> TurnLock<V> {
-    /// Returns the value to the holder of all the shares. Its events are those that the pass has seen, and
-    /// the pass has made each position after the opening once.
+    /// Returns the value to the holder of all the shares. Its events are those that the pass has seen, and the pass has
+    /// added each position after the opening once.
     pub fn close(self, pass: Pass<V>) -> V
         requires lock { IsPassOf self pass }
         requires idle { IsIdle pass }

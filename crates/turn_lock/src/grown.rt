@@ -1,15 +1,15 @@
-//! What the lock asks of the value that it guards.
+//! What the lock needs from the value that it guards.
 ghost use Rattle.std.specs.Prelude.{◌≡◌, ◌+◌, ℕ, List, Option, length};
 
 /// A value that is a base and the events after it. Each event raises its position by one.
 pub trait Grown {
-    /// What the events come after.
+    /// The type of the base.
     type Base;
 
     /// One event.
     type Entry;
 
-    // What the events of a value come after.
+    // The base of a value, which precedes its events.
     ghost base: { Self → Self.Base };
 
     // The position at which a base ends, before the first event.
@@ -18,8 +18,7 @@ pub trait Grown {
     // The events after the base, in order.
     ghost events: { Self → List Self.Entry };
 
-    // What closed the value, if it is closed: its events, to which this doesn't belong, stay as
-    // they are from now on.
+    // The entry that closed the value, if it is closed. It isn't among the events, which stay as they are from then on.
     ghost closed: { Self → Option Self.Entry };
 
     /// The position at which the events end.

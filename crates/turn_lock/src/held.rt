@@ -1,4 +1,4 @@
-//! What a turn gives.
+//! The value during a turn.
 
 /// The value, while one pass has the turn. It has no `Drop`: the caller that takes it must give it back.
 pub struct Held<V> {

@@ -1,5 +1,5 @@
-//! A lock that serves its holders in the order of their tickets, around one value whose events only grow. A
-//! pass carries what its holder has seen of the value, and which events it added.
+//! A lock around one value whose events only grow. It serves its holders in the order of their tickets. A pass carries
+//! what its holder has seen of the value, and which events it added.
 #![tactic(auto)]
 
 mod backoff;

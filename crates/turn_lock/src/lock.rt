@@ -7,15 +7,14 @@ use atomic_table::Table;
 use std::alloc::Global;
 use std::marker::Model;
 
-// The word that has the next ticket to draw, the word that has the ticket served, and the word that
-// has the position at which the events end.
+// The indexes of the words: the next ticket to draw, the ticket served, and the position at which the events end.
 pub(crate) const NEXT: usize = 0;
 
 pub(crate) const SERVING: usize = 1;
 
 pub(crate) const END: usize = 2;
 
-// The slot that has the value.
+// The slot of the value.
 pub(crate) const VALUE: usize = 0;
 
 /// A lock around one value, which serves its passes in the order of their tickets.

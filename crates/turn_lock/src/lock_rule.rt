@@ -1,4 +1,4 @@
-//! The rule of the lock, and what its steps tell. These types are only for the proofs.
+//! The rule of the lock, and what its steps report. These types are only for the proofs.
 use crate::grown::Grown;
 use crate::opening::Opening;
 use crate::view::PassState;
@@ -54,7 +54,7 @@ impl<S, B, E> Play<S, PassState<B, E>> for Advance {
     ghost then = { Advances };
 }
 
-/// Looks back at the two passes that were joined.
+/// Checks the two passes that were joined.
 pub struct Count;
 
 impl<S, B, E> Play<S, PassState<B, E>> for Count {
@@ -74,7 +74,7 @@ impl Cutting for Brand {
     ghost count = { 0 };
 }
 
-/// A split that gives as many shares away as `C` says.
+/// A split that gives away as many shares as `C` says.
 pub struct Cut<C> {
     cutting: PhantomData<C>,
 }

@@ -1,4 +1,4 @@
-//! How a lock is made.
+//! How a lock is created.
 ghost use Rattle.std.specs.Prelude.{◌≡◌, ◌<◌, [], ◌∷◌, Some, MatchResult};
 ghost use Rattle.turn_lock.specs.Made.{Makes};
 
@@ -17,7 +17,7 @@ pub enum MadeLock<V: Grown> {
     NoMemory(V),
 }
 
-// The value alone in a list, or the value back.
+// A list of the value, or the value itself if memory ran out.
 fn put_in_slot<V>(alloc: Global, value: V) -> Result<Vec<Option<V>>, V>
     ensures { MatchResult result (λ slots. slots.items ≡ Some value ∷ []) (λ v. v ≡ value) }
 {
@@ -31,7 +31,7 @@ fn put_in_slot<V>(alloc: Global, value: V) -> Result<Vec<Option<V>>, V>
     }
 }
 
-// The value that stands alone in the list.
+// The value of a list that has only it.
 fn take_from_slot<V>(mut slots: Vec<Option<V>>) -> V
     requires { (v : V) × (slots.items ≡ Some v ∷ []) }
     ensures { slots.items ≡ Some result ∷ [] }

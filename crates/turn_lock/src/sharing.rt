@@ -24,7 +24,7 @@ impl<V: Grown> TurnLock<V> {
         self.table.shared.split_seat::<Cut<C>>(seat)
     }
 
-    /// Moves shares to a new pass, which has seen as much and has made nothing.
+    /// Moves shares to a new pass, which has seen as much and has added nothing.
     pub fn split(&self, pass: &mut Pass<V>, shares: u32) -> Pass<V>
         requires lock { IsPassOf self.now pass.old }
         requires shares { (0 < shares) × (shares < shares_of pass.old) }
@@ -46,8 +46,8 @@ impl<V: Grown> TurnLock<V> {
         }
     }
 
-    /// Joins two passes. The result has seen the longer list, which begins with the other, and has made what
-    /// both made.
+    /// Joins two passes. The result has seen the longer list, which begins with the other, and has added what both
+    /// added.
     pub fn join(&self, a: Pass<V>, b: Pass<V>) -> Pass<V>
         requires lock { IsPassOf self.now a × IsPassOf self.now b }
         requires idle { IsIdle a × IsIdle b }

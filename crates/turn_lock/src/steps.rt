@@ -15,7 +15,7 @@ use std::sync::Wait;
 use std::thread;
 
 impl<V: Grown> TurnLock<V> {
-    // Takes the ticket, where it is still the next one.
+    // Takes the ticket if it is still the next one.
     fn try_draw(&self, seat: &mut TableSeat<V>, ticket: u64) -> bool
         requires seat { seat.old.table_id ≡ self.now.lock }
         requires idle { (seat.old.me.0.stage ≡ Idle) × (0 < seat.old.me.0.shares) }
@@ -106,7 +106,7 @@ impl<V: Grown> TurnLock<V> {
         }
     }
 
-    // Puts the value back, publishes where its events end, and serves the next ticket.
+    // Puts the value back, publishes the position at which its events end, and serves the next ticket.
     pub(crate) fn publish(&self, seat: &mut TableSeat<V>, value: V, ticket: u64, position: u64)
         requires seat { seat.old.table_id ≡ self.now.lock }
         requires turn { IsInTurn ticket seat.old.me }

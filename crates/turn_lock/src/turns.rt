@@ -32,8 +32,8 @@ impl<V: Grown> TurnLock<V> {
         Held { value, ticket }
     }
 
-    /// Puts the value back, and ends the turn. The pass has then seen its events, and has made the
-    /// positions of those that this turn added.
+    /// Puts the value back, and ends the turn. The pass has then seen its events, and has added the positions of those
+    /// from this turn.
     pub fn give(&self, pass: &mut Pass<V>, held: Held<V>)
         requires lock { IsPassOf self.now pass.old }
         requires turn { IsTurnOf pass.old held }

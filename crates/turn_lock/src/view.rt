@@ -1,13 +1,13 @@
 //! What a pass knows, only for the proofs. No value of these types is ever created.
 use std::collections::LinkedList;
 
-/// How far a pass is on its way to its turn.
+/// The stage of a pass on the way to its turn.
 pub enum Stage<E> {
     Idle,
     /// It has this ticket.
     Waiting(u64),
-    /// It has the turn by this ticket. With it, the events of the value as the others know them,
-    /// and what closed it, if it is closed.
+    /// It has the turn by this ticket. The stage also has the events of the value as the others know them, and what
+    /// closed it, if it is closed.
     Turn(u64, LinkedList<E>, Option<E>),
 }
 

@@ -32,7 +32,7 @@ fn takes(rt: &impl Abort, lines: &mut Lines, source: &mut MemSource, want: &[u8]
     assert_eq!(rt; lines.line(), want);
 }
 
-/// Takes the next lines, which must be this one so many times.
+/// Takes the next `times` lines, each of which must be this one.
 fn takes_times(rt: &impl Abort, lines: &mut Lines, source: &mut MemSource, want: &[u8], times: u32)
     requires is_open { lines.old.is_open ≡ true }
     requires follows { Follows lines.old source.old.ended (Some source.old.left) }

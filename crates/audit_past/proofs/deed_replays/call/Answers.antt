@@ -19,7 +19,7 @@ use Rattle.audit_past.proofs.TellViews.{fill_met, told_view, told_view_fits, tol
 use Rattle.audit_past.proofs.TellWalks.{call_nothing, came_within, met_by, met_here}
 use Rattle.audit_past.proofs.deed_replays.call.Goals as goal
 
--- ---- calls that may make an event
+-- ---- calls that may append an event
 
 pub with_place-requires : goal.with_place-requires
 with_place-requires g c =
@@ -109,7 +109,7 @@ returns-in-Some-with_place-3 g c =
     deed_met g.P.Shot.Shown all c.args.at c.args.deed (deeds.Cut a c.in-Cut.then) (Some (record { outcome = outcomes_of.Cut a c.in-Cut.then m.came; at = m.at })) c.in-Cut.is
     (met_by g.P.Shot.Shown all c.args.at (cut_meets c.in-Cut.then) (act_of_cut a.view a.lo a.hi h) c.cut-came.result m (λ p read r. cut_left p a.min c.in-Cut.then r) (outcomes_of.Cut a c.in-Cut.then m.came) c.requires.within c.cut-came.ensures (sym c.with_place-in-Cut.ensures ∙ c.in-Some-with_place-3.is) (λ p read. refl) (tt) refl)
 
--- ---- a finish, and what makes no event
+-- ---- a finish, and calls without events
 
 pub returns-in-Finish : goal.returns-in-Finish
 returns-in-Finish g c = deed_met g.P.Shot.Shown (g.P.Past.all c.args.past.now) c.args.at c.args.deed (deeds.Finish c.in-Finish._job c.in-Finish.finishing) c.finish.result c.in-Finish.is c.finish.ensures

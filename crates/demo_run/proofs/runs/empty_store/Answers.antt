@@ -1,4 +1,4 @@
--- A disk without a byte represents the empty history, and is not damaged.
+-- An empty disk represents the empty history, and isn't damaged.
 use Rattle.std.proofs.Common.{◌≡◌, ◌∙◌, ap, [], Some}
 use Rattle.std.proofs.lemmas.Result.{IfOk-weaker}
 use Rattle.ts_disk.specs.MemDisk.{known_bytes}

@@ -1,4 +1,4 @@
--- The source holds the text of the script, whose lines are those of the demonstration.
+-- The source has the text of the script, whose lines are those of the demonstration.
 use Rattle.std.proofs.Common.{◌≡◌, ◌∙◌, sym, ap, subst, ◌≤◌, length}
 use Rattle.std.specs.Prelude.{IfOk}
 use Rattle.ts_io.specs.declared.limits.TheConstants.{INPUT_LIMIT}

@@ -1,4 +1,4 @@
--- The rows that the table shows are those that it has.
+-- The rows that the table shows are all its rows.
 use Rattle.std.proofs.Common.{◌∙◌}
 use Rattle.std.proofs.lemmas.Result.{IfOk-weaker}
 use Rattle.demo_run.proofs.SumLaws.{shown_are_rows}

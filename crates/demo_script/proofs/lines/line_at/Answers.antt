@@ -1,4 +1,4 @@
--- Each line stands in the script where its number says.
+-- Each line has the index in the script that its number says.
 use Rattle.std.proofs.Common.{◌∙◌, ap, arith}
 use Rattle.demo_script.specs.Demo.{demo_lines, line_at}
 use Rattle.demo_script.proofs.PlaceLaws.{middle, outside}

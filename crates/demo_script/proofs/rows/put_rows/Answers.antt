@@ -1,4 +1,4 @@
--- The first row stands alone, each further one behind a comma and a space.
+-- The first row has no comma before it, and each further one follows a comma and a space.
 use Rattle.std.proofs.Common.{◌≡◌, ◌∙◌, sym, ap, ◌+◌, ◌-◌, ◌++◌, codes, arith}
 use Rattle.std.proofs.lemmas.List.{append_assoc}
 use Rattle.std.specs.String.{string_bytes}

@@ -1,4 +1,4 @@
--- Where there is no line, its number is outside of the script.
+-- If there is no line, its number is outside the script.
 use Rattle.std.proofs.Common.{◌≡◌, ◌∙◌, sym, ap, subst, None, Some, ◌<◌}
 use Rattle.std.specs.Prelude.{◌⊎◌, ◌↔◌}
 use Rattle.demo_script.proofs.PlaceLaws.{none_outside}

@@ -1,4 +1,4 @@
--- Line by line the script is written, up to the last.
+-- The script is written line by line, up to the last.
 use Rattle.std.proofs.Common.{◌≡◌, ◌∙◌, ap, ◌+◌, ◌++◌, take, arith}
 use Rattle.std.specs.List.{flat_map}
 use Rattle.demo_script.specs.Demo.{demo_lines, line_at, with_end}

@@ -1,4 +1,4 @@
--- The range is written behind the call.
+-- The range is written after the call.
 use Rattle.std.proofs.Common.{◌∙◌, ap, subst, ◌*◌, ◌++◌, ◌≡◌, codes, FitsSigned, rules}
 use Rattle.std.specs.Prelude.{OnOk}
 use Rattle.std.specs.Int.{w64, cast_signed, cast_unsigned}

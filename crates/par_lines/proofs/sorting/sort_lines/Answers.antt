@@ -1,4 +1,4 @@
--- A line more is sorted, and at the end of the input all lines are.
+-- Each step sorts one more line, and at the end of the input all lines are sorted.
 use Rattle.std.proofs.Common.{◌≡◌, ◌+◌, ◌-◌, ◌≤◌, length, drop, ap, arith, length-drop, length-take}
 use Rattle.par_lines.specs.Sorted.{Sorted, sorted_lines}
 use Rattle.par_lines.specs.Places.{sorted_of}

@@ -1,4 +1,4 @@
--- What is sorted so far, and then the lines that are left, are the whole input sorted.
+-- The lines sorted so far, and then those that are left, are the whole input sorted.
 use Rattle.std.proofs.Common.{◌≡◌, ◌+◌, ◌-◌, ◌≤◌, length, drop}
 use Rattle.std.specs.List.{All}
 use Rattle.ts_io.specs.Lines.{lines_of}

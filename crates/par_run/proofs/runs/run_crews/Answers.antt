@@ -16,7 +16,7 @@ use Rattle.transcript.specs.declared.transcripts.SessionTranscript.{SessionTrans
 use Rattle.par_run.proofs.runs.run_crews.Goals as goal
 use Rattle.par_run.proofs.runs.run_crews.Goals.{then-enough, else-enough}
 
--- if the run didn't run out of memory, each worker had enough
+-- if the run didn't run out of memory, no worker did
 replied : (g : _) (c : goal.After-end_run g) → c.end_run.result.stop ≢ NoMemory
     → HasReplied (list_any ran_out (workers_of c.run_crew-pass.new.crew.items) ≡ false) (list_any ran_out (workers_of c.run_crew-pass-2.new.crew.items) ≡ false) (list_any ran_out (workers_of c.run_crew-pass-3.new.crew.items) ≡ false)
     (c.end_run.result.stop ≡ stop_by (stands_still (g.B.Backend.state c.snap.new.self)))

@@ -1,4 +1,4 @@
--- A line that no session answers leaves all as it was, and any other is that of its session.
+-- A line that no session answers changes nothing, and any other is a line of its session.
 use Rattle.std.proofs.Common.{arith, length, refl, sym}
 use Rattle.stmt_tokens.specs.declared.lines.LineKind.TheVariants.{Blank, NotAscii, NoSession, Stmt}
 use Rattle.ts_sessions.specs.declared.replies.StepEnd.TheVariants.{Reply}

@@ -1,4 +1,4 @@
--- A line is its session's statement.
+-- A line is the statement of its session.
 use Rattle.std.proofs.Common.{◌≡◌, suc, ◌-◌, ◌∙◌, ap, arith, drop, length, length-take, subst, take}
 use Rattle.ts_sessions.specs.Script.{executes_as, places_of}
 use Rattle.script_run.specs.LineEnds.{LineExecuted}

@@ -1,4 +1,4 @@
--- Each line more is done, and each ending says what was done.
+-- Each line adds to what is done, and each ending says what was done.
 use Rattle.std.proofs.Common.{◌≡◌, ◌<◌, ◌^◌, ℕ, List, [], length, sym, ap, ◌∙◌, subst, arith, refl}
 use Rattle.std.specs.Io.KnownBytes.{prepend_known}
 use Rattle.script_run.specs.Sessions.{sessions_of, script_state_of, waiting_in, AreSessions}

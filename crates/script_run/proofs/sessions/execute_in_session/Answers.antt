@@ -1,4 +1,4 @@
--- A session that has appeared takes its turn where its name is found.
+-- A session that has appeared takes its turn at the index of its name.
 use Rattle.std.proofs.Common.{ℕ, length, sym, ◌∙◌, arith}
 use Rattle.std.specs.Global.{Vec}
 use Rattle.ts_sessions.specs.Script.{places_of}

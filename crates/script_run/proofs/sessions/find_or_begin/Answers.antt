@@ -1,4 +1,4 @@
--- A new session is let in where there is room.
+-- A new session begins unless there are too many.
 use Rattle.std.proofs.Common.{true, None, arith, inl, length, refl, subst}
 use Rattle.ts_model.specs.Numbers.{too_many_sessions}
 use Rattle.result_text.specs.declared.replies.Said.TheVariants.{Fault}

@@ -20,7 +20,7 @@ use Rattle.ts_sessions.proofs.ViewWalks.{number_in, view_broken}
 use Rattle.ts_sessions.proofs.WalkLaws.{not_begun}
 use Rattle.ts_sessions.proofs.calls.call.Goals as goal
 
--- ---- what may make an event
+-- ---- calls that may append an event
 
 pub returns-in_err-tried-in-Make-clause-meets : goal.returns-in_err-tried-in-Make-clause-meets
 returns-in_err-tried-in-Make-clause-meets g c =
@@ -84,7 +84,7 @@ returns-in_ok-tried-in-Finish-clause-lost g c =
     let lost = finish_lost g.B.Backend.alone _ old _ _ new _ known c.in_ok-tried-in-Finish.ensures.tries in
     subst (λ d. IsLostBy d new) (sym c.in-Finish.is) (subst (λ n. IsTrue (is_lost new n)) k.1 lost)
 
--- ---- an aggregate that is made
+-- ---- a new aggregate
 
 pub returns-in_err-tried-in-View-clause-meets : goal.returns-in_err-tried-in-View-clause-meets
 returns-in_err-tried-in-View-clause-meets g c =
@@ -99,7 +99,7 @@ returns-in_ok-tried-in-View-clause-meets g c =
     let old = g.B.Backend.state c.args.backend.now in
     view_meets g.B.Shot.Shown g.B.Backend.alone old c.args.deed c.in-View.def c.in-View.filled _ _ c.in_ok-tried-in-View.tried c.into_result-came-in-View.result c.has_disk_fault-failed-in-View.result c.in_ok-new-in-View.new (g.B.Backend.state c.make_view-outcome.new.self) c.in-View.is c.make_view-outcome.ensures.called c.position.ensures c.in_ok-tried-in-View.ensures c.has_disk_fault-failed-in-View.ensures c.into_result-came-in-View.ensures c.in_ok-new-in-View.ensures.name c.in_ok-new-in-View.ensures.width
 
--- ---- an aggregate that is filled
+-- ---- an aggregate that will be filled
 
 pub returns-in_err-shot-in-Fill-clause-meets : goal.returns-in_err-shot-in-Fill-clause-meets
 returns-in_err-shot-in-Fill-clause-meets g c =

@@ -5,7 +5,7 @@ use Rattle.ts_sessions.proofs.DeedWalks.{broken_off, met_goes}
 use Rattle.ts_sessions.proofs.WalkLaws.{not_begun}
 use Rattle.ts_sessions.proofs.deeds.advance.Goals as goal
 
--- no memory for the call, or for what follows it
+-- out of memory for the call, or for what follows it
 pub returns-in_err-meeting-clause-advances : goal.returns-in_err-meeting-clause-advances
 returns-in_err-meeting-clause-advances g c = λ p read.
     broken_off g.B.Backend.alone (g.B.Backend.state c.args.backend.now) p read c.args.deed c.from_residual.result (g.B.Backend.state c.call.new.backend) _ _ c.from_residual.ensures.0 (c.in_err-meeting.ensures.meets p read) (omega arith)

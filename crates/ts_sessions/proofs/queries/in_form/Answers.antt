@@ -1,4 +1,4 @@
--- The aggregate that a roll-up names is there, or it isn't.
+-- The aggregate that a roll-up names exists or is missing.
 use Rattle.std.proofs.Common.{◌≡◌, ◌∙◌, ap, sym, subst, refl, ℕ, Bool, true, false, ◌≤◌, nat_lt, List, length, get_or, Some, None, IfOk, arith}
 use Rattle.std.specs.Prelude.{slice_get}
 use Rattle.std.proofs.lemmas.Bool.{ltb-true}

@@ -1,4 +1,4 @@
--- The audit is over the history that the journal stood for.
+-- The audit is over the history that the journal represented.
 use Rattle.std.proofs.Common.{◌≡◌, refl, sym, subst}
 use Rattle.ts_io.specs.Faults.{Counted}
 use Rattle.ts_model.specs.History.{History}

@@ -1,4 +1,4 @@
--- The text is read to its end, and audited beside the journal.
+-- The text is read to its end, and audited against the journal.
 use Rattle.std.proofs.Common.{◌≡◌, IfSome, refl, sym, subst}
 use Rattle.ts_io.specs.Faults.{Counted}
 use Rattle.script_run.specs.Runs.{ReadWhole}

@@ -1,4 +1,4 @@
--- What is printed is the line of the answer.
+-- The call prints the line of the answer.
 use Rattle.std.proofs.Common.{◌≡◌, sym, subst}
 use Rattle.ts_top.specs.Audits.{PrintsAudit}
 use Rattle.ts_top.specs.Checkpoints.{Prints}

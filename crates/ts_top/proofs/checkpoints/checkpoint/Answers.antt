@@ -1,4 +1,4 @@
--- Where a journal was opened the image of its history is saved.
+-- If the journal was opened, the image of its history is saved.
 use Rattle.std.proofs.Common.{◌≡◌, ℕ, List, Some, refl, sym, ap, ◌∙◌, subst}
 use Rattle.std.specs.Prelude.{IsSomeAnd, IsSome}
 use Rattle.ts_disk.specs.Disk.{Keeps}

@@ -1,4 +1,4 @@
--- What is printed is the line of the end.
+-- The call prints the line of the end.
 use Rattle.std.proofs.Common.{◌≡◌, sym, subst}
 use Rattle.ts_top.specs.Checkpoints.{Prints, TellsEnd}
 use Rattle.ts_top.specs.declared.endings.Status.TheVariants.{Done, Refused}

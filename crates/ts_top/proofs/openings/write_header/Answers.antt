@@ -1,4 +1,4 @@
--- The header stands, or the disk failed while it was written.
+-- The header exists, or the disk failed during its write.
 use Rattle.std.proofs.Common.{inr, true, sym, ap, ◌∙◌, subst}
 use Rattle.ts_io.specs.Faults.{Counted}
 use Rattle.ts_model.specs.History.{prefix}

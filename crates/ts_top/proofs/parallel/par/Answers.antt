@@ -1,4 +1,4 @@
--- Where a journal was opened its input is read and run.
+-- If the journal was opened, its input is read and run.
 use Rattle.std.proofs.Common.{IfSome, refl, sym, subst}
 use Rattle.std.specs.Prelude.{IsSomeAnd, IsSome}
 use Rattle.ts_disk.specs.Disk.{Keeps}

@@ -1,4 +1,4 @@
--- What the reading of the input came to decides whether it is run.
+-- The result of reading the input decides whether it is run.
 use Rattle.std.proofs.Common.{◌≡◌, inl, inr, ℕ, List, IfSome, refl, sym, subst}
 use Rattle.script_run.specs.Runs.{ReadWhole}
 use Rattle.ts_schema.specs.Faults.{Rose}

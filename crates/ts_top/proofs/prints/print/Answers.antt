@@ -1,4 +1,4 @@
--- The text is that of the history that the journal stood for.
+-- The text is that of the history that the journal represented.
 use Rattle.std.proofs.Common.{◌≡◌, IfSome, sym, subst}
 use Rattle.ts_model.specs.History.{History}
 use Rattle.engine_core.specs.Histories.{history_of}

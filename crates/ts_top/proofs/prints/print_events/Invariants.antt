@@ -1,4 +1,4 @@
--- The lines of the events before this place were printed.
+-- The lines of the events before this index were printed.
 use Rattle.std.proofs.Common.{◌≡◌, ◌+◌, drop}
 use Rattle.ts_top.specs.Logs.{lines_after}
 use Rattle.ts_top.proofs.LogLaws.{PrintedUpTo}

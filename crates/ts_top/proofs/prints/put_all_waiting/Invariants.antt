@@ -1,4 +1,4 @@
--- The lines of the refreshes before this place were appended.
+-- The lines of the refreshes before this index were appended.
 use Rattle.std.proofs.Common.{◌≡◌, ◌++◌, drop}
 use Rattle.ts_top.specs.Logs.{waiting_texts}
 use Rattle.ts_top.proofs.prints.put_all_waiting.Given as goal

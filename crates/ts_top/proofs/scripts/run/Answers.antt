@@ -1,4 +1,4 @@
--- Where a journal was opened its script is run.
+-- If the journal was opened, its script is run.
 use Rattle.std.proofs.Common.{IfSome, refl, sym, subst}
 use Rattle.std.specs.Prelude.{IsSomeAnd, IsSome}
 use Rattle.ts_disk.specs.Disk.{Keeps}

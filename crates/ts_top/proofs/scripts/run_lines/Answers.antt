@@ -1,4 +1,5 @@
--- What a script did over a store whose journal has its header, by how it ended and what the closed store says of its disk.
+-- What a script did on a store whose journal has its header, by how it ended and what the closed store reports about
+-- its disk.
 use Rattle.std.proofs.Common.{◌≡◌, ℕ, List, true, IfSome, sym, ap, ◌∙◌, subst}
 use Rattle.std.specs.Prelude.{IsSomeAnd, IsSome}
 use Rattle.ts_io.specs.Faults.{Counted}

@@ -9,7 +9,7 @@ use Rattle.engine_core.proofs.ActLaws.{answered_hyper, answered_mode, answered_t
 use Rattle.audit.proofs.CallLaws.{came_to}
 use Rattle.audit.proofs.known_history.KnownHistoryPast.make.Goals as goal
 
--- the call of a making is that of its event
+-- the call that creates or sets a relation is that of its event
 answered_making : (m : RelationChange) (h : History) → making_of m h ≡ with_answer (λ e. e.pos) (making_event (event_of m) h)
 answered_making (making.Table def) h = answered_table def h
 answered_making (making.Hyper table hyper) h = answered_hyper table hyper h

@@ -1,4 +1,4 @@
--- A session's first line is added behind all others, or its name is refused.
+-- A session's first line is added after all others, or its name is refused.
 use Rattle.std.proofs.Common.{◌<◌, ◌≤◌, ◌++◌, length, ◌∙◌, arith}
 use Rattle.std.proofs.lemmas.Result.{on_ok_weaker}
 use Rattle.result_text.specs.declared.replies.Said.TheVariants as said

@@ -1,4 +1,4 @@
--- A source in memory hasn't told its end at first.
+-- A source in memory hasn't reported its end at first.
 use Rattle.std.proofs.Common.{Some, ap}
 use Rattle.ts_io.specs.MemSource.{Supply}
 use Rattle.statement_tests.proofs.inputs.lines.start.Goals as goal

@@ -1,7 +1,7 @@
 use Rattle.ts_sessions.proofs.StepLaws.{if_answered, if_replied}
 use Rattle.ts_sessions.proofs.sessions.Session.close.Goals as goal
 
--- it was answered
+-- the line has a reply
 pub returns-in-Ok-clause-kept : goal.returns-in-Ok-clause-kept
 returns-in-Ok-clause-kept g c = if_replied c.args.failed c.args.reply c.step_end.result _ c.step_end.ensures
 

@@ -14,7 +14,7 @@ use Rattle.ts_sessions.proofs.WalkLaws.{not_begun}
 use Rattle.ts_sessions.proofs.OpeningLaws.{finish_first, names_first, next_first}
 use Rattle.ts_sessions.proofs.sessions.Session.first.Goals as goal
 
--- ---- what looks at no names
+-- ---- statements without names
 
 pub returns-in_err-opening-clause-opens : goal.returns-in_err-opening-clause-opens
 returns-in_err-opening-clause-opens g c =

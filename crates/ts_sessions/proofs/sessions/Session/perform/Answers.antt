@@ -10,7 +10,7 @@ use Rattle.ts_sessions.proofs.SessionLaws.{carried_places, kept_held, on_err, sp
 use Rattle.ts_sessions.proofs.WalkLaws.{goes_breaks}
 use Rattle.ts_sessions.proofs.sessions.Session.perform.Goals as goal
 
--- ---- no memory before anything was done
+-- ---- out of memory before anything was done
 
 pub returns-in_err-next-clause-ends : goal.returns-in_err-next-clause-ends
 returns-in_err-next-clause-ends g c =
@@ -31,7 +31,7 @@ returns-in_err-next-clause-holds g c =
     let k = c.in_err-next.ensures.kept in
     kept_held g.T.Shown g.met.T.Shown.fits_on c.args.self.now c.first.new.self old _ k.block k.held (goes_breaks g.B.Backend.alone old (performs (places_in c.args.self.now) c.args.bytes c.args.stmt.now) _ c.in_err-next.ensures.opens.0) c.requires.holds
 
--- ---- what came first was carried out
+-- ---- the first step was carried out
 
 pub carry_out-requires-clause-fits : goal.carry_out-requires-clause-fits
 carry_out-requires-clause-fits g c = λ _ _. (c.args.bytes, c.in_ok-next.ensures.opens.fits)

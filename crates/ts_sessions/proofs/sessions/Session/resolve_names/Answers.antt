@@ -16,7 +16,7 @@ use Rattle.ts_sessions.proofs.QueueLaws.{block_fits}
 use Rattle.ts_sessions.proofs.StateLaws.{goes_seen, looked_reports, sees_looked}
 use Rattle.ts_sessions.proofs.sessions.Session.resolve_names.Goals as goal
 
--- outside a read block what the store has seen is read
+-- outside a read block the session reads the present history of the store
 present : {T : Type 0} (o : Open T) (h : History) → (o ≡ opens.Nothing) ⊎ ((queue : Queue) × o ≡ opens.Write queue) → read_at (block_of o) h ≡ h
 present o h (inl e) = ap (λ b. read_at (block_of b) h) e
 present o h (inr w) = ap (λ b. read_at (block_of b) h) w.1

@@ -11,7 +11,7 @@ use Rattle.ts_sessions.proofs.SoundLaws.{asks_soundly}
 use Rattle.ts_sessions.proofs.WalkLaws.{not_begun}
 use Rattle.ts_sessions.proofs.sessions.Session.take_line.Goals as goal
 
--- what was read asks for something sound
+-- what the statement asks for is sound
 pub perform-requires-clause-sound : goal.perform-requires-clause-sound
 perform-requires-clause-sound g c = λ _ _. asks_soundly (length c.args.text.now) c.in-Stmt.stmt c.requires.short c.in-Stmt.ensures.written
 
@@ -24,7 +24,7 @@ returns-clause-ends g c =
     let procedure = step p c.args.text.now c.args.skip in
     broken alone old procedure p _ old _ _ (omega arith) (not_begun alone old procedure)
 
--- what may be lost is what the statement meant
+-- only the snapshot that the statement names may be lost
 pub returns-in-Stmt-clause-spared : goal.returns-in-Stmt-clause-spared
 returns-in-Stmt-clause-spared g c =
     let p = places_in c.args.self.now in
