@@ -7,8 +7,8 @@ from collections.abc import Iterator
 from sources import CRATES, TOP, crate_names
 
 README_WORDS = 1200
-CHOICE_WORDS = 14
-REASON_SENTENCES = 4
+CHOICE_WORDS = 12
+REASON_SENTENCES = 3
 MODULE_WORDS = 12
 CRATE_LINES = 50
 
