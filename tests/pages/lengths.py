@@ -21,10 +21,10 @@ PAGE_WORDS = {
     "docs/PERFORMANCE.md": 2230,
     "docs/PROOFS.md": 1300,
     "docs/RECIPES.md": 4600,
-    "docs/RELIABILITY.md": 1760,
+    "docs/RELIABILITY.md": 1770,
     "docs/SERVE.md": 1300,
     "docs/SQL.md": 9640,
-    "docs/TSQ.md": 2300,
+    "docs/TSQ.md": 2350,
 }
 CRATES_WORDS = 12000
 CHOICE_WORDS = 12
