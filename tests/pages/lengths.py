@@ -18,7 +18,7 @@ PAGE_WORDS = {
     "docs/GLOSSARY.md": 960,
     "docs/JOURNAL.md": 3940,
     "docs/MODEL.md": 2700,
-    "docs/PERFORMANCE.md": 2230,
+    "docs/PERFORMANCE.md": 2250,
     "docs/PROOFS.md": 1300,
     "docs/RECIPES.md": 4600,
     "docs/RELIABILITY.md": 1770,
