@@ -42,7 +42,7 @@ def words_of(page: str) -> int:
 
 
 def long_pages() -> Iterator[str]:
-    """Yields the pages that have too many words, those without a limit, and whether the crates' READMEs have too many."""
+    """Yields the pages that have too many words or no limit, and whether the crates' READMEs have too many."""
     pages = ["README.md", "CHANGES.md", "crates/README.md", *(f"docs/{page.name}" for page in TOP.glob("docs/*.md"))]
     for page in sorted(pages):
         if page not in PAGE_WORDS:

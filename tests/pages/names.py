@@ -172,7 +172,8 @@ def main() -> int:
     """Prints all complaints."""
     pages: list[tuple[Path, str | None]] = [(CRATES / name / "README.md", name) for name in crate_names()]
     pages += [(TOP / "docs" / f"{name}.md", None) for name in PAGES]
-    found = [*wrong_index(), *wrong_lists(), *all_wrong_sections(), *(wrong for page, crate in pages for wrong in complaints(page, crate))]
+    found = [*wrong_index(), *wrong_lists(), *all_wrong_sections()]
+    found += [wrong for page, crate in pages for wrong in complaints(page, crate)]
     print("\n".join(found) or "every name exists")
     return 1 if found else 0
 
