@@ -11,7 +11,7 @@ PAGE_WORDS = {
     "CHANGES.md": 1490,
     "crates/README.md": 1300,
     "docs/ARCHITECTURE.md": 2060,
-    "docs/COLUMNS.md": 1110,
+    "docs/COLUMNS.md": 1100,
     "docs/CONTRIBUTING.md": 1940,
     "docs/DECISIONS.md": 4070,
     "docs/FROM_TIMESCALEDB.md": 1400,
