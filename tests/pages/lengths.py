@@ -1,4 +1,4 @@
-"""Checks that pages stay as short as they are: README, the choices of DECISIONS, and lists of modules."""
+"""Checks that pages stay as short as they are: all pages, the choices of DECISIONS, and the crates' READMEs."""
 
 import re
 import sys
@@ -6,9 +6,29 @@ from collections.abc import Iterator
 
 from sources import CRATES, TOP, crate_names
 
-README_WORDS = 1200
-CHOICE_WORDS = 14
-REASON_SENTENCES = 4
+PAGE_WORDS = {
+    "README.md": 1200,
+    "CHANGES.md": 1490,
+    "crates/README.md": 1300,
+    "docs/ARCHITECTURE.md": 2060,
+    "docs/COLUMNS.md": 1100,
+    "docs/CONTRIBUTING.md": 1940,
+    "docs/DECISIONS.md": 4070,
+    "docs/FROM_TIMESCALEDB.md": 1400,
+    "docs/GLOSSARY.md": 960,
+    "docs/JOURNAL.md": 3940,
+    "docs/MODEL.md": 2700,
+    "docs/PERFORMANCE.md": 2250,
+    "docs/PROOFS.md": 1300,
+    "docs/RECIPES.md": 4600,
+    "docs/RELIABILITY.md": 1770,
+    "docs/SERVE.md": 1300,
+    "docs/SQL.md": 9640,
+    "docs/TSQ.md": 2350,
+}
+CRATES_WORDS = 12000
+CHOICE_WORDS = 12
+REASON_SENTENCES = 3
 MODULE_WORDS = 12
 CRATE_LINES = 50
 
@@ -16,11 +36,22 @@ CHOICE = re.compile(r"^- \*\*(.*?)\*\*(.*)$", re.M)
 SENTENCE_END = re.compile(r"[.!?](?= |$)")
 
 
-def long_readme() -> Iterator[str]:
-    """Yields whether the first page has too many words."""
-    words = len((TOP / "README.md").read_text().split())
-    if words > README_WORDS:
-        yield f"README.md: {words} words, at most {README_WORDS}"
+def words_of(page: str) -> int:
+    """Returns how many words a page has, with the signs between the columns of its tables."""
+    return len((TOP / page).read_text().split())
+
+
+def long_pages() -> Iterator[str]:
+    """Yields the pages that have too many words or no limit, and whether the crates' READMEs have too many."""
+    pages = ["README.md", "CHANGES.md", "crates/README.md", *(f"docs/{page.name}" for page in TOP.glob("docs/*.md"))]
+    for page in sorted(pages):
+        if page not in PAGE_WORDS:
+            yield f"{page}: no limit of its words"
+        elif words_of(page) > PAGE_WORDS[page]:
+            yield f"{page}: {words_of(page)} words, at most {PAGE_WORDS[page]}"
+    words = sum(words_of(f"crates/{crate}/README.md") for crate in crate_names())
+    if words > CRATES_WORDS:
+        yield f"crates/*/README.md: {words} words, at most {CRATES_WORDS}"
 
 
 def long_choices() -> Iterator[str]:
@@ -45,7 +76,7 @@ def long_modules(crate: str) -> Iterator[str]:
 
 def main() -> int:
     """Prints all that is too long."""
-    found = [*long_readme(), *long_choices(), *(long for crate in crate_names() for long in long_modules(crate))]
+    found = [*long_pages(), *long_choices(), *(long for crate in crate_names() for long in long_modules(crate))]
     print("\n".join(found) or "no page is too long")
     return 1 if found else 0
 

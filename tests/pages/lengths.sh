@@ -1,3 +1,3 @@
 #!/usr/bin/env bash
-# README, the choices of DECISIONS and the crates' READMEs are no longer than they should be.
+# Pages, the choices of DECISIONS and the READMEs of crates are no longer than they should be.
 python3 "$TSCTL_TOP/tests/pages/lengths.py"

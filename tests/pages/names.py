@@ -2,7 +2,8 @@
 
 In a crate's README each name has to be one of the crates' sources. "`f`, `g` (`a`, `b`)" says that `a` and `b` are
 clauses of one of these functions, and "Modules" lists the crate's modules, each once. In the pages of docs/ only names
-with an underscore or "::" and paths are checked, since these have words of the shell and of SQL too.
+with an underscore or "::", clauses and paths are checked, since these have words of the shell and of SQL too. What a
+page, a comment or a script names as a section ("Limits" in `docs/SQL.md`, or a link with an anchor) is a heading there.
 """
 
 import re
@@ -28,6 +29,14 @@ CODE = re.compile(r"`([^`\n]+)`")
 PATH = re.compile(r"^[A-Za-z_0-9.]+(/[A-Za-z_0-9.]+)+/?$")
 NAME = re.compile(r"^[A-Za-z_]\w*(::[A-Za-z_]\w*)*$")
 REFUSAL = re.compile(r"^E\d\d$")
+CITING = """
+    *.md */README.md crates/*/README.md crates/*/src/*.rt crates/*/specs/*.antt docs/*.md bin/* man/*/* tools/*
+    tools/*/*.py tests/*/*.sh tests/*/*.py trials/* trials/lib/*.py bench/*
+""".split()
+SECTION_OF = re.compile(r'"([^"\\\n]+)\\?" (?:in|of) `?(docs/\w+\.md|README\.md)\b')
+PAGE_AND_SECTION = re.compile(r'(docs/\w+\.md|README\.md)`?(?:,|[^".;\n]* under) "([^"\n]+)"')
+ANCHOR = re.compile(r"\]\((?!https?:)([^)#\s]*)#([^)\s]+)\)")
+HEADING = re.compile(r"^#+ +(.+)$", re.M)
 CLAUSES = re.compile(r"((?:`[\w:]+`(?:, | and )?)+) \(((?:`\w+`(?:, )?)+)[,;)]")
 FENCE = re.compile(r"^```.*?^```", re.M | re.S)
 
@@ -68,6 +77,34 @@ def wrong_clauses(line: str) -> Iterator[str]:
         if known:
             unknown = (clause for clause in CODE.findall(clauses) if clause not in known)
             yield from (f"no clause {clause} of {', '.join(names)}" for clause in unknown)
+
+
+def headings(page: Path) -> list[str]:
+    """Returns the headings of a page as plain text."""
+    text = blank_fences(page.read_text()) if page.exists() else ""
+    return [heading.replace("`", "") for heading in HEADING.findall(text)]
+
+
+def anchors(page: Path) -> list[str]:
+    """Returns the anchors of a page's headings, as Markdown makes them."""
+    return [re.sub(r"[^\w\- ]", "", heading.lower()).replace(" ", "-") for heading in headings(page)]
+
+
+def wrong_sections(file: Path) -> Iterator[str]:
+    """Yields the sections that a file names and that their page hasn't."""
+    text = file.read_text(errors="replace")
+    named = [*SECTION_OF.findall(text), *((section, page) for page, section in PAGE_AND_SECTION.findall(text))]
+    yield from (f"{page} has no {section}" for section, page in named if section not in headings(TOP / page))
+    for path, anchor in ANCHOR.findall(text) if file.suffix == ".md" else []:
+        page = file.parent / path if path else file
+        if anchor not in anchors(page):
+            yield f"{page.relative_to(TOP)} has no #{anchor}"
+
+
+def all_wrong_sections() -> Iterator[str]:
+    """Yields the same for all pages, comments and scripts, each with its file."""
+    for file in sorted({path for pattern in CITING for path in TOP.glob(pattern) if path.is_file()}):
+        yield from (f"{file.relative_to(TOP)}: {wrong}" for wrong in wrong_sections(file))
 
 
 def wrong_modules(text: str, crate: str) -> Iterator[str]:
@@ -125,7 +162,7 @@ def complaints(page: Path, crate: str | None) -> Iterator[str]:
     place = page.relative_to(TOP)
     text = blank_fences(page.read_text())
     for number, line in enumerate(text.splitlines(), 1):
-        for wrong in [*missing_in(line, crate), *(wrong_clauses(line) if crate else [])]:
+        for wrong in [*missing_in(line, crate), *wrong_clauses(line)]:
             yield f"{place}:{number}: {wrong}"
     if crate:
         yield from (f"{place}: {wrong}" for wrong in [*wrong_modules(text, crate), *laws_left_out(crate)])
@@ -135,7 +172,8 @@ def main() -> int:
     """Prints all complaints."""
     pages: list[tuple[Path, str | None]] = [(CRATES / name / "README.md", name) for name in crate_names()]
     pages += [(TOP / "docs" / f"{name}.md", None) for name in PAGES]
-    found = [*wrong_index(), *wrong_lists(), *(wrong for page, crate in pages for wrong in complaints(page, crate))]
+    found = [*wrong_index(), *wrong_lists(), *all_wrong_sections()]
+    found += [wrong for page, crate in pages for wrong in complaints(page, crate)]
     print("\n".join(found) or "every name exists")
     return 1 if found else 0
 

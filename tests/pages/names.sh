@@ -1,3 +1,3 @@
 #!/usr/bin/env bash
-# What pages and the crates' READMEs name in backticks exists in the sources.
+# What pages and the READMEs of crates name exists: in the sources, or as a section of a page.
 python3 "$TSCTL_TOP/tests/pages/names.py"
