@@ -1,4 +1,4 @@
-"""Checks that pages stay as short as they are: README, the choices of DECISIONS, and lists of modules."""
+"""Checks that pages stay as short as they are: README, pages, the choices of DECISIONS, and lists of modules."""
 
 import re
 import sys
@@ -7,6 +7,15 @@ from collections.abc import Iterator
 from sources import CRATES, TOP, crate_names
 
 README_WORDS = 1200
+PAGE_WORDS = {
+    "FROM_TIMESCALEDB": 1400,
+    "JOURNAL": 3950,
+    "MODEL": 2700,
+    "RECIPES": 4650,
+    "SERVE": 1300,
+    "SQL": 9650,
+    "TSQ": 2300,
+}
 CHOICE_WORDS = 14
 REASON_SENTENCES = 4
 MODULE_WORDS = 12
@@ -21,6 +30,14 @@ def long_readme() -> Iterator[str]:
     words = len((TOP / "README.md").read_text().split())
     if words > README_WORDS:
         yield f"README.md: {words} words, at most {README_WORDS}"
+
+
+def long_pages() -> Iterator[str]:
+    """Yields the pages of docs/ that have too many words."""
+    for page, most in PAGE_WORDS.items():
+        words = len((TOP / "docs" / f"{page}.md").read_text().split())
+        if words > most:
+            yield f"docs/{page}.md: {words} words, at most {most}"
 
 
 def long_choices() -> Iterator[str]:
@@ -45,7 +62,8 @@ def long_modules(crate: str) -> Iterator[str]:
 
 def main() -> int:
     """Prints all that is too long."""
-    found = [*long_readme(), *long_choices(), *(long for crate in crate_names() for long in long_modules(crate))]
+    modules = (long for crate in crate_names() for long in long_modules(crate))
+    found = [*long_readme(), *long_pages(), *long_choices(), *modules]
     print("\n".join(found) or "no page is too long")
     return 1 if found else 0
 
