@@ -11,7 +11,7 @@ PAGE_WORDS = {
     "FROM_TIMESCALEDB": 1400,
     "JOURNAL": 3950,
     "MODEL": 2700,
-    "RECIPES": 4650,
+    "RECIPES": 4600,
     "SERVE": 1300,
     "SQL": 9650,
     "TSQ": 2300,
