@@ -9,11 +9,11 @@ from sources import CRATES, TOP, crate_names
 README_WORDS = 1200
 PAGE_WORDS = {
     "FROM_TIMESCALEDB": 1400,
-    "JOURNAL": 3950,
+    "JOURNAL": 3940,
     "MODEL": 2700,
     "RECIPES": 4600,
     "SERVE": 1300,
-    "SQL": 9650,
+    "SQL": 9640,
     "TSQ": 2300,
 }
 CHOICE_WORDS = 14
