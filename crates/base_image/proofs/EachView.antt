@@ -1,4 +1,4 @@
--- What is kept of each aggregate, read one after the other, as a loop does.
+-- What is kept of each aggregate, read in order, as a loop does.
 use Rattle.std.proofs.Common.{◌≡◌, ℕ, List, [], ◌∷◌, ◌++◌, Result, Ok, Err, refl, sym, ap, ◌∙◌, append_assoc}
 use Rattle.std.proofs.lemmas.List.{append-nil}
 use Rattle.ts_model.specs.declared.images.SavedView.{SavedView}

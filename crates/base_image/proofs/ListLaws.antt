@@ -15,7 +15,7 @@ none_left (x ∷ xs) h = absurd (omega arith)
 
 -- ---- a test of all items, from the front
 
--- what is left tells whether all pass
+-- what is left shows whether all pass
 abbrev pub IsToldBy : {X : Type 0} → (X → Bool) → List X → List X → Type 0
 IsToldBy p all left = list_all p left ≡ list_all p all
 

@@ -23,7 +23,7 @@ make_next true r (Commit ops) es = refl
 make_next true r (Cut v span) es = refl
 make_next true r (Built cut snap) es = refl
 
--- what is left tells what all events make
+-- what is left shows what all events make
 pub record MakesRest (all : List Event) (begun : Bool) (made : Roster) (left : List Event) : Type 0 where
   pub allowed : make_relations no_relations all ≡ make_rest begun made left
   pub made_is : roster_over no_relations all ≡ roster_over made left

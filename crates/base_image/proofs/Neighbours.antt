@@ -1,4 +1,4 @@
--- What passes on from each item to the next holds of each and every later one.
+-- What passes on from each item to the next is true of each and every later one.
 use Rattle.std.proofs.Common.{◌≡◌, ℕ, zero, suc, ◌+◌, ◌<◌, Bool, true, false, ◌&&◌, not, nat_lt, int_le, List, [], ◌∷◌, map, length, get_or, refl, sym, ap, ◌∙◌, subst, arith, tests}
 use Rattle.std.specs.Cmp.{IsTotalOrder, nat_cmp_total, upto}
 use Rattle.std.specs.List.{list_all, IsAllAdjacentAnswer, AllAdjacentBelow}
@@ -106,7 +106,7 @@ stand_is : {K : Type 0} (cmp : K → K → Ordering) (xs : List K) → all_stand
 stand_is cmp [] = refl
 stand_is cmp (x ∷ xs) = ap (λ (t : Bool). list_all (λ y. not (is_gt (cmp x y))) xs && t) (stand_is cmp xs)
 
--- items stand in order
+-- items are in order
 pub stands : {K : Type 0} (cmp : K → K → Ordering) → IsTotalOrder cmp → (xs : List K) (r : Bool) → IsAllAdjacentAnswer (λ x y b. b ≡ not (is_gt (cmp x y))) xs r → r ≡ all_stand cmp xs
 stands {K} cmp total xs r h =
     let on : PassesOn (λ (x y : K). not (is_gt (cmp x y))) = λ x y z p q. ap not (upto total x y z (not-true _ p) (not-true _ q)) in

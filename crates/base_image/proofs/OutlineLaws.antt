@@ -39,7 +39,7 @@ more_made f xs i x l is = step xs i l is ∙ ap (λ n. flat_map f (take n xs)) (
     step (y ∷ ys) zero l is = ap f is ∙ sym (append-nil (f y))
     step (y ∷ ys) (suc i) l is = append_assoc (f y) (flat_map f (take i ys)) (f x) ∙ ap (λ zs. f y ++ zs) (step ys i (omega arith) is)
 
--- what holds of all rows holds of those of a span
+-- what is true of all rows is true of those of a span
 pub all_in : (P : Row → Type 0) (s : Span) (rows : List Row) → AllByRecursion P rows → AllByRecursion P (rows_in s rows)
 all_in P s [] all = tt
 all_in P s (row ∷ rows) all =

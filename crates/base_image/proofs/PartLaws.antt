@@ -157,7 +157,7 @@ each_exact (def ∷ defs) = map_exact put_before (λ x. bytes_of_saved_view x.0 
     back [] h = absurd h
     back (v ∷ vs) h = record { value = (v, vs); ok = h; same = refl; spelled = refl }
 
--- as many as a count tells
+-- as many as a count says
 abbrev pub AreViewsOf : List ViewDef → List SavedView → Type 0
 AreViewsOf defs vs = IsFour (length vs) × AreSavedOf defs vs
 

@@ -104,13 +104,13 @@ is_formed bytes i r end h = formed i (image_read bytes (i, r) end h).0.0
 pub is_spelled : (bytes : List ℕ) (i : Image) (r : Roster) (end : List ℕ) → whole_image bytes ≡ Ok ((i, r), end) → bytes ≡ image i
 is_spelled bytes i r end h = (image_read bytes (i, r) end h).1
 
--- another image than the one that was read isn't spelled so
+-- another image than the one that was read isn't written so
 pub not_another : (bytes : List ℕ) (j : Image) (r : Roster) (end : List ℕ) → whole_image bytes ≡ Ok ((j, r), end) → valid j ≡ false → (i : Image) → IsFormed i → valid i ≡ true → bytes ≡ image i → ⊥
 not_another bytes j r end h never i is ok spelled =
     let same : i ≡ j = ap (λ (x : Image × Roster). x.0) (same_value (i, image_roster i) (j, r) [] end (sym (image_again i (readable i is ok)) ∙ sym (ap whole_image spelled) ∙ h)) in
     true≢false (sym ok ∙ ap valid same ∙ never)
 
--- where nothing is read, no image is spelled so
+-- if nothing is read, no image is written so
 pub not_one : (bytes left : List ℕ) → whole_image bytes ≡ Err left → (i : Image) → IsFormed i → valid i ≡ true → bytes ≡ image i → ⊥
 not_one bytes left h i is ok spelled =
     let read : whole_image bytes ≡ Ok ((i, image_roster i), []) = ap whole_image spelled ∙ image_again i (readable i is ok) in

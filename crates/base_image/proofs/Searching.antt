@@ -20,7 +20,7 @@ use Rattle.ts_model.specs.declared.images.SavedLast.{SavedLast}
 use Rattle.ts_model.specs.declared.refreshes.Waiting.{Waiting}
 use Rattle.base_image.specs.Rising.{are_rising, spans_of}
 
--- ---- any list whose front passes p, where q holds of nothing but the first item after that front
+-- ---- any list whose front passes p, if q holds of nothing but the first item after that front
 
 abbrev pub IsSearched : {X : Type 0} → (X → Bool) → (X → Bool) → List X → Type 0
 IsSearched p q [] = Unit {0}
@@ -47,7 +47,7 @@ place_is p (x ∷ xs) (suc i) l h =
     let next : suc (prefix_len p xs) ≡ 1 + prefix_len p xs = omega arith in
     ap suc rest ∙ next ∙ sym (ap (λ b. cond b (1 + prefix_len p xs) 0) passes)
 
--- a test of an item, where there is one
+-- a test of an item, if there is one
 abbrev pub passes_there : {X : Type 0} → (X → Bool) → Option X → Bool
 passes_there q None = false
 passes_there q (Some x) = q x
@@ -124,7 +124,7 @@ module _ {X : Type 0} (span : X → Span) (b : ℤ) where
   abbrev holds_it : X → Bool
   holds_it x = in_span (span x) b
 
-  -- where a later span ends at or below b, each earlier one does
+  -- if a later span ends at or below b, each earlier one does
   earlier_ends : (x : X) (xs : List X) → are_rising (map span (x ∷ xs)) ≡ true → list_any ends_below xs ≡ true → (span x).hi ≤ℤ b
   earlier_ends x [] e h = absurd (true≢false (sym h))
   earlier_ends x (y ∷ ys) e h =

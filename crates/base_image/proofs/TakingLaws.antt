@@ -1,4 +1,4 @@
--- What is given of ranges, table by table and aggregate by aggregate, put together.
+-- What is given of ranges, table by table and aggregate by aggregate, combined.
 use Rattle.std.proofs.Common.{◌≡◌, ℕ, zero, suc, nat_lt, get_or, ◌+◌, ◌<◌, ◌≤◌, Bool, true, false, ◌&&◌, ◌||◌, ℤ, ◌<ℤ◌, ◌≤ℤ◌, int_lt, List, [], ◌∷◌, ◌++◌, map, filter, cond, length, Option, Some, refl, sym, ap, ◌∙◌, subst, arith, append_assoc}
 use Rattle.std.specs.Prelude.{slice_get, unwrap_or}
 use Rattle.std.specs.List.{AllByRecursion, list_all}
@@ -195,7 +195,7 @@ one_more_kept h k vs v kept this =
 
 -- ---- groups of ranges, from the first range on
 
--- what is left of the ranges, and whatever groups are left in them come behind those of the ranges before
+-- what is left of the ranges, and whatever groups are left in them come after those of the ranges before
 pub record IsLeftSoFar (n : ℕ) (def : ViewDef) (h : History) (ranges left : List Span) (groups : List SavedGroup) : Type 0 where
   pub whole : AllByRecursion (IsWholeRange def.fold.width) left
   pub rise : RiseApart left

@@ -62,7 +62,7 @@ pub record IsFormed (i : Image) : Type 0 where
   pub waiting : Many IsWaiting i.waiting
   pub done : Many IsFinished i.done
 
--- ---- what can be written: a value of the code has numbers in range, so that only counts and events are asked for
+-- ---- what can be written: a value of the code has numbers in range, so that only counts and events are requested
 
 -- the counts of what is kept of an aggregate fit their fields
 pub record HasCounts (v : SavedView) : Type 0 where

@@ -16,7 +16,7 @@ is_view (Commit ops) = false
 is_view (Cut v span) = false
 is_view (Built cut snap) = false
 
--- an event may come next, where aggregates have begun or not
+-- an event may come next, given whether aggregates have begun
 abbrev pub may_come : Roster → Bool → Event → Bool
 may_come r begun (Table def) = not begun && may_follow r (Table def)
 may_come r begun (Hyper t hyper) = not begun && (suc t == length r.tables) && may_follow r (Hyper t hyper)
@@ -26,7 +26,7 @@ may_come r begun (Commit ops) = false
 may_come r begun (Cut v span) = false
 may_come r begun (Built cut snap) = false
 
--- what comes next, where aggregates have begun or not
+-- what comes next, given whether aggregates have begun
 abbrev pub make_rest : Bool → Roster → List Event → Bool
 make_rest false r es = make_relations r es
 make_rest true r es = make_views r es

@@ -22,7 +22,7 @@ rows_in s rows = filter (λ row. in_span s row.at) rows
 abbrev pub span_rows : List Row → List Span → List Row
 span_rows rows spans = flat_map (λ s. rows_in s rows) spans
 
--- ---- how many rows there are
+-- ---- the number of rows
 
 -- their number and the number of their bytes, each capped at the greatest number of 64 bits
 abbrev pub tally_of : List Row → Tally
@@ -42,8 +42,8 @@ commits held t (suc n) = held_events t (held t) ++ commits held (suc t) n
 abbrev pub commit_bytes : Tally → ℕ
 commit_bytes tally = cond (tally.rows == 0) 0 (18 + tally.bytes)
 
--- what precedes the rows of a table: the count of the commit's bytes, that it is a commit of one insert, the table's
--- number, and how many rows there are
+-- what precedes the rows of a table: the count of the commit's bytes, that it is a commit of one insert, the
+-- table's number, and the number of rows
 abbrev pub commit_head : ℕ → Tally → List ℕ
 commit_head t tally = four (14 + tally.bytes) ++ (5 ∷ (four 1 ++ (1 ∷ (four t ++ four tally.rows))))
 

@@ -19,7 +19,7 @@ const GREATEST: i128 = 9_223_372_036_854_775_807;
 
 const PAST_GREATEST: i128 = 9_223_372_036_854_775_808;
 
-/// Whether there is a least or a greatest value exactly if there are values.
+/// Whether there is a least or a greatest value if and only if there are values.
 fn is_told(count: u64, value: Option<i64>) -> bool
     ensures { result ≡ is_told count value }
 {

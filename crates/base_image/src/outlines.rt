@@ -51,7 +51,7 @@ pub fn outline_of<I: Imaged>(alloc: Global, of: &I) -> Result<Outline, NoMemory>
 }
 
 impl Outline {
-    /// Returns how many bytes the image has, or 2^64 - 1 if there are more. Takes no memory.
+    /// Returns the number of bytes of the image, or 2^64 - 1 if there are more. Takes no memory.
     pub fn size(&self) -> u64
         ensures size { (held : ℕ → List RowValue) → IsOutline held self.now
             → result ≡ min (length (spelling.image (whole held self.now))) (2 ^ 64 - 1) }

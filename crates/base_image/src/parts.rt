@@ -57,7 +57,7 @@ pub fn put_many<T: Part>(items: &Seq<T>, out: &mut Vec<u8>) -> Result<(), NoMemo
     put_items(items.items(), out)
 }
 
-/// Reads so many items.
+/// Reads a given number of items.
 pub fn read_items<T: Part + Drop>(
     shape: Shape,
     count: usize,
@@ -72,7 +72,7 @@ pub fn read_items<T: Part + Drop>(
     Ok(items)
 }
 
-/// Reads a count of four bytes and so many items.
+/// Reads a count of four bytes and a given number of items.
 pub fn read_many<T: Part + Drop>(shape: Shape, reader: &mut Reader<'_>) -> Result<Seq<T>, ReadError>
     ensures { Gives result (many_of (T.reading shape) reader.old) reader.new }
 {

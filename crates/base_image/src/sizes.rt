@@ -76,7 +76,7 @@ fn bytes_of_events(events: &[Event]) -> u64
     total
 }
 
-/// Returns how many bytes an image has, or 2^64 - 1 if there are more. Takes no memory.
+/// Returns the number of bytes of an image, or 2^64 - 1 if there are more. Takes no memory.
 #[tactic(auto, using(crate::proofs::Counts::bytes_counted))]
 pub fn size(image: &Image) -> u64
     ensures size { result ≡ min (length (spelling.image image.now)) (2 ^ 64 - 1) }

@@ -18,7 +18,7 @@ use ts_schema::{NoMemory, Row, Seq};
 /// bits.
 #[derive(Clone, Copy, Debug, PartialEq, Eq)]
 pub struct Tally {
-    /// How many rows there are.
+    /// The number of rows.
     pub rows: u64,
     /// How many bytes they have in an image.
     pub bytes: u64,

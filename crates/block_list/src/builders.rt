@@ -98,8 +98,8 @@ impl<T: Clone + Drop> Builder<T> {
         is_merged(before, shelf.count(), after, SHELF_LEN)
     }
 
-    /// Appends the items of a list from a place on, below another place, as many as stand together
-    /// in a block. Gives the place up to which they are appended.
+    /// Appends the items of a list from a place on, below another place, as many as are together in a block.
+    /// Returns the place up to which it appended them.
     fn append_block(&mut self, list: &BlockList<T>, at: usize, to: usize) -> Result<usize, NoMemory>
         requires order { at < to }
         requires within { to ≤ length list.now.items }

@@ -13,7 +13,7 @@ pub(crate) fn push_clones<T: Clone>(items: &mut Vec<T>, more: &[T]) -> Result<()
     Ok(())
 }
 
-/// Two lists of items again, one after the other.
+/// Two lists of items again, concatenated.
 pub(crate) fn concat<T: Clone + Drop>(
     alloc: Global,
     first: &[T],

@@ -138,7 +138,7 @@ impl<T> Blocks<T> {
         Blocks { shelves: None }
     }
 
-    /// How many items there are.
+    /// The number of items.
     pub(crate) fn len(&self) -> usize
         ensures len { result ≡ length self.now }
         ensures small { result ≤ most_items }
@@ -149,7 +149,7 @@ impl<T> Blocks<T> {
         }
     }
 
-    /// The same blocks again. It is a count.
+    /// A copy of the blocks. It is a count.
     pub(crate) fn copy(&self) -> Result<Blocks<T>, NoMemory>
         ensures { IfOk result (λ copy. copy ≡ self.now) }
     {
@@ -161,7 +161,7 @@ impl<T> Blocks<T> {
         })
     }
 
-    /// The items from place `i` on that stand in the same block.
+    /// The items from place `i` on that are in the same block.
     pub(crate) fn run_at(&self, i: usize) -> &[T]
         requires { i < length self.now }
         ensures { IsRunFrom self.now i result.now }

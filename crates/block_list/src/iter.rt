@@ -1,4 +1,4 @@
-//! The items of a list, one after another.
+//! The items of a list, in order.
 ghost use Rattle.std.specs.Prelude.{◌≡◌, ◌-◌, ◌≤◌, length, take, drop};
 ghost use Rattle.std.specs.Iterator.{YieldsFirstRef, item_count};
 
@@ -40,7 +40,7 @@ impl<'a, T> Iter<'a, T> {
         }
     }
 
-    /// How many items are left.
+    /// The number of items left.
     pub fn len(&self) -> usize
         ensures len { result ≡ length self.now }
     {

@@ -59,7 +59,7 @@ impl<T> BlockList<T> {
         }
     }
 
-    /// How many items there are.
+    /// The number of items.
     pub fn len(&self) -> usize
         ensures len { result ≡ length self.now.items }
         ensures few { result < 2 ^ 63 }
@@ -79,7 +79,7 @@ impl<T> BlockList<T> {
         self.alloc
     }
 
-    /// Items from place `i` on, counted from 0: one at least, and as many as stand in one block.
+    /// Items from place `i` on, counted from 0: one at least, and as many as are in one block.
     pub fn run_at(&self, i: usize) -> &[T]
         requires { i < length self.now.items }
         ensures run { IsRunFrom self.now.items i result.now }
@@ -87,7 +87,7 @@ impl<T> BlockList<T> {
         run_in(&self.blocks, items_if(&self.newest), &self.own, i)
     }
 
-    /// Items from place `at` on and below place `end`: one at least, and as many as stand in one block.
+    /// Items from place `at` on and below place `end`: one at least, and as many as are in one block.
     pub(crate) fn run_below(&self, at: usize, end: usize) -> &[T]
         requires order { at < end }
         requires within { end ≤ length self.now.items }
@@ -106,14 +106,14 @@ impl<T> BlockList<T> {
         &self.run_at(i)[0]
     }
 
-    /// The items, one after another.
+    /// The items, in order.
     pub fn iter(&self) -> Iter<'_, T>
         ensures items { result ≡ self.now.items }
     {
         self.range(0, self.len())
     }
 
-    /// The items from place `from` on and below place `to`, one after another.
+    /// The items from place `from` on and below place `to`, in order.
     pub fn range(&self, from: usize, to: usize) -> Iter<'_, T>
         requires order { from ≤ to }
         requires within { to ≤ length self.now.items }
@@ -124,8 +124,8 @@ impl<T> BlockList<T> {
 }
 
 impl<T: Clone + Drop> BlockList<T> {
-    /// The same list again. Counts one more sharer, and copies only the items pushed since the last `share`.
-    /// The room of the copy may differ.
+    /// A copy of the list. Counts one more sharer, and copies only the items pushed since the last `share`. The
+    /// room of the copy may differ.
     pub fn copy(&self) -> Result<BlockList<T>, NoMemory>
         requires faithful { (x y : T) → T.is_clone x y → x ≡ y }
         ensures items { IfOk result (λ copy. copy.items ≡ self.now.items) }
@@ -202,7 +202,7 @@ impl<T: Clone + Drop> BlockList<T> {
         Ok(())
     }
 
-    /// Puts an item at the end, for which there is room. It takes no memory.
+    /// Appends an item, for which there is room. It takes no memory.
     pub fn push_reserved(&mut self, item: T)
         requires { 1 ≤ self.old.room }
         ensures items { self.new.items ≡ self.old.items ++ item ∷ [] }
@@ -211,7 +211,7 @@ impl<T: Clone + Drop> BlockList<T> {
         self.own.push_reserved(item);
     }
 
-    /// Puts an item at the end.
+    /// Appends an item.
     pub fn push(&mut self, item: T) -> Result<(), NoMemory>
         requires faithful { (x y : T) → T.is_clone x y → x ≡ y }
         ensures pushed { IfOk result (λ _. self.new.items ≡ self.old.items ++ item ∷ []) }

@@ -21,7 +21,7 @@ pub(crate) trait Items {
     // The items, in order.
     ghost items: { Self → List Self.Item };
 
-    /// How many items there are.
+    /// The number of items.
     fn len(&self) -> usize
         ensures len { result ≡ length (items self.now) }
         ensures small { result ≤ most_items };
@@ -123,7 +123,7 @@ impl<S: Items> Parts<S> {
         }
     }
 
-    /// How many parts there are.
+    /// The number of parts.
     pub(crate) fn count(&self) -> usize {
         self.parts.len()
     }

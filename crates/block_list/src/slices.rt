@@ -47,7 +47,7 @@ impl<T> Slice<T> {
         Slice { list, from, to }
     }
 
-    /// How many items there are.
+    /// The number of items.
     pub fn len(&self) -> usize
         ensures len { result ≡ length self.now }
         ensures few { result < 2 ^ 63 }

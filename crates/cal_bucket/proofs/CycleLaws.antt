@@ -21,7 +21,7 @@ pub record Found (d : Date) (day : ℕ) : Type 0 where
   pub at_or_below : days_to (pos month) ≤ℤ pos day
   pub end_above : pos day <ℤ days_to (pos month +ℤ pos 1)
 
--- the date that stands so many days behind the first of January 2000
+-- the date that is a given number of days after the first of January 2000
 abbrev IsDayOfCycle : Date → ℕ → Type 0
 IsDayOfCycle d day = (day < 146097) × (day_count d.year d.month d.day ≡ 4_382_910 + day)
 

@@ -25,7 +25,7 @@ cut_of t cycle rest p q = record {
   high = omega (arith, signed_arith);
 }
 
--- moved by whole spans of 400 years, a month starts so many seconds later
+-- moved by whole spans of 400 years, a month starts a fixed number of seconds later
 pub start_moved : (k cycle : ℤ) → start_of (k +ℤ (cycle *ℤ pos 4800)) ≡ start_of k +ℤ (cycle *ℤ pos 12622780800)
 start_moved k cycle =
     let is : days_to (k +ℤ (cycle *ℤ pos 4800)) ≡ days_to k +ℤ (cycle *ℤ pos 146097) = days_to-periods k cycle in
@@ -91,7 +91,7 @@ code_month t cycle rest m h cut inside =
     let m_high : m <ℤ pos 4800 = inside.1 in
     record { fits = omega (arith, ints); is = omega (arith, ints) }
 
--- and holds the time, where it holds what is left of it
+-- and holds the time, if it holds what is left of it
 pub code_holds : (t cycle rest m : ℤ) → Cut t cycle rest → IsMonthOf (pos 946684800 +ℤ to_z w64 (of_z w64 rest)) m → IsMonthOf t (m +ℤ (cycle *ℤ pos 4800))
 code_holds t cycle rest m cut month =
     let low : pos 0 ≤ℤ rest = cut.low in

@@ -1,5 +1,5 @@
--- Rows with the names of their buckets for their times, where the time is a column more: grouping them by buckets of
--- one number is grouping the rows by name.
+-- Rows with the names of their buckets for their times, if the time is a column more: grouping them by buckets
+-- of one number is grouping the rows by name.
 use Rattle.std.proofs.Common.{◌≡◌, ℕ, zero, suc, ◌+◌, ◌&&◌, Bool, true, false, cond, List, [], ◌∷◌, ◌++◌, map, filter, flat_map, sym, ap, refl, ◌∙◌, arith, ℤ, pos, Option, Some}
 use Rattle.std.proofs.lemmas.Int.{ints}
 use Rattle.std.specs.Ordering.{int_cmp, int_eq, is_eq}

@@ -13,11 +13,11 @@ IsNumber n = (1 ≤ n) × (n ≤ 1200)
 abbrev pub monday : ℤ
 monday = pos 946857600
 
--- where bucket p of so many seconds starts, counted from that Monday
+-- where bucket p of a given number of seconds starts, counted from that Monday
 abbrev pub seconds_start : ℕ → ℤ → ℤ
 seconds_start seconds p = monday +ℤ (p *ℤ pos seconds)
 
--- where bucket p of so many months starts, counted from January 2000
+-- where bucket p of a given number of months starts, counted from January 2000
 abbrev pub months_start : ℕ → ℤ → ℤ
 months_start months p = start_of (p *ℤ pos months)
 

@@ -54,7 +54,8 @@ pub record IsMonthOf (t k : ℤ) : Type 0 where
   pub at_or_below : start_of k ≤ℤ t
   pub end_above : t <ℤ start_of (k +ℤ pos 1)
 
--- the month starts at or below the greatest time, and ends above the least one where 14,400 months more are counted
+-- the month starts at or below the greatest time, and ends above the least one if 14,400 months more are
+-- counted
 pub record IsNearMonth (k : ℤ) : Type 0 where
   pub low : min_time <ℤ start_of (k +ℤ pos 14401)
   pub high : start_of k ≤ℤ max_time

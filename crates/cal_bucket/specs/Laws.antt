@@ -60,7 +60,7 @@ pub record IsGreatestStart (n : ℕ) (t b : ℤ) : Type 0 where
 abbrev pub MonthBucketsAreGreatest : Type 0
 MonthBucketsAreGreatest = (n : ℕ) (t b : ℤ) → 0 < n → IsCalendarBucket Month n t b → IsGreatestStart n t b
 
--- buckets so many seconds wide, counted from a Monday
+-- buckets a given number of seconds wide, counted from a Monday
 abbrev pub width_of : ℕ → WidthValue
 width_of seconds = record { step = pos seconds; shift = monday }
 

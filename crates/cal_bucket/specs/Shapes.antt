@@ -11,7 +11,7 @@ use Rattle.cal_bucket.specs.declared.plans.CalPlan.{CalPlan}
 use Rattle.cal_bucket.specs.Places.{name_of}
 use Rattle.cal_bucket.specs.Rows.{row_shown}
 
--- the place of a column, where the time is at this place: column 0 is the time, the others count from 1
+-- the place of a column, if the time is at this place: column 0 is the time, the others count from 1
 abbrev pub place_among : ℕ → ℕ → ℕ
 place_among at c = if c == 0 then at else cond (nat_le c at) (c - 1) c
 

@@ -20,6 +20,6 @@ pub struct CalPlan {
     pub unit: CalUnit,
     /// The place of the time column among all columns, from 0.
     pub at: u32,
-    /// How rows are grouped and aggregated. Its width plays no part.
+    /// How rows are grouped and aggregated. Its width has no effect.
     pub fold: Fold,
 }

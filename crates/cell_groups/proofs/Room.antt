@@ -1,4 +1,4 @@
--- Counts and sums of groups of so many rows can be kept.
+-- Counts and sums of groups of a given number of rows can be kept.
 use Rattle.std.proofs.Common.{◌≡◌, ℕ, zero, suc, ◌+◌, ◌*◌, ◌<◌, ◌≤◌, ◌^◌, List, [], ◌∷◌, ◌++◌, map, length, get_or, set, take, drop, Option, Some, None, ℤ, pos, negsuc, sym, refl, ap, ◌∙◌, subst, arith}
 use Rattle.std.specs.Prelude.{◌≤ℤ◌, neg_ℤ, int_le, FitsSigned}
 use Rattle.std.specs.Int.{w128}
@@ -62,7 +62,7 @@ all_kept n (p ∷ ps) few most words = (
   all_kept n ps few (omega (arith, most)) words.1,
 )
 
--- where all parts can be kept so can each
+-- if all parts can be kept so can each
 kept_at : (ps qs : List Summary) (k : ℕ) (d e : Summary) → k < length ps → length ps ≡ length qs → AllByRecursion CanBeKept (joined_parts ps qs) → CanBeKept (summary_of_both (get_or ps k d) (get_or qs k e))
 kept_at [] qs k d e h same all = absurd (omega (arith, h))
 kept_at (p ∷ ps) [] k d e h same all = absurd (omega (arith, same))
@@ -215,7 +215,7 @@ rows_merged n (x ∷ rest) g hs rows =
     let after = more_taken x (rest ++ with_group g hs) in
     record { few = omega (arith, next.few, before, after, rows.few); words = (rows.words.0, next.words) }
 
--- what stands behind
+-- what is after
 pub rows_behind : (n : ℕ) (rest : List Group) (g : Group) (hs : List Group) → AreOfRows n ((rest ++ g ∷ []) ++ hs) → AreOfRows n (g ∷ hs)
 rows_behind n [] g hs rows = rows
 rows_behind n (x ∷ rest) g hs rows =

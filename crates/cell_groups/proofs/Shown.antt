@@ -29,7 +29,7 @@ pub record StandFor (fold : Fold) (aggs : List Agg) (passes : List Datum → Boo
   pub tests : passes cells ≡ passes_all (row cells) fold.tests
   pub group : own cells ≡ needed_group aggs (row_group fold (row cells))
 
--- functions one after the other
+-- functions in order
 funs_of : List Agg → List Fun
 funs_of aggs = map (λ a. a.fun) aggs
 
@@ -54,7 +54,7 @@ module _ (fold : Fold) (shape : Shape) (wide : IsWidth fold.width) (passes : Lis
       more cells rows ∙ ap (taken_in passes own cells) (gathered_are rows h.1) ∙ taken_is cells (groups_of fold (map row rows)) h.0
       ∙ ap (map (needed_group shape.aggs)) (sym (groups_of-more fold wide (row cells) (map row rows)))
 
--- what is shown rests on the functions alone
+-- what is shown depends only on the functions
 shown_alike : (aggs others : List Agg) → map (λ a. a.fun) aggs ≡ map (λ a. a.fun) others → (ps : List Summary) → shown_each aggs ps ≡ shown_each others ps
 shown_alike [] [] e ps = refl
 shown_alike [] (b ∷ others) e ps = absurd (cc e)

@@ -24,11 +24,11 @@ use Rattle.cell_groups.specs.TakenRows.{ComesLast, IsNotAfter, place_cmp}
 
 -- ---- sorted groups
 
--- none of these stands after a group
+-- none of these is after a group
 abbrev pub NoneAfter : Group → List Group → Type 0
 NoneAfter g xs = AllByRecursion (λ x. is_gt (group_cmp x g) ≡ false) xs
 
--- no group stands after a later one
+-- no group is after a later one
 abbrev pub Ascend : List Group → Type 0
 Ascend [] = ⊤
 Ascend (x ∷ xs) = AllByRecursion (λ y. is_gt (group_cmp x y) ≡ false) xs × Ascend xs
@@ -71,7 +71,8 @@ pub groups_last : (gs : List Group) (g : Group) (hs : List Group) → with_group
 groups_last [] g hs = refl
 groups_last (x ∷ gs) g hs = ap (with_group x) (groups_last gs g hs)
 
--- a group at or before another, and at or before the first of a list, stays so when the other is put into the list
+-- a group at or before another, and at or before the first of a list, stays so when the other is inserted into
+-- the list
 not_after_put : (x g : Group) (hs : List Group) → is_gt (group_cmp x g) ≡ false → IsNotAfter g hs → IsNotAfter x (with_group g hs)
 not_after_put x g [] p h = p
 not_after_put x g (y ∷ hs) p h =
@@ -84,7 +85,7 @@ all_put : (xs : List Group) (g : Group) (hs : List Group) → NoneAfter g xs →
 all_put [] g hs p h = tt
 all_put (x ∷ xs) g hs p h = (not_after_put x g hs p.0 h, all_put xs g hs p.1 h)
 
--- the next from the back: what is left ascends, and none of it stands after the first of what is merged
+-- the next from the back: what is left ascends, and none of it is after the first of what is merged
 pub record IsMerging (groups left merge_of : List Group) : Type 0 where
   pub onto : with_groups left merge_of ≡ in_group_order groups
   pub ascends : Ascend left
@@ -139,7 +140,7 @@ all_permuted P xs ys p h = recursion_from_All P ys (All-permutation P xs ys p (A
 
 -- ---- groups in order
 
--- what has the bucket and keys of a group stands where that stands
+-- what has the bucket and keys of a group is where that is
 before_alike : (x y g : Group) → x.start ≡ y.start → x.keys ≡ y.keys → group_cmp x g ≡ group_cmp y g
 before_alike x y g start keys =
     ap (λ s. ordering_then (int_cmp s g.start) (values_cmp x.keys g.keys)) start
@@ -161,7 +162,7 @@ order_set (x ∷ gs) (suc at) new d h start keys up = (
   order_set gs at new d (omega (arith, h)) start keys up.1,
 )
 
--- and behind the last
+-- and after the last
 order_push : (gs : List Group) (last : ℕ) (g d : Group) → length gs ≡ suc last → group_cmp (get_or gs last d) g ≡ Less → AreInOrder gs → AreInOrder (gs ++ g ∷ [])
 unfolding IsStrictlySortedBy
 order_push [] last g d e before up = absurd (omega (arith, e))

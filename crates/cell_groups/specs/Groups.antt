@@ -42,7 +42,7 @@ as_group shape g = record { start = g.start; keys = keys_at shape.keys g.first; 
 abbrev pub as_groups : Shape → List CellGroup → List Group
 as_groups shape groups = map (as_group shape) groups
 
--- a group has a tally for each column, where it has tallies
+-- a group has a tally for each column, if it has tallies
 abbrev pub HasTallies : List Agg → CellGroup → Type 0
 HasTallies aggs g = IfSome g.tallies (λ ts. length ts ≡ length aggs)
 

@@ -36,7 +36,7 @@ needed_summary Min s = least_part s.values s.least
 needed_summary Max s = most_part s.values s.most
 needed_summary Avg s = sum_part s.values s.sum
 
--- the least or the greatest of so many numbers
+-- the least or the greatest of a given number of numbers
 abbrev pub bound_of : ℕ → ℤ → Option ℤ
 bound_of zero number = None
 bound_of (suc n) number = Some number

@@ -40,7 +40,7 @@ abbrev pub last_cmp : Shape → Option CellGroup → ℤ → List Datum → Orde
 last_cmp shape None b cells = Less
 last_cmp shape (Some g) b cells = row_cmp shape g b cells
 
--- a group has taken in a row
+-- a group has absorbed a row
 pub record HasTaken (aggs : List Agg) (cells : List Datum) (old new : CellGroup) : Type 0 where
   pub start : new.start ≡ old.start
   pub first : new.first ≡ old.first

@@ -35,8 +35,8 @@ impl<'a> RowCells<'a> {
         RowCells { row, skip }
     }
 
-    /// The value of the cell at a place: the whole number that it shows, and none for NULL, for a mean and
-    /// where there is no cell.
+    /// The value of the cell at a place: the whole number that it shows, and none for NULL, for a mean and if
+    /// there is no cell.
     #[inline(always)]
     #[tactic(auto, using(crate::proofs::CellLaws::cell_behind))]
     pub fn value_at(&self, place: u32) -> Option<i128>

@@ -86,8 +86,8 @@ impl<'a> CellGroups<'a> {
         }
     }
 
-    /// Where the group of a row stands. It is looked for first where it is expected: in each bucket the same
-    /// keys come up, mostly in the same order.
+    /// Where the group of a row is. It is looked for first where it is expected: in each bucket the same keys
+    /// come up, mostly in the same order.
     #[inline(always)]
     fn find(&self, shape: &Shape, start: i128, cells: &RowCells<'_>) -> GroupSlot
         ensures { IsPlace shape.now start cells.now self.now.groups.items result }
@@ -98,8 +98,8 @@ impl<'a> CellGroups<'a> {
         }
     }
 
-    /// The same where it isn't the one that was expected. That of the row before and the one behind it are looked
-    /// at next.
+    /// The same if it isn't the one that was expected. That of the row before and the one after it are tried
+    /// next.
     fn find_near(&self, shape: &Shape, start: i128, cells: &RowCells<'_>) -> GroupSlot
         ensures { IsPlace shape.now start cells.now self.now.groups.items result }
     {
@@ -127,7 +127,7 @@ impl<'a> CellGroups<'a> {
         }
     }
 
-    /// The same where neither that group nor the one behind it is the row's.
+    /// The same if neither that group nor the one after it is the row's.
     fn find_away(&self, shape: &Shape, start: i128, cells: &RowCells<'_>) -> GroupSlot
         ensures { IsPlace shape.now start cells.now self.now.groups.items result }
     {

@@ -4,12 +4,12 @@
 //! - `cells`: the cells of a row, read as values.
 //! - `tallies`: what the cells of a column add up to.
 //! - `groups`: one group.
-//! - `group_lookup`: the groups of rows as they are taken in.
+//! - `group_lookup`: the groups of rows as they are added.
 //! - `orders`: groups put in order.
 //! - `prints`: numbers by which groups are found.
 //! - `results`: what groups show.
 //! - `written`: result rows of groups that come in order, each written as its group ends.
-//! - `stops`: why rows can't be taken in or shown.
+//! - `stops`: why rows can't be added or shown.
 #![tactic(auto)]
 
 mod cells;

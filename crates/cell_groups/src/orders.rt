@@ -86,7 +86,7 @@ pub(crate) fn in_order<'a>(
     sort_groups(alloc, shape, gathered.groups)
 }
 
-/// The same groups in order, however they stand.
+/// The same groups in order, however they are.
 fn sort_groups<'a>(
     alloc: Global,
     shape: &Shape,
@@ -101,7 +101,7 @@ fn sort_groups<'a>(
     Ok(Vec::from(merge_neighbours(alloc, shape, sorted)?))
 }
 
-/// The same of groups none of which stands before the one ahead of it.
+/// The same of groups none of which is before the one ahead of it.
 fn merge_neighbours<'a>(
     alloc: Global,
     shape: &Shape,
@@ -120,7 +120,7 @@ fn merge_neighbours<'a>(
     Ok(merged)
 }
 
-/// Puts a group before others in order, or into the first of them where that has its bucket and keys.
+/// Inserts a group before others in order, or into the first of them if that has its bucket and keys.
 fn put_first<'a>(
     alloc: Global,
     shape: &Shape,

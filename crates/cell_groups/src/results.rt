@@ -61,7 +61,7 @@ pub(crate) fn width_of(shape: &Shape) -> usize {
         .saturating_add(shape.aggs.len())
 }
 
-/// Appends the result row of a group where it stays: its cells, and the place where they end.
+/// Appends the result row of a group if it stays: its cells, and the place where they end.
 #[inline]
 pub(crate) fn put_group(
     shape: &Shape,
@@ -98,7 +98,7 @@ fn put_keys(keys: &[u32], row: &RowCells<'_>, cells: &mut Vec<Datum>) -> Result<
     Ok(())
 }
 
-/// A number, or NULL where it is missing.
+/// A number, or NULL if it is missing.
 #[inline]
 fn number_or_null(value: Option<i128>) -> Datum
     ensures { result ≡ shown_or_null value }

@@ -1,8 +1,8 @@
-//! Why rows can't be taken in or shown.
+//! Why rows can't be added or shown.
 use std::alloc::{AllocError, AllocFailed};
 use ts_schema::NoMemory;
 
-/// Why rows can't be taken in or shown.
+/// Why rows can't be added or shown.
 #[derive(Clone, Copy, Debug, PartialEq, Eq)]
 pub enum Stop {
     /// There was no memory.

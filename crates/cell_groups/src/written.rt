@@ -32,7 +32,7 @@ pub struct WrittenGroups<'a> {
 }
 
 impl<'a> WrittenGroups<'a> {
-    /// No group, and room for so many result rows.
+    /// No group, and room for a given number of result rows.
     pub fn with_room(
         alloc: Global,
         shape: &Shape,
@@ -83,7 +83,7 @@ impl<'a> WrittenGroups<'a> {
         }
     }
 
-    /// How the last group compares with that of a row. Where there is none, the row's comes behind it.
+    /// How the last group compares with that of a row. If there is none, the row's comes after it.
     fn order(&self, shape: &Shape, start: i128, cells: &RowCells<'_>) -> Ordering
         ensures { result ≡ last_cmp shape.now self.now.last start cells.now }
     {

@@ -46,7 +46,7 @@ impl<T> CellRows<T> {
         CellRows { cells, ends }
     }
 
-    /// How many rows there are.
+    /// The number of rows.
     pub fn len(&self) -> usize
         ensures len { result ≡ length self.now }
     {
@@ -60,7 +60,7 @@ impl<T> CellRows<T> {
         self.len() == 0
     }
 
-    /// The rows, one after another, each as a slice of its cells.
+    /// The rows, in order, each as a slice of its cells.
     pub fn iter(&self) -> Iter<'_, T>
         ensures rows { result ≡ self.now }
     {
@@ -69,7 +69,7 @@ impl<T> CellRows<T> {
 }
 
 impl<T: Copy + Drop> CellRows<T> {
-    /// Makes room for so many more rows of so many cells in all. It changes no row.
+    /// Makes room for a given number of more rows of a given number of cells in all. It changes no row.
     pub fn reserve(&mut self, rows: usize, cells: usize) -> Result<(), NoMemory>
         ensures same { self.new ≡ self.old }
     {
@@ -78,7 +78,7 @@ impl<T: Copy + Drop> CellRows<T> {
         Ok(())
     }
 
-    /// Puts a row of these cells at the end.
+    /// Appends a row of these cells.
     pub fn push(&mut self, row: &[T]) -> Result<(), NoMemory>
         ensures pushed { IfOk result (λ _. self.new ≡ self.old ++ row.now ∷ []) }
         ensures kept { OnErr result (self.new ≡ self.old) }

@@ -28,7 +28,7 @@ filter_step : (b : Bool) (q : Version → Bool) (v : Version) (xs ys : List Vers
 filter_step true q v xs ys out e = ap (λ zs. cond (q v) (v ∷ zs) zs) e
 filter_step false q v xs ys out e = rw (out refl) e
 
--- where no version out of reach passes, the versions in reach give all that pass
+-- if no version out of reach passes, the versions in reach give all that pass
 pub filter_reached : (interval : ℤ) (q : Version → Bool) (r : TimeRange) (ps : List Placed)
     → ((x : Placed) → is_placed interval x ≡ true → in_reach r x.start ≡ false → q x.version ≡ false) → ArePlaced interval ps → filter q (versions_in r ps) ≡ filter q (versions_of ps)
 filter_reached interval q r [] out placed = refl

@@ -162,7 +162,7 @@ sides_within l r chunk = (omega (arith, placed_length l.0 r.0 chunk.start chunk.
 pub few_counted : (levels : Levels) (size : ℕ) → FewLevels levels size → size < 2 ^ 64 → levels.chunks < 130
 few_counted levels size few small = lt_of_not-le (λ many. omega (arith, few.chunks 65 (omega (arith, many)), small))
 
--- versions that were put into a tree on one side of a chunk can still be counted
+-- versions that were inserted into a tree on one side of a chunk can still be counted
 pub countable_left : (whole l r new : List Placed) (chunk : Kept) (start : ℤ) (vs : List Version) → whole ≡ l ++ placed_in chunk ++ r → length whole + length vs < 2 ^ 64
     → HasMore (in_chunk start vs) l new → length (new ++ placed_in chunk ++ r) < 2 ^ 64
 countable_left whole l r new chunk start vs is few more =

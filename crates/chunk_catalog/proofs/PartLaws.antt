@@ -16,7 +16,7 @@ use Rattle.chunk_catalog.specs.Places.{Placed, in_chunk, versions_of, is_placed,
 use Rattle.chunk_catalog.specs.Parts.{AreIn, placed_row, placed_rows}
 use Rattle.ts_schema.proofs.Cases.{and_first, and_second, count-append}
 
--- a test passes all where it counts none that fails
+-- a test passes all if it counts none that fails
 pub all_from_count : {X : Type 0} (p : X → Bool) (xs : List X) → count_by (λ x. not (p x)) xs ≡ 0 → list_all p xs ≡ true
 all_from_count p [] h = refl
 all_from_count p (x ∷ xs) h =
@@ -141,7 +141,7 @@ times_behind (row ∷ rows) (suc k) e = times_behind rows k (and_second (is_time
 pub times_of_part : (rows : List Row) (from to : ℕ) → HaveTimes rows → HaveTimes (take (to - from) (drop from rows))
 times_of_part rows from to h = times_in_front (drop from rows) (to - from) (times_behind rows from h)
 
--- where all rows are in front, all are there
+-- if all rows are in front, all are there
 pub all_put : (p : ℕ) (start now : List Version) (rows : List Row) (from : ℕ) → length rows ≤ from → AsOften now (start ++ map (newborn p) (take from rows)) → AsOften now (start ++ map (newborn p) rows)
 all_put p start now rows from whole was =
     λ test. was test ∙ ap (λ rs. count_by test (start ++ map (newborn p) rs)) (take_all from rows whole)

@@ -51,7 +51,7 @@ pub length_reached : (r : TimeRange) (xs ys zs : List Placed) → length (versio
 length_reached r xs ys zs =
     omega (arith, ap length (reached-append r (xs ++ ys) zs), length-append (versions_in r (xs ++ ys)) (versions_in r zs), ap length (reached-append r xs ys), length-append (versions_in r xs) (versions_in r ys))
 
--- what holds of parts holds of the whole
+-- what is true of parts is true of the whole
 pub ruleset places = (versions_of-in_chunk, versions_of-append, reached-append)
 
 pub reached_few : (r : TimeRange) (ps : List Placed) → length (versions_in r ps) ≤ length ps
@@ -62,7 +62,7 @@ reached_few r (x ∷ ps) =
       | false ↦ omega (arith, reached_few r ps)
     ]
 
--- where no start is in reach, nothing is seen and nothing dies
+-- if no start is in reach, nothing is seen and nothing dies
 pub out_reached : (r : TimeRange) (ps : List Placed) → AreOut r ps → versions_in r ps ≡ []
 out_reached r [] h = refl
 out_reached r (x ∷ ps) h =
@@ -149,7 +149,7 @@ starts_of_fork a b h s l r vs left right e =
     let here : StartsIn (Some h) (in_chunk s vs) = subst (λ k. StartsIn k (in_chunk s vs)) (sym e) (join_first (hull_at s) (joined_hull a b) (in_chunk s vs) (starts_here (record { least = s; most = s }) s vs point)) in
     both_parts h (l ++ in_chunk s vs) r (both_parts h l (in_chunk s vs) on_left here) on_right
 
--- where no chunk of a hull holds a time above the best, no version is later
+-- if no chunk of a hull holds a time above the best, no version is later
 pub past_all : (interval : ℤ) (best : Option ℤ) (h : HullValue) (ps : List Placed) → IsInterval interval
     → ((t : ℤ) → t <ℤ (h.most +ℤ interval) → later_time best (Some t) ≡ best) → StartsIn (Some h) ps → ArePlaced interval ps
     → (p : ℕ) → later_time best (latest_at p (versions_of ps)) ≡ best

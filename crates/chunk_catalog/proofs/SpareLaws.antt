@@ -36,7 +36,7 @@ within_joined (x ∷ rows) k h e =
     let here : in_hull h x.at ≡ true = in_joined_first (record { least = x.at; most = x.at }) (joined_hull (hull_of rows) k) h x.at turned point in
     rw here (within_joined rows (joined_hull k (hull_at x.at)) h (e ∙ joined_hull-assoc k (hull_at x.at) (hull_of rows)))
 
--- where the hull of all times is out of the range of those that pass, nothing is taken
+-- if the hull of all times is out of the range of those that pass, nothing is taken
 module _ (r : TimeRange) (h : HullValue) (low : FitsSigned w64 h.least) (high : FitsSigned w64 h.most) (apart : (t : ℤ) → in_hull h t ≡ true → in_reach r t ≡ false) (tests : List Test) (holds : HoldsPassing tests r) (p : ℕ) where
   none_within : (vs : List Version) → list_all (λ row. in_hull h row.at) (rows_of vs) ≡ true → taken_at p tests vs ≡ []
   none_within [] inside = refl

@@ -1,4 +1,4 @@
--- Laws of what is put into a part of a tree, and of a delete in its parts.
+-- Laws of what is inserted into a part of a tree, and of a delete in its parts.
 use Rattle.std.proofs.Common.{◌≡◌, ℕ, ◌+◌, ◌≤◌, Bool, ℤ, Option, List, ◌++◌, map, length, sym, ◌∙◌, ap, arith}
 use Rattle.std.specs.List.{count_by}
 use Rattle.std.proofs.lemmas.List.{map-append, length-append}

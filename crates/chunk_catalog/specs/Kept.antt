@@ -1,4 +1,4 @@
--- What holds of chunks: each version is in its chunk, and the count is right.
+-- What is true of chunks: each version is in its chunk, and the count is right.
 use Rattle.std.specs.Prelude.{◌≡◌, ℕ, ◌≤◌, ◌^◌, List, length, ℤ}
 use Rattle.ts_bucket.specs.Chunks.{IsInterval}
 use Rattle.chunk_catalog.specs.Places.{Placed, ArePlaced}

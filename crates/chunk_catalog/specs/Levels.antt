@@ -13,7 +13,7 @@ pub record Levels : Type 0 where
   pub chunks : ℕ
   pub segments : ℕ
 
--- the levels of a chunk with so many levels of segments between two trees
+-- the levels of a chunk with a given number of levels of segments between two trees
 abbrev pub levels_over : Levels → ℕ → Levels → Levels
 levels_over l n r = record { chunks = suc (max l.chunks r.chunks); segments = max n (max l.segments r.segments) }
 
@@ -22,7 +22,7 @@ pub record AreLevel (l r : Levels) : Type 0 where
   pub left : l.chunks ≤ suc r.chunks
   pub right : r.chunks ≤ suc l.chunks
 
--- these levels are few for so many versions
+-- these levels are few for this many versions
 pub record FewLevels (levels : Levels) (size : ℕ) : Type 0 where
   pub chunks : AreFew levels.chunks (size + 1)
   pub segments : AreFew levels.segments (2 * size + 1)
@@ -32,9 +32,8 @@ pub record AreNear (l r : Levels) : Type 0 where
   pub left : l.chunks ≤ suc (suc r.chunks)
   pub right : r.chunks ≤ suc (suc l.chunks)
 
--- the levels of a tree that was made of two and a chunk between them: one more than the higher has, or as many where
--- that one was
--- too high
+-- the levels of a tree that was made of two and a chunk between them: one more than the higher has, or as many
+-- if that one was too high
 pub record Balances (l r new : Levels) : Type 0 where
   pub least : max l.chunks r.chunks ≤ new.chunks
   pub most : new.chunks ≤ suc (max l.chunks r.chunks)

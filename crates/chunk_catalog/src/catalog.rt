@@ -25,8 +25,8 @@ const MANY: usize = 1024;
 /// A span that meets chunks with no more versions is not parted.
 const FEW_VERSIONS: u64 = 4096;
 
-/// Rows by the chunks that hold their times. Contracts see the interval and the list of all versions
-/// that were ever put there, removed or not.
+/// Rows by the chunks that hold their times. Contracts see the interval and the list of all versions that were
+/// ever inserted there, removed or not.
 #[derive(Drop)]
 pub struct Chunks {
     alloc: Global,
@@ -108,7 +108,7 @@ impl Chunks {
         }
     }
 
-    /// The same chunks again.
+    /// A copy of the chunks.
     pub fn copy(&self) -> Result<Chunks, NoMemory>
         ensures same { IfOk result (λ copy. copy ≡ self.now) }
     {
@@ -120,8 +120,8 @@ impl Chunks {
         })
     }
 
-    /// What holds of all chunks, however they came to be: the trees in which they and their segments
-    /// hang have no more levels than the logarithm of the versions allows. Calls go down these trees.
+    /// What is true of all chunks, however they came to be: the trees in which they and their segments hang
+    /// have no more levels than the logarithm of the versions allows. Calls go down these trees.
     pub fn levels_are_low(&self)
         ensures low { AreLow self.now.levels (length self.now.versions) }
     {
@@ -167,9 +167,9 @@ impl Chunks {
         Ok(chunks)
     }
 
-    /// A delete at a position, which is at least those of the earlier changes: the versions that are
-    /// visible there and pass every test die there. Chunks and segments that can't hold such a row, and
-    /// those of which nothing lives, aren't looked at.
+    /// A delete at a position, which is at least those of the earlier changes: the versions that are visible
+    /// there and pass every test die there. Chunks and segments that can't hold such a row, and those without
+    /// visible versions aren't read.
     pub fn kill(&self, tests: &Seq<Test>, pos: u64) -> Result<KilledChunks, NoMemory>
         ensures interval { IfOk result (λ k. k.chunks.interval ≡ self.now.interval) }
         ensures after { IfOk result (λ k. k.chunks.versions ≡ map (after_kill pos tests.now) self.now.versions) }
@@ -230,7 +230,7 @@ impl Chunks {
         self.scan_part(pos, span, span, steps)
     }
 
-    /// The same of a part of the span. It looks at the same versions, and takes the rows of the part alone.
+    /// The same of a part of the span. It reads the same versions, and takes the rows of the part only.
     pub fn scan_part<L>(
         &self,
         pos: u64,
@@ -259,7 +259,7 @@ impl Chunks {
         self.tree.held(span_reach(self.interval, span))
     }
 
-    /// A start of a chunk that parts a span, where the chunks that meet it have many versions and one begins
+    /// A start of a chunk that parts a span, if the chunks that meet it have many versions and one begins
     /// within.
     pub fn middle(&self, span: Span) -> Option<i64>
         ensures inside { IfSome result (λ t. (span.lo <ℤ t) × (t <ℤ span.hi)) }
@@ -270,7 +270,7 @@ impl Chunks {
         self.tree.start_in(span)
     }
 
-    /// The greatest time that is visible at a position, and `None` exactly where no version is.
+    /// The greatest time that is visible at a position, and `None` if and only if no version is.
     pub fn last(&self, pos: u64) -> Option<i64>
         ensures last { result ≡ latest_at pos self.now.versions }
     {

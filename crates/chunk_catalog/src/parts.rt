@@ -44,7 +44,7 @@ pub fn put_rows(
     Ok(tree)
 }
 
-/// The same rows by their times: themselves, where they stand so, and else copies.
+/// The same rows by their times: themselves, if they are so, and otherwise copies.
 fn rows_by_time(alloc: Global, rows: SharedSlice<Row>) -> Result<SharedSlice<Row>, NoMemory>
     ensures rows { IfOk result (λ sorted. AsOften sorted rows) }
 {

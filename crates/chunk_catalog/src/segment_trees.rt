@@ -21,15 +21,15 @@ use std::sync::Arc;
 use ts_bucket::{Hull, Span};
 use ts_schema::{NoMemory, Row, Seq, Steps, Test};
 
-/// Segments that together have at most so many versions are joined in any case.
+/// Segments that together have at most a given number of versions are joined in any case.
 const FEW: u64 = 16;
 
-/// No joined segment has more versions. With so many, a scan spends little on a segment beside its rows. To
-/// join larger segments would copy each row, although they share it with the list that came in, and store
-/// where each was inserted.
+/// No joined segment has more versions. With this many, a scan spends little on a segment beside its rows. To
+/// join larger segments would copy each row, although they share it with the list that came in, and store where
+/// each was inserted.
 const MANY: u64 = 64;
 
-/// Segments in order. Contracts see their versions, and how many levels there are.
+/// Segments in order. Contracts see their versions, and the number of levels.
 #[cycle(pile)]
 #[derive(Drop)]
 pub struct SegmentTree {
@@ -40,8 +40,8 @@ pub struct SegmentTree {
 #[derive(Drop)]
 enum Shape {
     Leaf(Segment),
-    /// The earlier segments, the later ones, how many versions there are, the hull of their times, and the
-    /// position of the last delete, if all versions are deleted.
+    /// The earlier segments, the later ones, the number of versions, the hull of their times, and the position
+    /// of the last delete, if all versions are deleted.
     Fork(Arc<SegmentTree>, Arc<SegmentTree>, u64, Option<Hull>, Option<u64>),
 }
 
@@ -84,7 +84,7 @@ impl SegmentTree {
         }
     }
 
-    /// How many versions there are.
+    /// The number of versions.
     pub fn count(&self) -> u64
         ensures count { result ≡ length self.now.0 }
         ensures some { 0 < result }
@@ -127,8 +127,8 @@ impl SegmentTree {
         }
     }
 
-    /// Whether a delete at a position takes nothing where all times that pass its tests lie in a
-    /// range: no version lives there, or none has such a time.
+    /// Whether a delete at a position takes nothing if all times that pass its tests lie in a range: no version
+    /// lives there, or none has such a time.
     fn is_spared(&self, times: TimeRange, pos: u64) -> bool
         ensures spared { result ≡ true → (tests : List Test) → HoldsPassing tests times →
             taken_at pos tests self.now.0 ≡ [] }
@@ -143,7 +143,7 @@ impl SegmentTree {
         has_died(self.died_out(), pos) || is_no_later(greatest_time(self.hull()), best)
     }
 
-    /// The same segment tree again.
+    /// A copy of the segment tree.
     pub fn copy(&self) -> Result<SegmentTree, NoMemory>
         ensures same { IfOk result (λ copy. copy ≡ self.now) }
     {
@@ -203,7 +203,7 @@ impl SegmentTree {
         }
     }
 
-    /// A delete at a position, where all times that pass the tests lie in a range.
+    /// A delete at a position, if all times that pass the tests lie in a range.
     #[tactic(auto, using(seg_rows::proofs::VersionLaws::parts, seg_rows::proofs::VersionLaws::kill_nothing, ts_schema::proofs::Cases::and_first, ts_schema::proofs::Cases::and_second, seg_rows::proofs::VersionLaws::taken_few))]
     pub fn kill(
         &self,
@@ -270,8 +270,8 @@ impl SegmentTree {
         }
     }
 
-    /// The greatest of a time and the times that are visible at a position. The later segments come
-    /// first, and those that hold no later time aren't looked at.
+    /// The greatest of a time and the times that are visible at a position. The later segments come first, and
+    /// those that hold no later time aren't read.
     #[tactic(auto, using(seg_rows::proofs::VersionLaws::parts))]
     pub fn last_of(&self, pos: u64, best: Option<i64>) -> Option<i64>
         ensures last { result ≡ later_time best (latest_at pos self.now.0) }
@@ -329,8 +329,7 @@ fn fork(alloc: Global, left: SegmentTree, right: SegmentTree) -> Result<SegmentT
     })
 }
 
-/// Two segments as one, where they are few, or where the first isn't much the larger and the limit
-/// isn't passed.
+/// Two segments as one, if they are few, or if the first isn't much the larger and the limit isn't passed.
 fn joined_if_small(first: &Segment, second: &Segment) -> Result<Option<Segment>, NoMemory>
     ensures joined { IfOk result (λ joined. IfSome joined (λ s. s ≡ first.now ++ second.now)) }
 {

@@ -12,7 +12,7 @@ ghost use Rattle.chunk_catalog.specs.Places.{NonePassesOutside};
 use ts_bucket::{Hull, Span};
 use ts_schema::{Cmp, Test};
 
-/// The numbers from `first` to `last`, both included. Where `first` is above `last`, there is none.
+/// The numbers from `first` to `last`, both included. If `first` is above `last`, there is none.
 #[derive(Clone, Copy, Debug)]
 pub struct TimeRange {
     pub first: i64,
@@ -75,7 +75,7 @@ pub fn drop_reach(interval: i64, n: i64) -> TimeRange
     }
 }
 
-/// The starts of the chunks that may hold a row that passes tests, where its time lies in a range.
+/// The starts of the chunks that may hold a row that passes tests, if its time lies in a range.
 pub fn start_reach(interval: i64, times: TimeRange) -> TimeRange
     requires { IsInterval interval }
     ensures missed { (tests : List Test) → HoldsPassing tests times → NonePassesOutside interval tests result }

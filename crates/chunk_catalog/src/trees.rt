@@ -19,7 +19,7 @@ use std::sync::Arc;
 use ts_bucket::{Hull, Span};
 use ts_schema::{NoMemory, Row, Seq, Steps, Test};
 
-/// Chunks in order. Contracts see their versions, and how many levels there are.
+/// Chunks in order. Contracts see their versions, and the number of levels.
 #[cycle(tree)]
 #[derive(Drop)]
 pub struct Tree {
@@ -30,8 +30,8 @@ pub struct Tree {
 #[derive(Drop)]
 enum Node {
     Empty,
-    /// The chunks before this one, this one, the chunks after it, the hull of all their starts, how many
-    /// levels there are, and the position of the last delete, if all versions are deleted.
+    /// The chunks before this one, this one, the chunks after it, the hull of all their starts, the number of
+    /// levels, and the position of the last delete, if all versions are deleted.
     Fork(Arc<Tree>, Chunk, Arc<Tree>, Hull, u64, Option<u64>),
 }
 
@@ -69,7 +69,7 @@ impl Tree {
         Tree { node: Node::Empty }
     }
 
-    /// How many levels of chunks there are.
+    /// The number of levels of chunks.
     pub fn height(&self) -> u64
         ensures height { result ≡ self.now.1.chunks }
         ensures few { FewLevels self.now.1 (length self.now.0) }
@@ -139,7 +139,7 @@ impl Tree {
         }
     }
 
-    /// The same tree again.
+    /// A copy of the tree.
     pub fn copy(&self) -> Result<Tree, NoMemory>
         ensures same { IfOk result (λ copy. copy ≡ self.now) }
     {
@@ -188,8 +188,8 @@ impl Tree {
         }
     }
 
-    /// A delete at a position in the chunks whose starts lie in a range, where all times that pass the
-    /// tests lie in another one.
+    /// A delete at a position in the chunks whose starts lie in a range, if all times that pass the tests lie
+    /// in another one.
     #[tactic(auto, using(crate::proofs::PlaceLaws::out_reached, crate::proofs::PlaceLaws::out_killed))]
     pub fn kill(
         &self,
@@ -285,8 +285,8 @@ impl Tree {
         }
     }
 
-    /// The greatest of a time and the times that are visible at a position. The latest chunks come
-    /// first, and those that hold no later time aren't looked at.
+    /// The greatest of a time and the times that are visible at a position. The latest chunks come first, and
+    /// those that hold no later time aren't read.
     #[tactic(auto, using(crate::proofs::PlaceLaws::places, crate::proofs::PlaceLaws::later_first, seg_rows::proofs::VersionLaws::parts))]
     pub fn last(&self, interval: i64, pos: u64, best: Option<i64>) -> Option<i64>
         requires interval { IsInterval interval }
@@ -320,7 +320,7 @@ fn unchanged_tree(tree: Tree) -> KilledTree
     }
 }
 
-/// A tree as it became, or the old one where nothing was removed.
+/// A tree as it became, or the old one if nothing was removed.
 fn replace_if_changed(
     alloc: Global,
     old: &Arc<Tree>,
@@ -448,7 +448,7 @@ fn share_fork(
     Ok(Arc::new(alloc, fork_of_copies(left, chunk, right)?)?)
 }
 
-/// The same as `join_segments`, where one side may have two levels more than the other.
+/// The same as `join_segments`, if one side may have two levels more than the other.
 fn balance(
     alloc: Global,
     left: &Arc<Tree>,
@@ -470,7 +470,7 @@ fn balance(
     }
 }
 
-/// The same as `join_segments`, where the left side is the higher: a part of it moves to the right.
+/// The same as `join_segments`, if the left side is the higher: a part of it moves to the right.
 fn lean_right(
     alloc: Global,
     left: &Arc<Tree>,
@@ -525,7 +525,7 @@ fn spread_left(
     }
 }
 
-/// The same as `join_segments`, where the right side is the higher: a part of it moves to the left.
+/// The same as `join_segments`, if the right side is the higher: a part of it moves to the left.
 fn lean_left(
     alloc: Global,
     left: &Arc<Tree>,

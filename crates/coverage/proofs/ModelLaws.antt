@@ -34,9 +34,9 @@ touched_past n def (h ▸ Commit ops) b =
     (elim (touches def ops h b) as (λ t. is_above (suc (position h)) (cond t (Some (suc (position h))) None) ≡ false) [ true ↦ is_above-at (suc (position h)) (suc (position h)) (omega arith) | false ↦ refl ])
 touched_past n def (h ▸ x) b = is_above-greater (position h) (suc (position h)) (last_touch n def h b) (omega arith) (touched_past n def h b)
 
--- ---- an aggregate that isn't there
+-- ---- a missing aggregate
 
--- an aggregate that isn't there after an event wasn't there before it
+-- a missing aggregate after an event wasn't there before it
 absent_in : (was now : Option ViewDef) → ((def : ViewDef) → was ≡ Some def → KeepsView def now) → now ≡ None → was ≡ None
 absent_in None now keeps e = refl
 absent_in (Some def) now keeps e = let there = (keeps def refl).there in absurd (cc)

@@ -207,7 +207,8 @@ finishes_clear n def h cut snap span b notes covered bucket this inside =
 
 -- ---- events of which the notes hear nothing
 
--- an event that doesn't bear on the aggregate: its cuts, refreshes and touches stay, and it is there afterwards only where it was
+-- an event that doesn't bear on the aggregate: its cuts, refreshes and touches stay, and it is there afterwards
+-- only if it was
 quiet : (n : ℕ) (def : ViewDef) (h : History) (e : Event) (notes : Notes) → ((b : ℤ) → last n (h ▸ e) b ≡ last n h b) → ((b : ℤ) (s : ℕ) → was_cut n (h ▸ e) b s ≡ was_cut n h b s) → ((b : ℤ) → last_touch n def (h ▸ e) b ≡ last_touch n def h b) → (is_some (view_of (roster (h ▸ e)) n) ≡ true → is_some (view_of (roster h) n) ≡ true) → IsCovered n def h notes → IsCovered n def (h ▸ e) notes
 quiet n def h e notes lasts cuts touched there covered = record {
   refreshed = λ b bucket. covered.refreshed b bucket ∙ sym (lasts b);

@@ -1,4 +1,5 @@
--- A worked history: two refreshes of one bucket overlap, the older one is finished last, and the notes tell what is pending.
+-- A worked history: two refreshes of one bucket overlap, the older one is finished last, and the notes say what
+-- is pending.
 use Rattle.std.proofs.Common.{◌≡◌, ℕ, true, false, [], ◌∷◌, pos, Some, None, refl}
 use Rattle.std.specs.Prelude.{codes}
 use Rattle.ts_num.specs.declared.values.Fun.TheVariants.{CountAll}

@@ -35,7 +35,7 @@ pub record EndsWhole (w : Width) (span : Span) : Type 0 where
   pub width : IsWidth w
   pub ends : is_bucket w span.hi ≡ true
 
--- a cut of any aggregate over the table, where one of this aggregate has a span that ends where a bucket does
+-- a cut of any aggregate over the table, if one of this aggregate has a span that ends where a bucket does
 abbrev pub CutsKeep : Type 0
 CutsKeep =
     (n : ℕ) (def : ViewDef) (h : History) (v : ℕ) (span : Span) (notes : Notes)
@@ -106,7 +106,7 @@ HullsAreOfTimes =
 
 -- ---- what coverage means
 
--- what notes that cover tell
+-- what notes that cover say
 pub record Tells (n : ℕ) (def : ViewDef) (h : History) (notes : Notes) : Type 0 where
   -- what was refreshed is the last refresh
   pub refreshed : (b : ℤ) → is_bucket def.fold.width b ≡ true → notes.refreshed b ≡ last n h b
@@ -130,7 +130,7 @@ pub record Tells (n : ℕ) (def : ViewDef) (h : History) (notes : Notes) : Type 
   pub stale : (b : ℤ) → is_bucket def.fold.width b ≡ true → in_span (whole_span def.fold.width) b ≡ true
       → (is_below b (watermark n def h) && is_some (pending_position def.fold.width notes b)) ≡ stale n def h b
 
--- notes that cover an aggregate of a consistent history tell all of this
+-- notes that cover an aggregate of a consistent history say all of this
 abbrev pub CoveredTells : Type 0
 CoveredTells =
     (n : ℕ) (def : ViewDef) (h : History) (notes : Notes) → all_consistent h ≡ true
@@ -143,7 +143,7 @@ FeedsTell =
     → is_some (fed_at w notes b) ≡
     (is_some (notes.pending b) || is_some (above_last (notes.refreshed b) (log_touch w b notes.log)))
 
--- what notes that cover tell once all that is logged was fed
+-- what notes that cover say once all that is logged was fed
 pub record TellsFed (n : ℕ) (def : ViewDef) (h : History) (notes : Notes) : Type 0 where
   -- what is pending in a bucket with a last refresh is the last touch above that
   pub touched : (b : ℤ) (s : ℕ) → is_bucket def.fold.width b ≡ true → last n h b ≡ Some s
@@ -187,7 +187,7 @@ HistoriesCovered =
     (n : ℕ) (def : ViewDef) (h : History) → all_consistent h ≡ true → view_of (roster h) n ≡ Some def
     → IsCovered n def h (notes_of n def h)
 
--- so they tell what is pending
+-- so they say what is pending
 abbrev pub HistoriesTell : Type 0
 HistoriesTell =
     (n : ℕ) (def : ViewDef) (h : History) → all_consistent h ≡ true → view_of (roster h) n ≡ Some def

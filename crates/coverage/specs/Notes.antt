@@ -33,7 +33,7 @@ pub record Notes : Type 0 where
 abbrev pub no_notes : Notes
 no_notes = record { threshold = least; log = []; pending = λ b. None; refreshed = λ b. None }
 
--- a threshold as a number: where there is none, the least
+-- a threshold as a number: if there is none, the least
 abbrev pub number_of : Option ℤ → ℤ
 number_of None = least
 number_of (Some hi) = int_max least hi
@@ -64,7 +64,8 @@ notes_of_new w k notes =
       refreshed = λ b. None;
     }
 
--- the log after a commit with number k: its hull, if it has one, is logged exactly where it begins below the threshold
+-- the log after a commit with number k: its hull, if it has one, is logged if and only if it begins below the
+-- threshold
 abbrev pub log_after : Option Hull → ℕ → ℤ → List Noted → List Noted
 log_after None k threshold log = log
 log_after (Some hull) k threshold log =
@@ -80,7 +81,7 @@ notes_after_hull hull k notes =
       refreshed = notes.refreshed;
     }
 
--- what is pending at b after a noted hull was fed: its position, where the hull meets the bucket and the bucket
+-- what is pending at b after a noted hull was fed: its position, if the hull meets the bucket and the bucket
 -- wasn't refreshed at or after it
 abbrev pub fed_one : Width → ℤ → Option ℕ → Noted → Option ℕ → Option ℕ
 fed_one w b refreshed entry pending =
@@ -106,8 +107,8 @@ abbrev pub cut_to : Width → ℤ → Notes → Notes
 cut_to w hi notes =
     record { threshold = int_max notes.threshold hi; log = []; pending = fed_at w notes; refreshed = notes.refreshed }
 
--- a finish with a snapshot settles the span of its cut, where that is a cut of the aggregate: what is pending up to
--- the snapshot goes, and the last refresh is raised to it
+-- a finish with a snapshot settles the span of its cut, if that is a cut of the aggregate: what is pending up
+-- to the snapshot goes, and the last refresh is raised to it
 abbrev pub notes_after_refresh : Option Span → ℕ → Notes → Notes
 notes_after_refresh span snap notes = record {
   threshold = notes.threshold;

@@ -2,7 +2,7 @@
 //! clause of a function that does nothing.
 ghost use Rattle.coverage.specs.Laws.{BeginningsCover, CommitsKeep, CoveredTells, CoveredTellsFed, CutsKeep, EventsKeep, FeedsKeep, FeedsTell, FinishesClear, FinishesKeep, ModesKeep, QuietKeeps, SameCover};
 
-/// A commit that logs its hull, where that begins below the threshold, keeps coverage.
+/// A commit that logs its hull, if that begins below the threshold, keeps coverage.
 pub fn commits_keep_coverage()
     ensures { CommitsKeep }
 {}
@@ -59,8 +59,8 @@ pub fn modes_keep_coverage()
     ensures { ModesKeep }
 {}
 
-/// Something is pending after all that is logged was fed exactly where something was pending, or a
-/// noted hull meets the bucket after its last refresh.
+/// Something is pending after all that is logged was fed if and only if something was pending, or a noted hull
+/// meets the bucket after its last refresh.
 pub fn feeds_tell_what_is_noted()
     ensures { FeedsTell }
 {}

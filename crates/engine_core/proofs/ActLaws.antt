@@ -1,4 +1,5 @@
--- Calls that make an event: each is refused exactly where its event isn't timely, and answers what the event does.
+-- Calls that make an event: each is refused if and only if its event isn't timely, and answers what the event
+-- does.
 use Rattle.std.proofs.Common.{◌≡◌, ℕ, suc, Bool, true, false, ◌&&◌, not, cond, nat_lt, length, Option, Some, None, sym, refl, ap, ◌∙◌, subst}
 use Rattle.std.specs.Prelude.{ℤ, is_some, is_none, unwrap_or, IfSome, IsSome, IsTrue}
 use Rattle.std.proofs.lemmas.Bool.{true≢false, and_parts}
@@ -34,7 +35,7 @@ use Rattle.event_check.specs.Checks.{refusal_in, call_refusal, event_refusal}
 use Rattle.engine_core.specs.Acts.{unless, making_event, with_answer}
 use Rattle.engine_core.specs.Effects.{moves_none}
 
--- ---- a call is refused exactly where its event isn't timely
+-- ---- a call is refused if and only if its event isn't timely
 
 room_timely : {A : Type 0} (h : History) (e : Event) (x : A) → is_none (refusal_in (act_of_event h e x)) ≡ has_room h
 room_timely h e x = elim (has_room h) as (λ t. is_none (refusal_in (cond t (makes e x) (refuses (refusal history_full h 0)))) ≡ t) [ true ↦ refl | false ↦ refl ]
@@ -137,7 +138,7 @@ by_definition : (n : ℕ) (lo hi : Option ℤ) (h : History) (w : WindowFound) (
 by_definition n lo hi h w None there is = absurd (true≢false (sym there))
 by_definition n lo hi h w (Some def) there is = ap (cut_over n h) (sym is)
 
--- a cut goes by the buckets that its window covers
+-- a cut depends on the buckets that its window covers
 pub cut_by_window : (n : ℕ) (lo hi : Option ℤ) (h : History) (w found : WindowFound) → IsSome (view_of (roster h) n) → IfSome (view_of (roster h) n) (λ def. w ≡ window n def h lo hi) → w ≡ found → act_of_cut n lo hi h ≡ cut_over n h found
 cut_by_window n lo hi h w found there is same = by_definition n lo hi h w (view_of (roster h) n) there is ∙ ap (cut_over n h) same
 

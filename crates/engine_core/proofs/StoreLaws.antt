@@ -114,6 +114,6 @@ called_as f act other old outcome new is called =
 pub does_as : {A B : Type 0} (f : A → B) (act : History → Act A) (other : History → Act B) (old : Past) (outcome : Outcome A) (new : Past) → other (history_of old) ≡ with_answer f (act (history_of old)) → EngineDoes act old outcome new → EngineDoes other old (outcome_as f outcome) new
 does_as f act other old outcome new is does = called_as f act other (state_of (history_of old)) outcome (state_of (history_of new)) is does
 
--- what is looked at where nothing changed
+-- what is read if nothing changed
 pub looked_where_seen : (Tells : History → Type 0) (h : History) → Tells h → Looked true (state_of h) Tells (state_of h)
 looked_where_seen Tells h told = record { found = state_of h; finds = finds_seen h; keeps = keeps_all (state_of h); tells = told }

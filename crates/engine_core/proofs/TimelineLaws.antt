@@ -118,7 +118,7 @@ next_moment h e m stands counts = record {
       subst (λ k. CountsAre k f m.inserted m.removed) same_history (subst (λ d. CountsAre h d m.inserted m.removed) same_event counts);
 }
 
--- one more moment behind those that are kept
+-- one more moment after those that are kept
 moments_more : (P : ℕ → MomentValue → Type 0) (ms : List MomentValue) (x : MomentValue) → ((k : ℕ) (m : MomentValue) → slice_get ms k ≡ Some m → P k m) → P (length ms) x → (k : ℕ) (m : MomentValue) → slice_get (ms ++ x ∷ []) k ≡ Some m → P k m
 moments_more P [] x all last zero m at = subst (P 0) (same_Some x m at) last
 moments_more P [] x all last (suc k) m at = absurd (none-some m at)
@@ -129,7 +129,7 @@ pub kept_more : (h : History) (from : ℕ) (ms : List MomentValue) (m : MomentVa
 kept_more h from ms m p kept is one =
     moments_more (λ k x. IsMomentOf (prefix h (from + k)) x) ms m kept (subst (λ q. IsMomentOf (prefix h q) m) is one)
 
--- the moments that are kept before an event, of a history with so many events before it
+-- the moments that are kept before an event, of a history with a given number of events before it
 pub record AreKept (past : Past) (from i : ℕ) (ms : List MomentValue) : Type 0 where
   pub moments : AreMoments (history_of past) from ms
   pub count : length ms ≡ (position (begun_by past.base) + i) - from
@@ -171,7 +171,7 @@ effect_by g (Commit ops) p inserted removed is c = λ i. record { pos = is i; in
 effect_by g (Cut v span) p inserted removed is c = λ i. record { pos = is i; inserted = c.0 i; removed = c.1 i }
 effect_by g (Built cut snap) p inserted removed is c = λ i. record { pos = is i; inserted = c.0 i; removed = c.1 i }
 
--- what is kept after an event tells what the event did
+-- what is kept after an event shows what the event did
 pub effect_kept : (h : History) (p : ℕ) (e : Event) (m : MomentValue) → event_at h (suc p) ≡ Some e → IsMomentOf (prefix h (p + 1)) m → record { pos = m.state.position; inserted = m.inserted; removed = m.removed } ≡ effect_of (prefix h p) e
 effect_kept h p e m at kept =
     let next : p + 1 ≡ suc p = omega arith in

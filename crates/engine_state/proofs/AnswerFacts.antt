@@ -39,7 +39,7 @@ use Rattle.engine_state.specs.Tables.{TableValue, TableIs, TableStands, table_at
 use Rattle.engine_state.proofs.EachLaws.{each_at, each_of}
 use Rattle.engine_state.proofs.StateSteps.{state_there}
 
--- ---- a hypertable that is there
+-- ---- an existing hypertable
 
 -- a table that is a hypertable has a state
 pub table_there : (h : History) (t : ℕ) (s : StateValue) → StandsFor h s → IsSome (hyper_of (roster h) t) → IsSome (table_at s.tables t)

@@ -25,7 +25,7 @@ use Rattle.engine_state.specs.Steps.{AllFrom, AsksIf, appended_to, taken_from, s
 use Rattle.engine_state.proofs.EachLaws.{each_length, each_placed}
 use Rattle.engine_state.proofs.TableSteps.{table_asks, rows_are}
 
--- ---- how many tables there are
+-- ---- the number of tables
 
 pub tables_are_few : (h : History) (s : StateValue) → StandsFor h s → length s.tables ≤ 2 ^ 32
 tables_are_few h s st =

@@ -91,7 +91,7 @@ groups_unfinished n def h cut snap mark groups ok other s = record {
       ∙ stays_left n def h (Built cut snap) b ok);
 }
 
--- so does a mode, which plays no part in them
+-- so does a mode, which has no effect in them
 pub groups_of_mode : (n : ℕ) (def : ViewDef) (only : Bool) (h : History) (mark : Option ℤ) (groups : List Group) → GroupsStand n def h mark groups → GroupsStand n (set_only only def) h mark groups
 groups_of_mode n def only h mark groups s = record {
   in_order = s.in_order;
@@ -179,7 +179,7 @@ all_passing p q f test (row ∷ xs) e =
       | false ↦ all_passing p q f test xs parts.1
     ]
 
--- the test holds of each bucket that occurs where it holds of each row's
+-- the test is true of each bucket that occurs if it is true of each row's
 all_occurring : (fold : Fold) (test : ℤ → Bool) (xs : List Row) → list_all (λ row. test (bucket_of fold.width row.at)) xs ≡ true → list_all test (occurring_buckets fold xs) ≡ true
 all_occurring fold test xs e =
     let keys = map (λ row. bucket_of fold.width row.at) (filter (λ row. passes_all row fold.tests) xs) in

@@ -1,4 +1,4 @@
--- Of an aggregate that isn't there yet nothing is marked, and a cut is of one aggregate.
+-- Of a missing aggregate yet nothing is marked, and a cut is of one aggregate.
 use Rattle.std.proofs.Common.{◌≡◌, ℕ, suc, ◌≤◌, true, false, ◌&&◌, ◌==◌, cond, nat_lt, List, [], ◌∷◌, map, Option, Some, None, sym, refl, ap, ◌∙◌, arith}
 use Rattle.std.specs.List.{list_all}
 use Rattle.std.specs.Ordering.{is_lt, nat_cmp}

@@ -24,7 +24,7 @@ use Rattle.engine_state.specs.Lists.{Each, EachFrom}
 use Rattle.engine_state.specs.declared.group_rebuilds.GroupRebuild.{GroupRebuild}
 use Rattle.engine_state.specs.GroupRebuilds.{AreRefolded, AreRefolds, CanTake, IsRefoldOf, IsRefolded, Makes, TakesBy, TakesMore, events_read, feeds, is_over, rows_of, was_refreshed}
 
--- ---- one after the other
+-- ---- in order
 
 takes_more : (f g h : ℕ → List Row) (a b c : GroupRebuild) → ((t : ℕ) → h t ≡ f t ++ g t) → TakesMore f a b → TakesMore g b c → TakesMore h a c
 takes_more f g h a b c both first then = record {
@@ -51,7 +51,7 @@ each_then f g h (a ∷ rs) [] cs both p q = absurd p
 each_then f g h (a ∷ rs) (b ∷ bs) [] both p q = absurd q
 each_then f g h (a ∷ rs) (b ∷ bs) (c ∷ cs) both p q = (takes_then f g h a b c both p.0 q.0, each_then f g h rs bs cs both p.1 q.1)
 
--- they can take in more
+-- they can hold more
 can_after : (f : ℕ → List Row) (a b : Option GroupRebuild) → CanTake a → TakesBy f a b → CanTake b
 can_after f None None can p = tt
 can_after f None (Some b) can p = absurd p
@@ -211,7 +211,7 @@ all_made i n (def ∷ defs) [] made p q = absurd p
 all_made i n (def ∷ defs) (a ∷ rs) [] p q = absurd q
 all_made i n (def ∷ defs) (a ∷ rs) (m ∷ made) p q = (made_of i def (saved_view n i) a m p.0 q.0, all_made i (suc n) defs rs made p.1 q.1)
 
--- each of them can take in rows
+-- each of them can hold rows
 pub refolds_can : (i : Image) (f : ℕ → List Row) (n : ℕ) (defs : List ViewDef) (rs : List (Option GroupRebuild)) → EachFrom (AreRefolds i f) n defs rs → AllByRecursion CanTake rs
 refolds_can i f n [] [] p = tt
 refolds_can i f n [] (a ∷ rs) p = absurd p
@@ -219,7 +219,7 @@ refolds_can i f n (def ∷ defs) [] p = absurd p
 refolds_can i f n (def ∷ defs) (None ∷ rs) p = (tt, refolds_can i f (suc n) defs rs p.1)
 refolds_can i f n (def ∷ defs) (Some a ∷ rs) p = ((f def.table, p.0.1.taken), refolds_can i f (suc n) defs rs p.1)
 
--- one of them is over a table exactly where an aggregate over it was refreshed
+-- one of them is over a table if and only if an aggregate over it was refreshed
 over_is : (f : ℕ → List Row) (t : ℕ) (def : ViewDef) (kept : SavedView) (a : Option GroupRebuild) → IsRefoldOf f def kept a → is_over t a ≡ (was_refreshed kept && t == def.table)
 over_is f t def kept None p = sym (ap (λ b. b && t == def.table) p)
 over_is f t def kept (Some a) p = ap (λ u. t == u) p.1.table_is ∙ sym (ap (λ b. b && t == def.table) p.0)
@@ -268,7 +268,7 @@ refolded_at i n defs made def groups each there is =
     let here : 0 + n ≡ n = omega arith in
     subst (λ j. IsRefolded i def (saved_view j i) groups) here (refolded_from i 0 n defs made def groups each there is)
 
--- what stands in a vector once all of it was changed as a slice
+-- what is in a vector once all of it was changed as a slice
 pub whole_slice : (n : ℕ) (old new : List (Option GroupRebuild)) → n ≡ length old → length old ≡ length new → take n (new ++ drop (length new) old) ≡ new
 whole_slice n old new long same =
     ap (λ more. take n (new ++ more)) (drop_all (length new) old (omega (arith, same))) ∙ ap (take n) (append-nil new) ∙ take_all n new (omega (arith, long, same))
@@ -304,7 +304,7 @@ one_op event ops (o ∷ p ∷ items) op is same some few at t = absurd (omega (a
 pub same_takes : (f g : ℕ → List Row) (olds news : List (Option GroupRebuild)) → ((t : ℕ) → f t ≡ g t) → AllZip (TakesBy f) olds news → AllZip (TakesBy g) olds news
 same_takes f g olds news same takes = subst (λ (h : ℕ → List Row). AllZip (TakesBy h) olds news) (λ k t. same t k) takes
 
--- a count that rose by so many
+-- a count that rose by this many
 pub ticks_of : {T E : Type 0} (r : Result T E) (n old new : ℕ) → old < 2 ^ 64 → new ≡ raised_by n old → Ticks r n old new
 ticks_of (Ok x) n old new small is = is
 ticks_of (Err e) n old new small is = (omega (arith, small, is), omega (arith, is))

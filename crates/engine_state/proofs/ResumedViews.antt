@@ -279,7 +279,7 @@ among_is (g ∷ gs) b =
       | false ↦ among_is gs b
     ]
 
--- groups of buckets below a mark, where a bucket that isn't below it has none
+-- groups of buckets below a mark, if a bucket that isn't below it has none
 below_by_buckets : (def : ViewDef) (mark : Option ℤ) (gs : List Group) → list_all (λ g. is_bucket def.fold.width g.start) gs ≡ true → ((b : ℤ) → is_bucket def.fold.width b ≡ true → is_below b mark ≡ false → of_bucket b gs ≡ []) → list_all (is_materialised def mark) gs ≡ true
 below_by_buckets def mark [] all none = refl
 below_by_buckets def mark (g ∷ gs) all none =

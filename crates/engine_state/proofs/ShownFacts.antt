@@ -257,7 +257,7 @@ module _ (h : History) (n : ℕ) (def : ViewDef) (table : TableValue) (view : Vi
       (stale_shown starts found.stale is.stale_are)
       ∙ sym (ap (answer_of_view n h starts) there)
 
-  -- the rows looked at are those of the history
+  -- the rows read are those of the history
   pub view_read : (starts : Span) (position : ℕ) → IsTableOf h def.table position table → view_reads def view.mark starts table ≡ reads (Aggregate n starts) h
   view_read starts position told =
       let live : Option ℤ → List Span = λ m. map (bucket_span def.fold.width) (filter (λ b. not (is_below b m)) (buckets_in def.fold.width starts)) in

@@ -86,7 +86,7 @@ cut_span span def e =
     let ends = and_parts (is_bucket def.fold.width span.lo) (is_bucket def.fold.width span.hi) some.0 in
     record { starts = ends.0; ends = ends.1; from_first = int_le-true (first_of def.fold.width) span.lo first.1; upto = int_le-true span.hi greatest (and_parts _ (int_le span.hi greatest) high.1).1 }
 
--- a bucket of a span is asked for by it, and one of the range of buckets
+-- a bucket of a span is requested by it, and one of the range of buckets
 in_asked : (w : Width) (span : Span) (b : ℤ) → IsCutSpan w span → is_bucket w b ≡ true → in_span span b ≡ true → is_asked w span b ≡ true
 in_asked w span b s bucket inside =
     let from : span.lo ≤ℤ b = (in_span-ends span b inside).0 in
@@ -180,7 +180,7 @@ module _ (h : History) (n : ℕ) (def : ViewDef) (table : TableValue) (view : Vi
   abbrev IsLeft : ℕ → ℤ → Type 0
   IsLeft snap b = (r : ℕ) × (r ≤ snap) × (was_refreshed n h b r ≡ true) × (is_above r (last_touch_at n def h snap b) ≡ false)
 
-  -- a job of the rows that a position saw fits, where what it leaves as it is was refreshed and not touched since
+  -- a job of the rows that a position saw fits, if what it leaves as it is was refreshed and not touched since
   fits_from : (snap : ℕ) (seen : List Row) (job : Job) (test : ℤ → Bool) → cut ≤ snap → base_position h ≤ snap → snap ≤ position h → in_order seen ≡ rows_at def.table h snap → AreRanges def.fold.width span test job.spans → IsMadeOf def.fold seen job → ((b : ℤ) → is_bucket def.fold.width b ≡ true → in_span span b ≡ true → test b ≡ false → IsLeft snap b) → Fits n def h cut snap span job.spans job.groups job.top
   fits_from snap seen job test after base taken rows_are ranges_are made left =
       let ordered : IsMadeOf def.fold (rows_at def.table h snap) job = made_in_order def.fold seen (rows_at def.table h snap) job wide rows_are made in
@@ -201,7 +201,7 @@ module _ (h : History) (n : ℕ) (def : ViewDef) (table : TableValue) (view : Vi
       not_passing : (b : ℤ) → is_asked def.fold.width span b ≡ true → (is_asked def.fold.width span b && test b) ≡ false → test b ≡ false
       not_passing b asked e = sym (ap (λ t. t && test b) asked) ∙ e
 
-  -- a job of the rows of the whole history fits it, where its ranges are those that are out of date
+  -- a job of the rows of the whole history fits it, if its ranges are those that are out of date
   pub fits_now : (seen : List Row) (job : Job) → in_order seen ≡ rows def.table h → AreRanges def.fold.width span (is_dirty_with view.log table.log.entries) job.spans → IsMadeOf def.fold seen job → Fits n def h cut (position h) span job.spans job.groups job.top
   fits_now seen job rows_are ranges_are made =
       let end : prefix h (position h) ≡ h = prefix_end h (position h) (omega arith) in
@@ -210,7 +210,7 @@ module _ (h : History) (n : ℕ) (def : ViewDef) (table : TableValue) (view : Vi
       let found = clean_at b (last n h b) refl (sym (dirty_at b bucket inside) ∙ clean) in
       (found.0, found.1, found.2, ap (λ g. is_above found.0 (last_touch n def g b)) end ∙ found.3))
 
-  -- a job of an earlier snapshot fits too, where its ranges are those that are out of date or were refreshed later
+  -- a job of an earlier snapshot fits too, if its ranges are those that are out of date or were refreshed later
   pub fits_then : (snap : ℕ) (seen : List Row) (job : Job) → cut ≤ snap → base_position h ≤ snap → snap ≤ position h → in_order seen ≡ rows_at def.table h snap → AreRanges def.fold.width span (is_redone_with view.log table.log.entries snap) job.spans → IsMadeOf def.fold seen job → Fits n def h cut snap span job.spans job.groups job.top
   fits_then snap seen job after base taken rows_are ranges_are made =
       fits_from snap seen job (is_redone_with view.log table.log.entries snap) after base taken rows_are ranges_are made
@@ -233,7 +233,7 @@ module _ (h : History) (n : ℕ) (def : ViewDef) (table : TableValue) (view : Vi
       (λ other. ap (λ t. t && invalid n def h b) other ∙ sym (ap (λ t. t && is_dirty_with view.log table.log.entries b) other)))
       (ranges_are_maximal def.fold.width span (invalid n def h) wide)
 
--- the rows looked at, range by range
+-- the rows read, range by range
 pub near_is : (h : History) (t position : ℕ) (table : TableValue) (spans : List Span) → IsTableOf h t position table → near_each table.rows.interval (stored_rows table) spans ≡ sum_by (λ range. rows_near_in (hyper_of (roster h) t) (rows_inserted t h) (range ∷ [])) spans
 near_is h t position table [] is = refl
 near_is h t position table (s ∷ ss) is =
@@ -321,7 +321,7 @@ pub three_ok : {T E : Type 0} (r : Result T E) (P Q R S : T → Type 0) → ((x 
 three_ok (Ok x) P Q R S f p q s = f x p q s
 three_ok (Err e) P Q R S f p q s = tt
 
--- a job with these numbers and this span fits where they do
+-- a job with these numbers and this span fits if they do
 job_as : (h : History) (job : Job) (def : ViewDef) (n cut snap : ℕ) (span : Span) → job.view ≡ n → job.cut ≡ cut → job.snap ≡ snap → job.span ≡ span → view_of (roster h) n ≡ Some def → Fits n def h cut snap span job.spans job.groups job.top → JobFits h job
 job_as h job def n cut snap span view_is cut_is snap_is span_is there fits =
     subst (λ o. FitsView o h job) (sym (ap (view_of (roster h)) view_is ∙ there))
@@ -339,7 +339,7 @@ job_now h cut p refresh def view table job ok r v snap_is ranges is_for made =
     let fits = fits_now h refresh.view def table view ok v.there v.stands (view_width h refresh.view def ok v.there) cut refresh.span r.span_is (seen_rows p table) job v.table_is.rows_are ranges made in
     (job_as h job def refresh.view cut (position h) refresh.span is_for.view cut_is taken is_for.span v.there fits, cut_is, taken)
 
--- how many stored rows its snapshot looks at
+-- how many stored rows its snapshot reads
 pub job_read : (h : History) (cut p : ℕ) (refresh : Refresh) (def : ViewDef) (view : ViewValue) (table : TableValue) → IsRefreshOf h cut refresh → IsViewOf h refresh.view p def view table → near_each table.rows.interval (stored_rows table) (dirty_ranges refresh.view def h refresh.span) ≡ job_reads h cut
 job_read h cut p refresh def view table r v =
     near_is h def.table p table (dirty_ranges refresh.view def h refresh.span) v.table_is

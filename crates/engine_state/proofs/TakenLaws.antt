@@ -40,7 +40,7 @@ all_from P s [] i d all l = absurd (omega arith)
 all_from P s (x ∷ xs) zero d all l = subst (λ n. P n x) (let place : s ≡ s + 0 = omega arith in place) all.0
 all_from P s (x ∷ xs) (suc i) d all l = subst (λ n. P n (get_or xs i d)) (let place : suc s + i ≡ s + suc i = omega arith in place) (all_from P (suc s) xs i d all.1 (omega arith))
 
--- what holds of each place holds of this one
+-- what is true of each place is true of this one
 pub all_at : {A : Type 0} (P : ℕ → A → Type 0) (xs : List A) (i : ℕ) (x : A) → AllFrom P 0 xs → i < length xs → x ≡ get_or xs i x → P i x
 all_at P xs i x all l is = subst (P i) (sym is) (subst (λ n. P n (get_or xs i x)) (let place : 0 + i ≡ i = omega arith in place) (all_from P 0 xs i x all l))
 

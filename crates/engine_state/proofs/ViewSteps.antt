@@ -81,7 +81,7 @@ view_stays n def h e log view ok quiet s = record {
     not_built (Cut v span) quiet = refl
     not_built (Built cut snap) quiet = absurd (true≢false (sym quiet))
 
--- a mode plays no part
+-- a mode has no effect
 pub view_of_mode : (n : ℕ) (def : ViewDef) (only : Bool) (h : History) (log : TableLog) (view : ViewValue) → ViewStands h n def log view → ViewStands h n (set_only only def) log view
 view_of_mode n def only h log view s = record {
   table = s.table;

@@ -81,7 +81,7 @@ pub record Refolds (rows : ℕ → List Row) (def : ViewDef) (r : GroupRebuild) 
   pub plan_is : r.plan ≡ def.fold
   pub taken : HasTaken r.plan (rows def.table) r.folding
 
--- an aggregate has groups under construction exactly if it was refreshed
+-- an aggregate has groups under construction if and only if it was refreshed
 abbrev pub IsRefoldOf : (ℕ → List Row) → ViewDef → SavedView → Option GroupRebuild → Type 0
 IsRefoldOf rows def kept None = was_refreshed kept ≡ false
 IsRefoldOf rows def kept (Some r) = (was_refreshed kept ≡ true) × Refolds rows def r

@@ -25,17 +25,17 @@ TablesTo s e new = (def : TableDef) → e ≡ Table def → StepsTo s (Table def
 abbrev pub ModesTo : StateValue → Event → StateValue → Type 0
 ModesTo s e new = (view : ℕ) (only : Bool) → e ≡ Mode view only → StepsTo s (Mode view only) new
 
--- the same of any event with a job, where the job is for it
+-- the same of any event with a job, if the job is for it
 abbrev pub GoesTo : StateValue → Event → Option Job → StateValue → Type 0
 GoesTo s e job new = (h : History) → StandsFor h s → consistent h e ≡ true → JobIsFor h e job → StandsFor (h ▸ e) new
 
--- the same of the finish with a job, where the job fits the history
+-- the same of the finish with a job, if the job fits the history
 abbrev pub FinishesTo : StateValue → Job → StateValue → Type 0
 FinishesTo s job new =
     (h : History) → StandsFor h s → consistent h (Built job.cut job.snap) ≡ true → JobFits h job
     → StandsFor (h ▸ Built job.cut job.snap) new
 
--- and the event appends and removes so many rows
+-- and the event appends and removes a given number of rows
 abbrev pub Counts : StateValue → Event → ℕ → ℕ → Type 0
 Counts s e inserted removed = (h : History) → StandsFor h s → consistent h e ≡ true → CountsAre h e inserted removed
 

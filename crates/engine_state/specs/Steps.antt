@@ -65,7 +65,7 @@ abbrev pub sum_from : {A : Type 0} → (ℕ → A → ℕ) → ℕ → List A �
 sum_from f t [] = 0
 sum_from f t (x ∷ xs) = f t x + sum_from f (suc t) xs
 
--- this holds of each item, with its place, from place i on
+-- this is true of each item, with its place, from place i on
 abbrev pub AllFrom : {A : Type 0} → (ℕ → A → Type 0) → ℕ → List A → Type 0
 AllFrom P i [] = Unit {0}
 AllFrom P i (x ∷ xs) = P i x × AllFrom P (suc i) xs

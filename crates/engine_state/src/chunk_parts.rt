@@ -21,7 +21,7 @@ const MOST_CUTS: u32 = 64;
 fn push_parts(rows: &Table, span: Span, cuts: u32, into: &mut Seq<Span>) -> Result<(), NoMemory>
     ensures { (lo : ℤ) → AreChained lo span.lo into.old → OnOk result (AreChained lo span.hi into.new) }
 {
-    // Reading them tells that the first is at most the second.
+    // Reading them tells the prover that the first is at most the second.
     let Span { lo, hi } = span;
     if cuts == 0 {
         return into.push(span);

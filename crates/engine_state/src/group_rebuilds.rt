@@ -270,7 +270,7 @@ fn finish_refold(alloc: Global, refold: Option<GroupRebuild>) -> Result<MatRows,
     match refold {
         None => Ok(MatRows::new(alloc)),
         Some(refold) => {
-            // Reading a width tells that it keeps its bounds.
+            // Reading a width tells the prover that it keeps its bounds.
             let _step = refold.plan.width.step;
             MatRows::of(alloc, refold.folding.finish(alloc)?)
         }

@@ -91,7 +91,7 @@ fn lasts_end(table: u32, defs: &[ViewDef], views: &[SavedView]) -> Option<i64>
     }
 }
 
-/// The greatest end of these ranges, where they count.
+/// The greatest end of these ranges, if they count.
 fn end_if(counts: bool, lasts: &[SavedLast]) -> Option<i64>
     ensures { result ≡ cond counts (last_hi lasts.now) None }
 {

@@ -127,8 +127,8 @@ fn view_from_image(
     ViewState::of(alloc, def.table, log, groups, saved.mark)
 }
 
-/// The states of the aggregates of the history that begins with an image, where its parts have the states of
-/// the tables, and these are the groups of all rows.
+/// The states of the aggregates of the history that begins with an image, if its parts have the states of the
+/// tables, and these are the groups of all rows.
 pub(crate) fn views_from_image(
     alloc: Global,
     parts: &StateParts,

@@ -53,7 +53,7 @@ refusal_at h (Built cut snap) p is = ap (λ q. finish_refusal q (position h)) is
 pub refused_as_call : (h : History) (e : Event) (r : Roster) (p : Pending) (at base : ℕ) (found : Option Refusal) → IsAt h e r p at base → found ≡ refusal_by r p at e → found ≡ call_refusal h e
 refused_as_call h e r p at base found is told = told ∙ (λ i. refusal_by (is.roster_is i) p (is.position_is i) e) ∙ refusal_at h e p is.pending_is
 
--- ---- an event is timely exactly where no call refuses it
+-- ---- an event is timely if and only if no call refuses it
 
 room_timely : (at : ℕ) → is_none (room_refusal at) ≡ nat_lt at last_position
 room_timely at = elim (nat_lt at last_position) as (λ t. is_none (cond t None (Some (refusal_of_code history_full at 0))) ≡ t) [ true ↦ refl | false ↦ refl ]
@@ -131,7 +131,7 @@ refused_else h e r p at base ok is told fit =
     ∙ ap (λ o. check_of o (sound_by (roster h) p (position h) (base_position h) e) (refusal_of_code no_number (position h) 0)) (sym late)
     ∙ check_at h e p is.pending_is
 
--- what answers why an event isn't allowed is nothing exactly where it is allowed
+-- what answers why an event isn't allowed is nothing if and only if it is allowed
 pub none_where_allowed : (h : History) (e : Event) (found : Option Refusal) → found ≡ event_refusal h e → is_none found ≡ allowed h e
 none_where_allowed h e found is = ap is_none is ∙ chosen (allowed h e) (unwrap_or (call_refusal h e) (refusal no_number h 0))
   where

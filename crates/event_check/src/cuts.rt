@@ -13,7 +13,7 @@ fn offset(w: Width, b: i64) -> i64
     requires { first_of w ≤ℤ b }
     ensures { result ≡ int_rem_euclid (b -ℤ w.shift) w.step }
 {
-    // The call tells that the width keeps its bounds.
+    // The call tells the prover that the width keeps its bounds.
     let _first = first(w);
     (b - w.shift).rem_euclid(w.step)
 }

@@ -42,7 +42,7 @@ fn room_refusal(position: u64) -> Option<Refusal>
     }
 }
 
-/// Why a relation isn't made, where there are so many of its kind.
+/// Why a relation isn't made, if there are too many of its kind.
 fn relation_refusal(taken: bool, many: usize, position: u64) -> Option<Refusal>
     ensures { result ≡ relation_refusal taken many position }
 {
@@ -189,7 +189,7 @@ fn is_sound(roster: &Roster, pending: Pending, position: u64, base: u64, event: 
     fit && bytes_of(event) < BYTES_LIMIT
 }
 
-/// Why an event that no call refuses isn't allowed, where it isn't sound.
+/// Why an event that no call refuses isn't allowed, if it isn't sound.
 fn unsound_refusal(sound: bool, position: u64) -> Option<Refusal>
     ensures { result ≡ cond sound None (Some (refusal_of_code no_number position 0)) }
 {

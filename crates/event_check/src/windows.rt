@@ -59,9 +59,9 @@ fn window_to(width: Width, lo: Option<i64>, hi: i64, other: Window) -> Window
     }
 }
 
-/// The buckets that a refresh covers whose window is from `lo` on and below `hi`. A missing start is
-/// that of the first bucket. A missing end is the greater of the aggregate's watermark and the end of
-/// the bucket of the greatest time of a row, which are `mark` and `latest` where there are such.
+/// The buckets that a refresh covers whose window is from `lo` on and below `hi`. A missing start is that of
+/// the first bucket. A missing end is the greater of the aggregate's watermark and the end of the bucket of the
+/// greatest time of a row, which are `mark` and `latest` if there are such.
 pub fn window(
     width: Width,
     mark: Option<i64>,

@@ -1,4 +1,4 @@
--- A number whose bytes stand in front is read; where none does, its reading fails.
+-- A number whose bytes are in front is read; if none does, its reading fails.
 use Rattle.std.proofs.Common.{◌≡◌, ℕ, ◌-◌, ◌<◌, ◌≤◌, ◌^◌, List, ◌++◌, length, length-append, ℤ, pos, ◌≤ℤ◌, ◌<ℤ◌, unsigned_abs, true, false, Result, Ok, Err, refl, sym, ap, subst, ◌∙◌, arith}
 use Rattle.std.proofs.lemmas.Int.{ints, to_z_pos, to_z-of_z}
 use Rattle.ts_bucket.specs.WholeSpans.{least, greatest}

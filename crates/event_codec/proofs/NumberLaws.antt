@@ -10,12 +10,12 @@ use Rattle.event_codec.specs.Reading.{gives, pair, byte_where, low_byte, without
 use Rattle.event_codec.proofs.Formats.{IsFormat, SameSpelling, byte_format, pair_format, map_format, gives_format, alike}
 use Rattle.ts_schema.proofs.Cases.{int_le-true, le-int_le}
 
--- so many bytes of a whole number, the lowest first
+-- a given number of bytes of a whole number, the lowest first
 abbrev pub low_bytes : ℕ → ℤ → List ℕ
 low_bytes zero z = []
 low_bytes (suc k) z = low_byte z ∷ low_bytes k (without_low z)
 
--- how many numbers so many bytes tell apart
+-- the number of values that this many bytes can encode
 abbrev pub room : ℕ → ℕ
 room zero = 1
 room (suc k) = 256 * room k
@@ -133,7 +133,7 @@ module _ (lo hi : ℤ) where
         };
   }
 
--- a number from lo to hi, where so many bytes tell apart all numbers of the range
+-- a number from lo to hi, if this many bytes can encode every number of the range
 pub number_format : (k : ℕ) (lo hi : ℤ) (d : ℕ) → lo ≤ℤ hi → hi ≤ℤ (lo +ℤ pos d) → d < room k → IsFormat (low_bytes k) (Within lo hi) (number k lo hi)
 unfolding number
 number_format zero lo hi d l w r = map_format (λ z. z) (λ z. []) (λ z. z ≡ lo) (gives lo) (low_bytes 0) (Within lo hi) (gives_format lo) (record {

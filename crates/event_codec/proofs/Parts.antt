@@ -96,7 +96,7 @@ name_format = map_format second (λ x. (x.0 ∷ []) ++ x.1) (λ x. (is_name_leng
 
 -- ---- rows
 
--- a value behind its flag
+-- a value after its flag
 abbrev value_rest : Bool → Option ℤ → List ℕ
 value_rest b None = []
 value_rest b (Some v) = signed_bytes v

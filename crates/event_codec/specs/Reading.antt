@@ -79,7 +79,7 @@ byte_where test (b ∷ bytes) = if test b then Ok (b, bytes) else Err (b ∷ byt
 abbrev pub put_before : {A : Type 0} → A × List A → List A
 put_before x = x.0 ∷ x.1
 
--- so many items
+-- a given number of items
 unfoldable pub items : {A : Type 0} → ℕ → Reads A → Reads (List A)
 items zero p = gives []
 items (suc n) p = read_map put_before (pair p (λ a. items n p))
@@ -87,7 +87,7 @@ items (suc n) p = read_map put_before (pair p (λ a. items n p))
 abbrev pub second : {A B : Type 0} → A × B → B
 second x = x.1
 
--- a count, and so many items
+-- a count, and a given number of items
 abbrev pub counted_list : {A : Type 0} → Reads ℕ → Reads A → Reads (List A)
 counted_list count p = read_map second (pair count (λ n. items n p))
 
@@ -126,7 +126,7 @@ is_low_byte lo hi b = nat_lt b 256 && int_le (least_above lo b) (most_below hi b
 abbrev pub put_low : ℕ × ℤ → ℤ
 put_low x = with_low x.0 x.1
 
--- a number from lo to hi in so many bytes, the lowest first
+-- a number from lo to hi in a given number of bytes, the lowest first
 unfoldable pub number : ℕ → ℤ → ℤ → Reads ℤ
 number zero lo hi = gives lo
 number (suc k) lo hi =
@@ -200,7 +200,7 @@ op_kind_of = with_code op_code (op_kinds.Insert ∷ op_kinds.Delete ∷ [])
 abbrev pub is_name_length : ℕ → Bool
 is_name_length n = nat_lt 0 n && nat_le n 63
 
--- so many bytes that are a name
+-- a given number of bytes that are a name
 unfoldable pub name_text : ℕ → Reads (List ℕ)
 name_text n = read_map put_before (pair (byte_where is_head) (λ b. items (n - 1) (byte_where is_tail)))
 
@@ -322,7 +322,7 @@ event_body kinds.Built = read_map to_built (pair any_eight (λ cut. any_eight))
 unfoldable pub event_at : Reads Event
 event_at = read_map second (pair (coded_byte kind_of) event_body)
 
--- an event, where nothing is left
+-- an event, if nothing is left
 abbrev pub at_end : Event → Reads Event
 at_end e [] = Ok (e, [])
 at_end e (b ∷ bytes) = Err (b ∷ bytes)

@@ -24,14 +24,14 @@ fn most_rows(count: u32, bytes: &[u8]) -> usize {
     (count as usize).min(bytes.len() / (COUNT_AT + 1))
 }
 
-/// How many values so many rows have, if each has as many as the first row of these bytes, or fewer, if the
-/// bytes can't hold so many.
+/// How many values a given number of rows have, if each has as many as the first row of these bytes, or fewer,
+/// if the bytes can't hold that many.
 fn most_values(rows: usize, bytes: &[u8]) -> usize {
     let each = bytes.get(COUNT_AT).copied().unwrap_or(0);
     rows.saturating_mul(usize::from(each)).min(bytes.len())
 }
 
-/// An empty list with room for so many items.
+/// An empty list with room for a given number of items.
 fn with_room<T>(alloc: Global, room: usize) -> Result<Vec<T>, NoMemory>
     ensures { IfOk result (λ list. list.items ≡ []) }
 {
@@ -178,7 +178,7 @@ impl Reader<'_> {
         Ok(rows)
     }
 
-    /// A count of four bytes and so many rows, which share blocks of values.
+    /// A count of four bytes and a given number of rows, which share blocks of values.
     pub(crate) fn rows(&mut self) -> Result<SharedSlice<Row>, ReadError>
         ensures { Gives result (many_of row_at self.old) self.new }
     {

@@ -62,7 +62,7 @@ part_within k ps qs now same is h =
     let many = length-cut k (joined_parts ps qs) ps (length-joined_parts ps qs same) in
     rw is (rw many h)
 
--- a fact of all parts holds of the one whose turn it is
+-- a fact of all parts is true of the one whose turn it is
 pub part_holds : (P : Summary → Type 0) (k : ℕ) (ps qs now : List Summary) (old : Summary) → length ps ≡ length qs → now ≡ take k (joined_parts ps qs) ++ drop k ps → k < length ps → old ≡ get_or now k old → AllByRecursion P ps → P old
 part_holds P k ps qs now old same is h was all =
     subst P (sym (was ∙ part_before k ps qs now old same is h)) (All-from_recursion P ps all k old h)

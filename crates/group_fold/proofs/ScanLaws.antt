@@ -25,13 +25,13 @@ use Rattle.group_fold.specs.Spans.{HaveTimes, rows_in}
 pub same_all : (p : Row → Bool) (xs ys : List Row) → in_order xs ≡ in_order ys → list_all p xs ≡ list_all p ys
 same_all p xs ys e = sym (all-in_order p xs) ∙ (ap (list_all p) e ∙ all-in_order p ys)
 
--- rows behind others may be in any order
+-- rows after others may be in any order
 pub same_behind : (xs ys zs : List Row) → in_order ys ≡ in_order zs → in_order (xs ++ ys) ≡ in_order (xs ++ zs)
 same_behind xs ys zs e = in_order-append xs ys ∙ (ap (with_rows xs) e ∙ sym (in_order-append xs zs))
 
 -- ---- pieces
 
--- what a list has from a place on is a part of it, and what comes behind
+-- what a list has from a place on is a part of it, and what comes after it
 part_and_rest : (whole : List Row) (from to : ℕ) → from ≤ to → take (to - from) (drop from whole) ++ drop to whole ≡ drop from whole
 part_and_rest whole from to low =
     let sum : from + (to - from) ≡ to = omega (arith, low) in
@@ -76,7 +76,7 @@ all-filter p q (x ∷ xs) e =
       | false ↦ all-filter p q xs parts.1
     ]
 
--- what was found of spans has times where the rows have
+-- what was found of spans has times if the rows have
 pub found_times : (spans : List Span) (pieces : List (List Row)) (rows : List Row) → in_order (all_rows pieces) ≡ in_order (rows_in spans rows) → HaveTimes rows → HaveTimes (all_rows pieces)
 found_times spans pieces rows found times =
     same_all (λ row. is_time row.at) (all_rows pieces) (rows_in spans rows) found ∙ all-filter (λ row. is_time row.at) (λ row. lies_in spans row.at) rows times
@@ -133,7 +133,7 @@ count_kept near rest whole old now next small one all low = (omega (arith, small
 pub small_step : (near now next : ℕ) → next ≡ raised_by near now → next < 2 ^ 64
 small_step near now next one = omega (arith, one)
 
--- however a call ends, where both endings are known
+-- however a call ends, if both endings are known
 pub ended : {T E A B : Type 0} (r : Result T E) → A → B → MatchResult r (λ _. A) (λ _. B)
 ended (Ok t) a b = a
 ended (Err e) a b = b

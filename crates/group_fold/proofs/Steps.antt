@@ -1,4 +1,4 @@
--- The groups of rows with one more row in front: its group is put in its place.
+-- The groups of rows with one more row in front: its group is inserted in its place.
 use Rattle.std.proofs.Common.{◌≡◌, true, false, List, [], ◌∷◌, ◌++◌, map, Option, ℤ, sym, refl, ap, ◌∙◌, subst}
 use Rattle.std.specs.List.{AllByRecursion, list_any, flat_map}
 use Rattle.std.specs.List.Sorted.{IsStrictlySortedBy}
@@ -107,7 +107,7 @@ bucket_groups-more fold b row found =
 
 -- ---- over all buckets
 
--- a test of the order tells what the test of numbers tells
+-- a test of the order says what the test of numbers says
 pub untied_number : (a b : ℤ) → is_eq (int_cmp a b) ≡ false → int_eq b a ≡ false
 untied_number a b e =
     false_from_ne_true (int_eq b a) (λ t.

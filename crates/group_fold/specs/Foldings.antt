@@ -5,12 +5,12 @@ use Rattle.ts_model.specs.declared.views.Fold.{Fold}
 use Rattle.partial_agg.specs.declared.groups.Group.{Group}
 use Rattle.group_fold.specs.Gathering.{IsGathered}
 
--- what contracts see of it: its groups so far in some order, and how many rows it has taken in
+-- what contracts see of it: its groups so far in some order, and how many rows it has absorbed
 pub record FoldingValue : Type 0 where
   pub groups : List Group
   pub count : ℕ
 
--- it has taken in these rows by a plan
+-- it has absorbed these rows by a plan
 pub record HasTaken (plan : Fold) (rows : List Row) (folding : FoldingValue) : Type 0 where
   pub gathered : IsGathered plan rows folding.groups
   pub count_is : folding.count ≡ length rows

@@ -1,4 +1,4 @@
--- Groups in no order, as rows are taken in.
+-- Groups in no order, as rows are added.
 use Rattle.std.specs.Prelude.{◌≡◌, ◌+◌, ◌^◌, ◌<◌, ◌≤◌, ℕ, suc, max, length, slice_index_or, ℤ, ◌≤ℤ◌, IsTrue, List, [], ◌∷◌, ◌++◌}
 use Rattle.std.specs.List.{AllByRecursion}
 use Rattle.std.specs.declared.cmp.Ordering.TheVariants.{Equal}
@@ -39,7 +39,7 @@ abbrev pub total_rows : List Group → ℕ
 total_rows [] = 0
 total_rows (g ∷ gs) = most_counted g.parts + total_rows gs
 
--- every group has so many parts
+-- every group has this many parts
 abbrev pub HaveParts : ℕ → List Group → Type 0
 HaveParts n groups = AllByRecursion (λ g. length g.parts ≡ n) groups
 
@@ -53,7 +53,7 @@ pub record CanOrder (groups : List Group) : Type 0 where
   pub alike : HaveParts (parts_each groups) groups
   pub few : total_rows groups < 2 ^ 62
 
--- groups of a plan, with room for so many rows more
+-- groups of a plan, with room for a given number of rows more
 pub record HasRoom (more : ℕ) (fold : Fold) (groups : List Group) : Type 0 where
   pub alike : HaveParts (length fold.aggs) groups
   pub few : total_rows groups + more < 2 ^ 62
@@ -64,12 +64,12 @@ pub record IsGathered (fold : Fold) (rows : List Row) (groups : List Group) : Ty
   pub alike : HaveParts (length fold.aggs) groups
   pub few : total_rows groups ≤ length rows
 
--- one row was taken in
+-- one row was added
 pub record Takes (fold : Fold) (row : Row) (old new : List Group) : Type 0 where
   pub groups_are : in_group_order new ≡ with_group (row_group fold row) (in_group_order old)
   pub alike : HaveParts (length fold.aggs) new
   pub few : total_rows new ≤ suc (total_rows old)
 
--- these rows were taken in: what were the groups of some rows are now those of these rows too
+-- these rows were added: what were the groups of some rows are now those of these rows too
 abbrev pub TakesAll : Fold → List Row → List Group → List Group → Type 0
 TakesAll fold rows old new = (before : List Row) → IsGathered fold before old → IsGathered fold (before ++ rows) new

@@ -22,7 +22,7 @@ pub record ShowScratch (fold : Fold) (rows : List Row) (groups : List Group) : T
       → map (cells_of fold) (filter (λ g. int_eq g.start b) groups) ≡ scratch_of fold b rows
   pub of_all : map (cells_of fold) groups ≡ fold_rows fold rows
 
--- these are the groups of the rows, in whatever order the rows come
+-- these are the groups of the rows, in any order the rows come
 abbrev pub AreGroupsInAnyOrder : Fold → List Row → List Group → Type 0
 AreGroupsInAnyOrder fold rows groups = (others : List Row) → IsPermutation rows others → groups ≡ groups_of fold others
 

@@ -40,14 +40,14 @@ GroupsOfOneBucket =
     (fold : Fold) (rows : List Row) (b : ℤ) → IsWidth fold.width → is_bucket fold.width b ≡ true
     → filter (λ g. int_eq g.start b) (groups_of fold rows) ≡ groups_in fold rows b
 
--- a bucket has over the rows of these spans the groups that it has over all rows, where it lies in the spans, and
+-- a bucket has over the rows of these spans the groups that it has over all rows, if it lies in the spans, and
 -- none elsewhere
 abbrev pub SpansKeepGroups : Type 0
 SpansKeepGroups =
     (fold : Fold) (spans : List Span) (rows : List Row) (b : ℤ) → IsWidth fold.width → is_bucket fold.width b ≡ true
     → groups_in fold (rows_of_spans fold spans rows) b ≡ cond (lies_in spans b) (groups_in fold rows b) []
 
--- the groups of the buckets asked for, one bucket after the other, are the groups that start at such a bucket
+-- the groups of the buckets requested, one bucket after the other, are the groups that start at such a bucket
 abbrev pub GroupsOfAsked : Type 0
 GroupsOfAsked =
     (fold : Fold) (starts : Span) (rows : List Row) → IsWidth fold.width

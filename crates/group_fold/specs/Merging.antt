@@ -1,4 +1,4 @@
--- Lists of groups put together.
+-- Lists of groups combined.
 use Rattle.std.specs.Prelude.{◌≡◌, ◌+◌, ◌^◌, ◌<◌, cond, List, [], ◌∷◌, ◌++◌, Option, MatchOption}
 use Rattle.std.specs.List.{AllByRecursion, AllZip}
 use Rattle.std.specs.Ordering.{match_ordering}
@@ -21,7 +21,7 @@ joined_parts [] qs = []
 joined_parts (p ∷ ps) [] = []
 joined_parts (p ∷ ps) (q ∷ qs) = summary_of_both p q ∷ joined_parts ps qs
 
--- a group that has taken in another of the same bucket and keys
+-- a group that has absorbed another of the same bucket and keys
 abbrev pub merge_of : Group → Group → Group
 merge_of g h = record { start = g.start; keys = g.keys; parts = joined_parts g.parts h.parts }
 
@@ -43,17 +43,17 @@ PartsFit ps qs = AllZip (λ p q. p.count + q.count < 2 ^ 62) ps qs
 abbrev pub FitTogether : List Group → List Group → Type 0
 FitTogether gs hs = AllByRecursion (λ g. AllByRecursion (λ h. group_cmp g h ≡ Equal → PartsFit g.parts h.parts) hs) gs
 
--- two lists of groups can be put together: both are in strict order, and groups that fall together fit
+-- two lists of groups can be combined: both are in strict order, and groups that fall together fit
 pub record CanJoin (gs hs : List Group) : Type 0 where
   pub mine : AreInOrder gs
   pub theirs : AreInOrder hs
   pub fit : FitTogether gs hs
 
--- each group of one list stands before all of another one
+-- each group of one list is before all of another one
 abbrev pub AreBefore : List Group → List Group → Type 0
 AreBefore gs hs = AllByRecursion (λ g. AllByRecursion (λ h. group_cmp g h ≡ Less) hs) gs
 
--- where two lists of groups are those of two lists of rows, these are the groups of both
+-- if two lists of groups are those of two lists of rows, these are the groups of both
 abbrev pub AreGroupsOfBoth : List Group → List Group → List Group → Type 0
 AreGroupsOfBoth gs hs both =
     (fold : Fold) (xs ys : List Row) → IsWidth fold.width → gs ≡ groups_of fold xs → hs ≡ groups_of fold ys
@@ -65,10 +65,10 @@ next_of_lists [] hs = Rest
 next_of_lists (g ∷ gs) [] = Mine
 next_of_lists (g ∷ gs) (h ∷ hs) = match_ordering (group_cmp g h) Mine Both Theirs
 
--- groups that have taken in one more row, where it passes every test
+-- groups that have absorbed one more row, if it passes every test
 abbrev pub groups_with_row : Fold → Row → List Group → List Group
 groups_with_row fold row groups = cond (passes_all row fold.tests) (with_group (row_group fold row) groups) groups
 
--- the first item of a list was taken, or none, where the list is a rest
+-- the first item of a list was taken, or none, if the list is a rest
 abbrev pub TakesFirst : {X : Type 0} → Option X → List X → List X → List X → Type 0
 TakesFirst groups_with_row old new rest = MatchOption groups_with_row (old ≡ rest) (λ first. old ≡ first ∷ new)

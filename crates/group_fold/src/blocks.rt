@@ -1,4 +1,4 @@
-//! Blocks of partial aggregates while rows are taken in: those of many groups stand in one.
+//! Blocks of partial aggregates while rows are added: a block holds those of many groups.
 ghost use Rattle.std.specs.Prelude.{◌≡◌, ◌+◌, ◌-◌, ◌^◌, ◌<◌, ◌≤◌, true, [], ◌++◌, length, take, drop, vec_len, vec_capacity, IfOk, OnOk, OnErr};
 ghost use Rattle.std.specs.List.{AllByRecursion};
 ghost use Rattle.group_fold.specs.Grouping.{row_parts};
@@ -16,7 +16,7 @@ use ts_schema::{NoMemory, Row, Seq, SharedSlice, field};
 /// So many groups share a block. It lives as long as one of its groups, so blocks are small.
 const GROUPS_A_BLOCK: usize = 64;
 
-/// The partial aggregates of some groups, those of one behind those of another. Contracts see the list of them.
+/// The partial aggregates of some groups, those of one after those of another. Contracts see the list of them.
 #[derive(Drop)]
 pub(crate) struct Block {
     parts: Vec<Partial>,
@@ -32,7 +32,7 @@ impl Model for Block {
 }
 
 impl Block {
-    /// No partial aggregate, with room for so many.
+    /// No partial aggregates, with room for a given number.
     fn with_room(alloc: Global, room: usize) -> Result<Block, NoMemory>
         ensures { IfOk result (λ block. block ≡ []) }
     {
@@ -41,14 +41,14 @@ impl Block {
         })
     }
 
-    /// How many partial aggregates there are.
+    /// The number of partial aggregates.
     fn len(&self) -> usize
         ensures { result ≡ length self.now }
     {
         self.parts.len()
     }
 
-    /// Puts those of the group of one row at the end. Where memory is short, none is put there.
+    /// Appends those of the group of one row. If memory is short, none is appended there.
     fn push_row(&mut self, aggs: &[Agg], row: &Row) -> Result<(), NoMemory>
         ensures put { OnOk result (self.new ≡ self.old ++ row_parts aggs.now row.now) }
         ensures kept { OnErr result (self.new ≡ self.old) }
@@ -90,7 +90,8 @@ fn put_row(aggs: &[Agg], row: &Row, parts: &mut Vec<Partial>)
     }
 }
 
-/// Puts the partial aggregates of the group of one row into the last block, or into a new one where that is full.
+/// Appends the partial aggregates of the group of one row into the last block, or into a new one if that is
+/// full.
 pub(crate) fn put_parts(
     alloc: Global,
     blocks: &mut Vec<Block>,
@@ -116,7 +117,7 @@ fn put_last(blocks: &mut Vec<Block>, aggs: &[Agg], row: &Row) -> Result<PartsPla
     Ok(place)
 }
 
-/// A place, where 32 bits hold its numbers.
+/// A place, if 32 bits hold its numbers.
 fn place_of(block: usize, from: usize) -> Result<PartsPlace, NoMemory>
     ensures block { IfOk result (λ place. place.block ≡ block) }
     ensures from { IfOk result (λ place. place.from ≡ from) }
@@ -128,8 +129,8 @@ fn place_of(block: usize, from: usize) -> Result<PartsPlace, NoMemory>
     }
 }
 
-/// Makes a new block where the last one is full. The first one has room for one group and grows, since often
-/// few come up.
+/// Makes a new block if the last one is full. The first one has room for one group and grows, since often few
+/// come up.
 fn make_room(alloc: Global, blocks: &mut Vec<Block>, each: usize) -> Result<(), NoMemory>
     ensures some { OnOk result (0 < length blocks.new.items) }
     ensures kept { Keeps blocks.old.items blocks.new.items }
@@ -143,7 +144,7 @@ fn make_room(alloc: Global, blocks: &mut Vec<Block>, each: usize) -> Result<(), 
     Ok(())
 }
 
-/// Whether the last block takes another group with so many partial aggregates.
+/// Whether the last block takes another group with a given number of partial aggregates.
 fn has_room(blocks: &[Block], each: usize) -> bool
     ensures { result ≡ true → 0 < length blocks.now }
 {

@@ -31,7 +31,7 @@ impl Model for FoldBuilder {
 }
 
 impl FoldBuilder {
-    /// A fold that hasn't taken in any row.
+    /// A fold that hasn't read any row.
     pub fn new(alloc: Global) -> FoldBuilder
         ensures none { (plan : FoldValue) → HasTaken plan [] result }
     {
@@ -55,14 +55,14 @@ impl FoldBuilder {
         if count >= MOST_ROWS {
             return Err(NoMemory);
         }
-        // Reading a width tells that it keeps its bounds.
+        // Reading a width tells the prover that it keeps its bounds.
         let _step = plan.width.step;
         self.gathered.take_rows(alloc, plan, rows)?;
         self.count = count;
         Ok(())
     }
 
-    /// The groups of all rows that were taken in, in order by bucket and keys.
+    /// The groups of all rows that were added, in order by bucket and keys.
     pub fn finish(self, alloc: Global) -> Result<Seq<Group>, NoMemory>
         requires taken { (plan : FoldValue) × (rows : List RowValue) × HasTaken plan rows self }
         ensures groups { (plan : FoldValue) (rows : List RowValue) → HasTaken plan rows self

@@ -1,4 +1,4 @@
-//! Groups as rows are taken in.
+//! Groups as rows are added.
 ghost use Rattle.std.specs.Prelude.{◌≡◌, ◌≤◌, ◌≤ℤ◌, [], IfErr, IfOk, IsTrue, OnOk, length};
 ghost use Rattle.std.specs.List.{insert};
 ghost use Rattle.ts_schema.specs.declared.rows.Row.{Row};
@@ -16,7 +16,7 @@ use ts_bucket::{Width, bucket, first};
 use ts_model::Fold;
 use ts_schema::{NoMemory, Row, field, passes};
 
-/// To move so many groups costs as much as one search.
+/// To move this many groups costs as much as one search.
 const MOVES_A_SEARCH: usize = 8;
 
 /// So many groups more than there are may be searched for four times before rows count as out of order.
@@ -131,7 +131,7 @@ impl GroupTable {
         }
     }
 
-    /// Puts the group of a row in.
+    /// Inserts the group of a row.
     fn put(
         &mut self,
         alloc: Global,
@@ -183,7 +183,7 @@ impl GroupTable {
     }
 }
 
-/// The start of the bucket of a time, beside the start of some bucket. Where that is its own, as most often that
+/// The start of the bucket of a time, beside the start of some bucket. If that is its own, as most often that
 /// of the row before, nothing is divided.
 #[inline(always)]
 fn start_near(width: Width, near: i64, at: i64) -> i64

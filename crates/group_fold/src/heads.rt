@@ -1,4 +1,4 @@
-//! Groups whose partial aggregates stand in blocks.
+//! Groups whose partial aggregates are in blocks.
 
 use partial_agg::Keys;
 
@@ -11,7 +11,7 @@ pub(crate) struct PartsPlace {
     pub(crate) from: u32,
 }
 
-/// A group whose partial aggregates stand in a block.
+/// A group whose partial aggregates are in a block.
 #[derive(Drop)]
 pub(crate) struct Head {
     pub(crate) start: i64,

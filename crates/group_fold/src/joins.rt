@@ -39,7 +39,7 @@ pub(crate) fn join_lists(
     let mut front = a;
     let behind = front.split_off(before)?;
     groups.append(&mut front)?;
-    // Its room is given back before those behind are merged.
+    // Its room is given back before those after it are merged.
     drop(front);
     let mut mine = VecDeque::from(behind);
     let mut theirs = VecDeque::from(b);

@@ -26,7 +26,7 @@ pub fn spans_keep_groups()
     ensures { SpansKeepGroups }
 {}
 
-/// The groups of the buckets asked for are the groups that start at such a bucket.
+/// The groups of the buckets requested are the groups that start at such a bucket.
 pub fn groups_of_asked()
     ensures { GroupsOfAsked }
 {}

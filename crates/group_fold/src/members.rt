@@ -24,7 +24,7 @@ pub(crate) fn is_of(heads: &[Head], at: usize, plan: &Fold, row: &Row, start: i6
     order_at(heads, at, plan, row, start) == Ordering::Equal
 }
 
-/// How the group at a place compares with that of a row. Behind the last group nothing comes before it.
+/// How the group at a place compares with that of a row. After the last group nothing comes before it.
 #[inline(always)]
 pub(crate) fn order_at(heads: &[Head], at: usize, plan: &Fold, row: &Row, start: i64) -> Ordering
     ensures same { result ≡ Equal → IsHeadAt (row_at plan.now start row.now) heads.now at }

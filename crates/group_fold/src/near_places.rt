@@ -29,7 +29,7 @@ pub(crate) fn place_of(
     }
 }
 
-/// The same, where the group in front of the place `next` comes before that of the row.
+/// The same, if the group in front of the place `next` comes before that of the row.
 fn place_behind(
     heads: &[Head],
     next: usize,

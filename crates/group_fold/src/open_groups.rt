@@ -1,4 +1,4 @@
-//! Groups while rows are taken in.
+//! Groups while rows are added.
 ghost use Rattle.std.specs.Prelude.{◌≡◌, ℕ, ◌++◌, ◌-◌, ◌^◌, ◌<◌, ◌≤◌, [], IfOk, OnOk, OnErr, length, slice_index_or, slice_set};
 ghost use Rattle.std.specs.List.{AllByRecursion, insert};
 ghost use Rattle.partial_agg.specs.declared.groups.Group.{Group as GroupValue};
@@ -16,7 +16,7 @@ use std::marker::Model;
 use ts_model::Fold;
 use ts_schema::{NoMemory, Row, SharedSlice};
 
-/// Groups that take rows in. Their partial aggregates stand in blocks, which the groups share in the end.
+/// Groups that take rows in. Their partial aggregates are in blocks, which the groups share in the end.
 /// Contracts see the list of the groups.
 #[derive(Drop)]
 pub(crate) struct OpenGroups {
@@ -50,7 +50,7 @@ impl OpenGroups {
         }
     }
 
-    /// How many groups there are.
+    /// The number of groups.
     pub(crate) fn len(&self) -> usize
         ensures { result ≡ length self.now }
     {
@@ -77,7 +77,7 @@ impl OpenGroups {
         self.blocks[place.block as usize].add_row(place.from as usize, plan.aggs.items(), row);
     }
 
-    /// Puts the group of one row, whose bucket starts at `start`, in at a place.
+    /// Inserts the group of one row, whose bucket starts at `start`, in at a place.
     pub(crate) fn put(
         &mut self,
         alloc: Global,

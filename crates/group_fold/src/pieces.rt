@@ -40,7 +40,7 @@ pub fn fold_pieces<R: Threads + Sync>(
     ensures any_order { IfOk result (AreGroupsInAnyOrder plan.now (all_rows pieces.now)) }
     ensures bounds { IsWidth plan.now.width }
 {
-    // Reading a width tells that it keeps its bounds.
+    // Reading a width tells the prover that it keeps its bounds.
     let _step = plan.width.step;
     let count = count_rows(pieces.items());
     if count >= MOST_ROWS {
@@ -50,7 +50,7 @@ pub fn fold_pieces<R: Threads + Sync>(
     Ok(Seq::of(fold_in_threads(rt, alloc, plan, pieces.items(), halvings)?))
 }
 
-/// How often the pieces of so many rows are halved.
+/// How often the pieces of a given number of rows are halved.
 fn halvings_of<R: Threads + Sync>(rt: &R, rows: u64) -> u32 {
     if rows < FEW_ROWS {
         return 0;

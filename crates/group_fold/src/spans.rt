@@ -36,7 +36,7 @@ pub fn fold_spans<R: Threads + Sync, W: RowsAt, L>(
         steps.old steps.new }
 {
     let _so_far = steps.count();
-    // Reading a width tells that it keeps its bounds.
+    // Reading a width tells the prover that it keeps its bounds.
     let _step = plan.width.step;
     let pieces = scan_spans(alloc, rows, table, spans, steps)?;
     fold_pieces(rt, alloc, plan, &pieces)

@@ -142,7 +142,7 @@ image_stand n def i b ok is =
     subst (λ (f : Fold). StandIn f b (groups_among v.groups b)) own.1 (saved_stand found v.dirty v.groups b groups.1))
     is
 
--- and those of what stood in the bucket
+-- and those of what was in the bucket
 stood_stand : (n : ℕ) (def : ViewDef) (g : History) (s : ℕ) (b : ℤ) → IsWidth def.fold.width → is_bucket def.fold.width b ≡ true → all_consistent g ≡ true → IsOf def (view_of (roster g) n) → StandIn def.fold b (groups_at_last n def g s b)
 stood_stand n def start s b wide at ok is = rows_stand def.fold (rows def.table start) b wide at
 stood_stand n def (resumed i) s b wide at ok is =
@@ -179,7 +179,7 @@ record AreRowsFrom (fold : Fold) (low : ℤ) (found : List (List Datum)) : Type 
 later : (g h : Group) → g.start <ℤ h.start → group_cmp g h ≡ Less
 later g h less = ap (λ o. ordering_then o (values_cmp g.keys h.keys)) (sym (int_cmp_is g.start h.start Less less))
 
--- groups of one bucket stand before those of buckets after it
+-- groups of one bucket are before those of buckets after it
 before_later : (b : ℤ) (gs hs : List Group) → AllByRecursion (λ g. g.start ≡ b) gs → AllByRecursion (λ h. (b +ℤ pos 1) ≤ℤ h.start) hs → AreInOrder gs → AreInOrder hs → AreInOrder (gs ++ hs)
 unfolding IsStrictlySortedBy
 before_later b [] hs starts from p q = q

@@ -44,7 +44,7 @@ groups_taken lower plan e =
 
 -- ---- cells
 
--- behind the first cell of a row stand the columns
+-- after the first cell of a row come the columns
 behind_first : (first : Datum) (cells : List Datum) (ks : List ℕ) → map (cell_or_null (first ∷ cells)) (map suc ks) ≡ map (cell_or_null cells) ks
 behind_first first cells [] = refl
 behind_first first cells (k ∷ ks) = ap (λ ds. cell_or_null cells k ∷ ds) (behind_first first cells ks)

@@ -76,7 +76,7 @@ key_below def (Some (suc k)) e =
     let place = passing_place (nat_lt k (length def.fold.keys)) k e in
     subst (λ n. n < length def.fold.keys) (sym place.1) (ltb-true _ _ place.0)
 
--- an aggregate's column stands behind the keys
+-- an aggregate's column is after the keys
 record IsAgg (def : ViewDef) (c : ℕ) : Type 0 where
   pub behind : length def.fold.keys ≤ c
   pub within : c - length def.fold.keys < length def.fold.aggs

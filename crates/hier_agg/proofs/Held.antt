@@ -83,7 +83,7 @@ stale_is_held lower upper spans b x h = any_reached upper b x h.within spans h.s
 
 -- ---- the same width
 
--- a bucket holds some of a range of whole buckets exactly where it lies in it
+-- a bucket holds some of a range of whole buckets if and only if it lies in it
 whole_reached : (w : Width) (s : Span) (b : ℤ) → IsWidth w → IsWholeRange w s → is_bucket w b ≡ true → reaches w b s ≡ in_span s b
 whole_reached w s b wide whole at = same_test (reaches w b s) (in_span s b) to back
   where

@@ -121,7 +121,7 @@ groups_kept lower plan width keys tests =
       tests = none_of plan.tests (eqb-true (length plan.tests) 0 tests);
     }
 
--- what a group shows behind its bucket
+-- what a group shows after its bucket
 abbrev pub columns : Fold → Group → List Datum
 columns lower group = map shown_or_null group.keys ++ shown_each lower.aggs group.parts
 

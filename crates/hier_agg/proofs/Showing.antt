@@ -222,7 +222,7 @@ rows_elsewhere fold b found = ap (group_rows fold b) (filter_twice (λ row. hold
 
 -- ---- the rows of one bucket
 
--- a bucket holds the start of another exactly where it is the same
+-- a bucket holds the start of another if and only if it is the same
 starts_held : (w : Width) (b x : ℤ) → IsWidth w → is_bucket w b ≡ true → is_bucket w x ≡ true → holds w b x ≡ int_eq x b
 starts_held w b x wide at start =
     same_test (holds w b x) (int_eq x b)

@@ -16,7 +16,7 @@ use Rattle.hier_agg.specs.Stale.{AreApart, AreWholeRanges, AreUpperRanges, reach
 -- ---- one range
 
 module _ (w : Width) (wide : IsWidth w) where
-  -- a wider bucket lies in a widened range exactly where it holds some of the range
+  -- a wider bucket lies in a widened range if and only if it holds some of the range
   reached : (s : Span) (b : ℤ) → is_bucket w b ≡ true → in_span (widened_range w s) b ≡ reaches w b s
   reached s b start = same_test (in_span (widened_range w s) b) (reaches w b s) to back
     where

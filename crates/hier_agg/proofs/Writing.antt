@@ -1,4 +1,4 @@
--- Rows that are taken in one by one, and whose groups are written in order.
+-- Rows that are added one by one, and whose groups are written in order.
 use Rattle.std.proofs.Common.{◌≡◌, ◌∙◌, List, [], ◌∷◌, Option, Some, None, length, length-append, sym, ap, arith}
 use Rattle.std.specs.Prelude.{IfSome}
 use Rattle.ts_num.specs.declared.values.Datum.{Datum}
@@ -43,7 +43,7 @@ module _ (plan : UpperPlan) (shape : Shape) (all : List (List Datum)) where
   way_ends left rows shown last is end w =
       end w.groups w.written ∙ ap (rows_shown shape) (sym (ap (λ ls. made_of plan shape ls w.groups) is) ∙ w.whole)
 
--- where no group was written there is no last one
+-- if no group was written there is no last one
 pub none_last : (shape : Shape) (rows : List (List Datum)) (last : Option CellGroup) → AreWritten shape [] rows last → IfSome last (HasTallies shape.aggs)
 none_last shape rows None w = tt
 none_last shape rows (Some g) w = absurd (omega (arith, simp length-append at (ap length w.all)))

@@ -29,7 +29,8 @@ use Rattle.hier_agg.specs.Wholes.{AreRowsOf, takes_all}
 
 -- ---- buckets
 
--- where widths nest, the bucket of a time's bucket is the bucket of the time, and the first bucket lies in the first
+-- if widths nest, the bucket of a time's bucket is the bucket of the time, and the first bucket lies in the
+-- first
 pub record BucketsNest : Type 0 where
   pub buckets :
       (lower upper : Width) (t : ℤ) → IsWidth lower → IsWidth upper → nests lower upper ≡ true
@@ -61,8 +62,8 @@ WiderBucketsShowTheComposedFold =
     → rows_within plan.width b found ≡ rows_within plan.width b (fold_rows lower rows)
     → rows_within plan.width b (upper_rows lower plan found) ≡ scratch_of (composed_fold lower plan) b rows
 
--- so a roll-up whose composed fold is the lower one itself, which has its width, all its keys and columns and no test,
--- shows of a bucket what the lower answer shows of it, of whatever rows that is; and it names the same ranges stale
+-- so a roll-up whose composed fold is the lower one itself, which has its width, all its keys and columns and
+-- no test, shows of a bucket what the lower answer shows of it, of any rows; and it names the same ranges stale
 pub record WholeRollUpsShowTheLowerAnswer : Type 0 where
   pub rows :
       (lower : Fold) (plan : UpperPlan) (rows : List Row) (found : List (List Datum)) (b : ℤ) → PlanFits lower plan
@@ -87,7 +88,7 @@ pub record IsHeld (lower upper : Width) (ranges : List Span) (b x : ℤ) : Type 
   pub within : holds upper b x ≡ true
   pub stale : lies_in ranges x ≡ true
 
--- a wider bucket holds a stale one exactly where there is a stale bucket in it
+-- a wider bucket holds a stale one if and only if there is a stale bucket in it
 pub record StaleBucketsAreHeld : Type 0 where
   pub there :
       (lower upper : Width) (stale : List Span) (b : ℤ) → IsWidth lower → IsWidth upper → nests lower upper ≡ true

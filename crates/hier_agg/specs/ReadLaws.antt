@@ -27,7 +27,7 @@ pub record PlansFit : Type 0 where
       (pos : ℕ) (roster : Roster) (stmt : Stmt) (plan : UpperPlan) → upper_read pos roster stmt ≡ Plan plan
       → can_ask roster (lower_query plan) ≡ true
 
--- where nothing is refused, the fold over the lower answer has the functions that are written
+-- if nothing is refused, the fold over the lower answer has the functions that are written
 abbrev pub FunctionsAddUp : Type 0
 FunctionsAddUp =
     (pos n : ℕ) (def : ViewDef) (f : NamedFold) → upper_refusal pos def f ≡ None

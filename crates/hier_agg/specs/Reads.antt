@@ -56,12 +56,12 @@ plan_of n def f = record {
 abbrev pub view_numbered : Roster → ℕ → ViewDef
 view_numbered roster n = slice_index_or roster.views n no_view
 
--- the first refusal, or the plan where there is none
+-- the first refusal, or the plan if there is none
 abbrev pub read_as : Option Refusal → UpperPlan → UpperRead
 read_as None plan = reads.Plan plan
 read_as (Some r) plan = reads.Refused r
 
--- what a fold asks of what was found: it is a roll-up where that is an aggregate
+-- what a fold asks of what was found: it is a roll-up if that is an aggregate
 abbrev pub fold_read : ℕ → Roster → NamedFold → Found → UpperRead
 fold_read pos roster f found.None = reads.NotUpper
 fold_read pos roster f (found.Plain n) = reads.NotUpper

@@ -37,7 +37,7 @@ pub record AreUpperRanges (w : Width) (stale found : List Span) : Type 0 where
 abbrev pub widened_range : Width → Span → Span
 widened_range w range = record { lo = bucket_of w range.lo; hi = bucket_of w (range.hi -ℤ pos 1) +ℤ w.step }
 
--- ranges with one before them, which takes in the first of them where it reaches that
+-- ranges with one before them, which absorbs the first of them if it reaches that
 abbrev pub with_range : Span → List Span → List Span
 with_range r [] = r ∷ []
 with_range r (t ∷ ts) = cond (int_lt r.hi t.lo) (r ∷ t ∷ ts) (record { lo = r.lo; hi = int_max r.hi t.hi } ∷ ts)

@@ -47,14 +47,14 @@ fn made_rows(
 ) -> Result<CellRows<Datum>, NoMemory>
     ensures { IfOk result (λ upper. upper ≡ upper_rows lower.now plan.now rows.now) }
 {
-    // Reading a width tells that it keeps its bounds.
+    // Reading a width tells the prover that it keeps its bounds.
     let _step = plan.width.step;
     let shape = shape_of(alloc, lower, plan)?;
     let upper = rolled_rows(alloc, plan, lower, &shape, rows)?;
     Ok(upper)
 }
 
-/// The result rows of the rows whose keys pass, in one pass where their groups come in order.
+/// The result rows of the rows whose keys pass, in one pass if their groups come in order.
 fn rolled_rows(
     alloc: Global,
     plan: &UpperPlan,

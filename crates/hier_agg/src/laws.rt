@@ -2,7 +2,7 @@
 ghost use Rattle.hier_agg.specs.Laws.{AnswersHaveWholeRanges, AnswersShowGroups, BucketsNest, FreshBucketsShowTheComposedFold, GroupingInTwoSteps, RollUpsOfGroupsChooseCells, RollUpsShowTheComposedFold, StaleBucketsAreHeld, UpperAnswersAreRolledUp, WholeRollUpsAreTheLowerAnswer, WholeRollUpsShowTheLowerAnswer, WiderBucketsShowTheComposedFold};
 ghost use Rattle.hier_agg.specs.ReadLaws.{FunctionsAddUp, PlansFit};
 
-/// Where widths nest, the bucket of a time's bucket is the bucket of the time, and the first bucket lies in the
+/// If widths nest, the bucket of a time's bucket is the bucket of the time, and the first bucket lies in the
 /// first.
 pub fn buckets_nest()
     ensures { BucketsNest }
@@ -33,7 +33,7 @@ pub fn answers_have_whole_ranges()
     ensures { AnswersHaveWholeRanges }
 {}
 
-/// A wider bucket holds a stale one exactly if there is a stale bucket in it.
+/// A wider bucket holds a stale one if and only if there is a stale bucket in it.
 pub fn stale_buckets_are_held()
     ensures { StaleBucketsAreHeld }
 {}

@@ -11,7 +11,7 @@
 //! - `places`: which cells of that answer it then shows.
 //! - `shapes`: a roll-up, as a grouping of cells.
 //! - `rows`: a row of an answer: its keys, and its wider bucket.
-//! - `writes`: the result rows of an answer's rows, written in one pass where their groups come in order.
+//! - `writes`: the result rows of an answer's rows, written in one pass if their groups come in order.
 //! - `gathers`: the groups of an answer's rows, in any order.
 //! - `wides`: the wider bucket of a row.
 //! - `laws`: what roll-ups show, at every history.

@@ -59,7 +59,7 @@ fn same_width(width: &Width, other: &Width) -> bool
     width.step == other.step && width.shift == other.shift
 }
 
-/// Whether these are so many columns from one on, each once and in their order.
+/// Whether these are this many columns from one on, each once and in their order.
 fn are_all(first: usize, many: usize, cols: &[u32]) -> bool
     ensures { result ≡ are_all first many cols.now }
 {

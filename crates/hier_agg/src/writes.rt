@@ -1,4 +1,4 @@
-//! The result rows of an answer's rows, written in one pass where their groups come in order.
+//! The result rows of an answer's rows, written in one pass if their groups come in order.
 ghost use Rattle.std.specs.Prelude.{◌≡◌, List, [], true, IfOk, IfSome, OnOk};
 ghost use Rattle.partial_agg.specs.declared.groups.Group.{Group};
 ghost use Rattle.cell_groups.specs.Groups.{HasTallies, rows_shown};

@@ -51,7 +51,7 @@ are_few h i is few n def b view whole left =
     let there : groups_among (saved_view n i).groups b ≡ groups_left n def h b (last n h b) = (is.views n def view).groups b whole ∙ cond-true _ (groups_left n def h b (last n h b)) [] left in
     ap (list_all is_few) (sym there) ∙ among_few (saved_view n i).groups b (view_few i.views n few)
 
--- the image of an allowed history is valid where its groups are of few rows
+-- the image of an allowed history is valid if its groups are of few rows
 pub is_valid : (h : History) (i : Image) → ImagesAreValid → all_allowed h ≡ true → IsImage h i → few_in_image i ≡ true → valid i ≡ true
 is_valid h i law allowed is few = law h i allowed (are_few h i is few) is
 

@@ -1,4 +1,4 @@
--- A valid image of the code has a spelling.
+-- A valid image of the code has a encoding.
 use Rattle.std.proofs.Common.{◌≡◌, ℕ, ◌+◌, ◌^◌, ◌<◌, ◌&&◌, true, nat_lt, List, [], ◌∷◌, length, map, ℤ, pos, ◌+ℤ◌, ◌-ℤ◌, ◌≤ℤ◌, ◌<ℤ◌, int_lt, int_le, Option, Some, None, sym, arith}
 use Rattle.std.specs.List.{AllByRecursion, list_all}
 use Rattle.std.proofs.lemmas.Bool.{and_parts, true≢false}
@@ -87,7 +87,7 @@ are_waiting r p (w ∷ ws) fit has =
     let first = and_parts (is_number p w.cut) (span_fits w.span (view_of r w.view)) parts.0 in
     (record { cut = has.0.cut; view = has.0.view; span = is_span w.span (view_of r w.view) has.0.span first.1 }, are_waiting r p ws parts.1 has.1)
 
--- a valid image of fewer than 2 ^ 32 bytes, whose numbers are in range, has a spelling
+-- a valid image of fewer than 2 ^ 32 bytes, whose numbers are in range, has a encoding
 pub formed : (i : Image) → valid i ≡ true → length (image i) < 2 ^ 32 → HasFields i → IsFormed i
 formed i ok few has =
     let v = valid_is i ok in

@@ -46,7 +46,8 @@ pub record AlikeSince (p : ℕ) (g h : History) : Type 0 where
 
 -- ---- what one event does
 
--- a bucket is touched after a position by a commit where it was before, or the commit is after it and touches the bucket
+-- a bucket is touched after a position by a commit if it was before, or the commit is after it and touches the
+-- bucket
 touched_further : (n : ℕ) (def : ViewDef) (h : History) (ops : List Op) (b : ℤ) (s : ℕ) → touched n def (h ▸ Commit ops) b s ≡ (touched n def h b s || is_above s (cond (touches def ops h b) (Some (suc (position h))) None))
 touched_further n def h ops b s = is_above-later s (last_touch n def h b) (cond (touches def ops h b) (Some (suc (position h))) None)
 
@@ -94,7 +95,7 @@ view_commit n def g h ops places stored ok_g ok_h v = record {
   left = λ b s bucket l _. left_further n def g h (Commit ops) b s ok_g ok_h l (sym (v.lasts b bucket) ∙ l) (left_before b s bucket l);
 }
   where
-    -- a bucket untouched until now had left what stands there, on both sides
+    -- a bucket untouched until now had left what is there, on both sides
     left_before : (b : ℤ) (s : ℕ) → is_bucket def.fold.width b ≡ true → last n g b ≡ Some s → groups_at n def g s b ≡ groups_at n def h s b
     left_before b s bucket l =
         ⊎_elim
@@ -329,7 +330,7 @@ below_base p h (Mode v only) base e = absurd (true≢false e)
 below_base p h (Commit ops) base e = absurd (true≢false e)
 below_base p h (Cut v span) base e = absurd (true≢false e)
 
--- one more event, where what holds after it is known
+-- one more event, if what holds after it is known
 over_one : (p : ℕ) (g h : History) (e : Event) (es : List Event) → base_position h ≡ p → all_allowed g ≡ true → all_allowed h ≡ true → AlikeSince p g h → (all_allowed (g ▸ e) ≡ true → all_allowed (h ▸ e) ≡ true → AlikeSince p (g ▸ e) (h ▸ e) → all_allowed ((h ▸ e) ▸▸ es) ≡ (all_allowed ((g ▸ e) ▸▸ es) && are_from p es)) → all_allowed ((h ▸ e) ▸▸ es) ≡ (all_allowed ((g ▸ e) ▸▸ es) && (is_from p e && are_from p es))
 over_one p g h e es base ok_g ok_h a rest = by_from (is_from p e) refl
   where

@@ -34,7 +34,7 @@ waiting_over g h (e ∷ es) p w = waiting_over (g ▸ e) (h ▸ e) es (ap suc p)
 
 -- ---- at a position from the image on
 
--- the first so many events
+-- the first events, up to a given number
 abbrev pub upto : ℕ → List Event → List Event
 upto k [] = []
 upto zero (e ∷ es) = []

@@ -140,7 +140,7 @@ over_found h t u (suc n) l m =
     further : (u t : ℕ) → u ≤ t → (u == t) ≡ false → suc u ≤ t
     further u t l e = let m : u < t = grind (arith, nat_tests) in omega arith
 
--- a table that isn't there has no rows
+-- a missing table has no rows
 rows_past : (t : ℕ) (h : History) → all_allowed h ≡ true → length (roster h).tables ≤ t → rows t h ≡ []
 rows_past t h ok l = none (rows t h) fit
   where
@@ -469,7 +469,7 @@ span_again h n k ok w = by_case (pending h k) refl w
     by_case (Finished f) is w = absurd (true≢false (sym w))
     by_case Unknown is w = absurd (true≢false (sym w))
 
--- ---- an aggregate that isn't there
+-- ---- a missing aggregate
 
 absent_before : (h : History) (e : Event) (n : ℕ) → view_of (roster (h ▸ e)) n ≡ None → view_of (roster h) n ≡ None
 absent_before h e n none = by_view (view_of (roster h) n) refl
@@ -513,7 +513,7 @@ saved_none n h i is none =
     let as_many : length i.views ≡ length (roster h).views = is.as_many in
     ap (λ o. unwrap_or o nothing_saved) (slice_get_past i.views n (omega arith))
 
--- ---- names and modes play no part
+-- ---- names and modes have no effect
 
 abbrev relabel : List ℕ → List (List ℕ) → Bool → ViewDef → ViewDef
 relabel name names only def = record { name = name; table = def.table; fold = def.fold; names = names; only = only }

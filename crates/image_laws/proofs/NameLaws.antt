@@ -68,7 +68,7 @@ any_view : (name : List ℕ) (vs : List ViewDef) → list_any (λ def. same_name
 any_view name [] = refl
 any_view name (v ∷ vs) = ap (λ b. b || list_any (λ def. same_name def.name name) vs) (name_turned v.name name) ∙ ap (λ b. same_name name v.name || b) (any_view name vs)
 
--- a name is taken where a relation has it
+-- a name is taken if a relation has it
 pub taken_is : (r : Roster) (name : List ℕ) → is_taken r name ≡ (list_any (same_name name) (table_names r.tables) || list_any (same_name name) (view_names r.views))
 taken_is r name =
     ap (λ b. b || is_some (view_named r name)) (place_any (λ info. same_name info.def.name name) r.tables ∙ any_table name r.tables)

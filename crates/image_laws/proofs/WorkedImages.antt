@@ -217,11 +217,11 @@ measures = Table (record { name = codes "m"; cols = column (codes "time") true �
 abbrev made_hyper : Event
 made_hyper = Hyper 0 (record { at = 0; interval = pos 100 })
 
--- an aggregate stands before a table
+-- an aggregate is before a table
 view_before_table : valid (record image { roster = measures ∷ made_hyper ∷ View sums ∷ plain (codes "k") ∷ [] }) ≡ false
 view_before_table = refl
 
--- what makes a table a hypertable doesn't stand directly after it
+-- what makes a table a hypertable doesn't come directly after it
 hyper_too_late : valid (record image { roster = measures ∷ plain (codes "k") ∷ made_hyper ∷ View sums ∷ [] }) ≡ false
 hyper_too_late = refl
 
@@ -258,7 +258,7 @@ no_rows = refl
 two_operations : valid (with_held (Commit (Insert 0 (row 50 1 5 ∷ []) ∷ Insert 0 (row 250 1 9 ∷ []) ∷ []) ∷ [])) ≡ false
 two_operations = refl
 
--- rows of a table that isn't there
+-- rows of a missing table
 rows_of_no_table : valid (with_held (Commit (Insert 1 (row 50 1 5 ∷ []) ∷ []) ∷ [])) ≡ false
 rows_of_no_table = refl
 

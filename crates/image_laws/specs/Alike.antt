@@ -49,9 +49,9 @@ abbrev pub are_from : ℕ → List Event → Bool
 are_from p [] = true
 are_from p (e ∷ es) = is_from p e && are_from p es
 
--- a history that is alike to one that begins with an image and has no event after it stays alike to it under the same
--- events, and these are allowed after the one exactly if they are allowed after the other and no snapshot is below
--- the image
+-- a history that is alike to one that begins with an image and has no event after it stays alike to it under
+-- the same events, and these are allowed after the one if and only if they are allowed after the other and no
+-- snapshot is below the image
 pub record AlikeStays : Type 0 where
   pub allowed :
       (h : History) (i : Image) (es : List Event) → all_allowed h ≡ true → all_allowed (resumed i) ≡ true

@@ -84,12 +84,12 @@ groups_left n def h b (Some s) = groups_at n def h s b
 abbrev pub was_left : ℕ → ViewDef → History → ℤ → Bool
 was_left n def h b = is_some (last n h b) && invalid n def h b
 
--- a range is above another, and where it begins where that ends, it has another position
+-- a range is above another, and if it begins where that ends, it has another position
 pub record Follows (l m : SavedLast) : Type 0 where
   pub above : l.span.hi ≤ℤ m.span.lo
   pub other : l.span.hi ≡ m.span.lo → l.pos ≢ m.pos
 
--- ranges rise, and where one begins where another ends, their positions differ
+-- ranges rise, and if one begins where another ends, their positions differ
 abbrev pub LastsRise : List SavedLast → Type 0
 LastsRise [] = Unit {0}
 LastsRise (l ∷ []) = Unit {0}
@@ -141,8 +141,8 @@ OneImage = (h : History) (i j : Image) → IsImage h i → IsImage h j → i ≡
 abbrev pub ImagesAreAlike : Type 0
 ImagesAreAlike = (h : History) (i : Image) → all_allowed h ≡ true → IsImage h i → Alike h (resumed i)
 
--- events are allowed after the image of a history exactly if they are allowed after the history and no snapshot is
--- below the image, and then each question has the same answer over both
+-- events are allowed after the image of a history if and only if they are allowed after the history and no
+-- snapshot is below the image, and then each question has the same answer over both
 pub record CheckpointsKeep : Type 0 where
   pub allowed :
       (h : History) (i : Image) (es : List Event) → all_allowed h ≡ true → IsImage h i → valid i ≡ true

@@ -14,7 +14,7 @@ pub record LogValue : Type 0 where
 abbrev pub begins_below : HullValue → ℤ → Bool
 begins_below hull threshold = int_lt hull.least threshold
 
--- the entries after a hull was noted at a position: it is logged exactly where it begins below the threshold
+-- the entries after a hull was noted at a position: it is logged if and only if it begins below the threshold
 abbrev pub entries_noted : LogValue → HullValue → ℕ → List Entry
 entries_noted log hull pos =
     cond (begins_below hull log.threshold) (log.entries ++ record { hull = hull; pos = pos } ∷ []) log.entries

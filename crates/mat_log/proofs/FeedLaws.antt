@@ -1,4 +1,5 @@
--- Laws of feeding: entries fed one after another leave what their latest positions say, and something is pending after them exactly where it was or one of them is above the last refresh.
+-- Laws of feeding: entries fed in order leave what their latest positions say, and something is pending after
+-- them if and only if it was or one of them is above the last refresh.
 use Rattle.std.proofs.Common.{◌≡◌, ℕ, ◌≤◌, ◌<◌, ◌+◌, length, drop, get_or, max, Bool, true, false, cond, ◌&&◌, ◌||◌, nat_le, nat_lt, List, [], ◌∷◌, ◌++◌, filter, ℤ, ◌+ℤ◌, ◌≤ℤ◌, ◌<ℤ◌, Option, Some, None, is_some, refl, sym, ap, ◌∙◌, arith}
 use Rattle.std.proofs.lemmas.Int.{ints}
 use Rattle.std.proofs.lemmas.List.{drop_more}
@@ -108,7 +109,8 @@ fed_step p true (Some s) v (Some q) f =
     by true false e g = absurd (grind (arith, nat_tests))
     by false false e g = refl
 
--- what is pending after entries whose positions rise is the latest of them that is above the last refresh, and else what was
+-- what is pending after entries whose positions rise is the latest of them that is above the last refresh, and
+-- otherwise what was
 pub fed_is : (w : WidthValue) (b : ℤ) (n : ℕ) (r : Option ℕ) (es : List Entry) (v : Option ℕ) → IsWidth w → is_bucket w b ≡ true → are_rising n es ≡ true → pending_after_all w b r es v ≡ combined_by Over v (combined_by Above r (touch_at w es b))
 fed_is w b n r [] v h bucket rising = sym (ap (combined_by Over v) (above_last-nothing r))
 fed_is w b n r (e ∷ es) v h bucket rising =
@@ -128,7 +130,7 @@ some_step p true (Some s) v = by (nat_lt s p)
     by true = sym (or-true (is_some v))
     by false = sym (or-false (is_some v))
 
--- something is pending after any entries exactly where it was, or the latest of them is above the last refresh
+-- something is pending after any entries if and only if it was, or the latest of them is above the last refresh
 pub fed_some : (w : WidthValue) (b : ℤ) (r : Option ℕ) (es : List Entry) (v : Option ℕ) → IsWidth w → is_bucket w b ≡ true → is_some (pending_after_all w b r es v) ≡ (is_some v || is_some (above_last r (touch_at w es b)))
 fed_some w b r [] v h bucket = sym (ap (λ x. is_some v || is_some x) (above_last-nothing r) ∙ or-false (is_some v))
 fed_some w b r (e ∷ es) v h bucket =
@@ -174,7 +176,7 @@ in_step-with w p r p' es h is = record {
     still false (Some p) None m = refl
     still false (Some p) (Some q) m = refl
 
--- within a span alone
+-- within a span only
 pub with_within : (i : Bool) (p r q : Option ℕ) → combined_by Over (cond i p None) (combined_by Above (cond i r None) (cond i q None)) ≡ cond i (combined_by Over p (combined_by Above r q)) None
 with_within true p r q = refl
 with_within false p r q = refl

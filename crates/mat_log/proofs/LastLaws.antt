@@ -1,4 +1,4 @@
--- Laws of last refreshes as pieces: merged, they are ranges of whole buckets, as long as can be.
+-- Laws of last refreshes as pieces: merged, they are ranges of whole buckets, of maximal length.
 use Rattle.std.proofs.Common.{◌≡◌, ℕ, zero, suc, Bool, true, false, cond, ◌&&◌, ◌||◌, ◌==◌, ◌<◌, ℤ, pos, ◌-ℤ◌, ◌≤ℤ◌, ◌<ℤ◌, List, [], ◌∷◌, ◌++◌, take, length, get_or, Option, Some, None, Result, IfOk, refl, sym, ap, ◌∙◌, subst, arith, true≢false}
 use Rattle.std.specs.Prelude.{◌≢◌, is_none, is_some, nat_lt}
 use Rattle.std.proofs.Math.Bool.{or-false}
@@ -127,7 +127,7 @@ same_value v = eq-eqb v v refl
 other_value : (v x : ℕ) → v ≢ x → (v == x) ≡ false
 other_value v x d = elim (v == x) as (λ t. (v == x) ≡ t → t ≡ false) [ true ↦ λ e. absurd (d (eqb-true v x e)) | false ↦ λ _. refl ] refl
 
--- the value behind a piece is another
+-- the value after a piece is another
 behind : (p : Piece) (ps : List Piece) → AreSized (p ∷ ps) → is_value p.pos (piece_at (p ∷ ps) p.span.hi) ≡ false
 behind p ps s =
     let end : in_span p.span p.span.hi ≡ false = out_above p.span p.span.hi (omega (arith, ints)) in
@@ -221,7 +221,7 @@ lasts_as w f g s pieces found h one is_whole same values rising =
     bucket : (t : ℤ) → in_span s t ≡ in_span s (bucket_of w t)
     bucket t = ap (λ (x : SpanValue). in_span x t) is_whole ∙ in_span-bucket w (whole_span w) t h (is_bucket-first w h) (is_bucket-bucket_of w greatest h) ∙ ap (λ (x : SpanValue). in_span x (bucket_of w t)) (sym is_whole)
 
--- ---- what is pending where the last refreshes are known
+-- ---- what is pending if the last refreshes are known
 
 pending_is : (v : Option ℕ) (inside dirty : Bool) (at : ℕ) → combined_by Over (combined_by Above v (cond inside (Some 0) None)) (cond dirty (Some at) None) ≡ cond dirty (Some at) (cond (inside && is_none v) (Some 0) None)
 pending_is v inside true at = refl

@@ -9,12 +9,12 @@ use Rattle.ts_bucket.specs.WholeSpans.{whole_span}
 use Rattle.span_map.specs.declared.pieces.Piece.{Piece}
 use Rattle.span_map.specs.Pieces.{piece_at}
 
--- a piece is above another, and where it begins where that ends, it has another position
+-- a piece is above another, and if it begins where that ends, it has another position
 pub record Follows (p q : Piece) : Type 0 where
   pub above : p.span.hi ≤ℤ q.span.lo
   pub other : p.span.hi ≡ q.span.lo → p.pos ≢ q.pos
 
--- pieces rise, and where one begins where another ends, their positions differ
+-- pieces rise, and if one begins where another ends, their positions differ
 abbrev pub PiecesRise : List Piece → Type 0
 PiecesRise [] = Unit {0}
 PiecesRise (p ∷ []) = Unit {0}

@@ -43,7 +43,7 @@ pub record IsSame (old new : LogValue) : Type 0 where
   pub pending : (b : ℤ) → pending_at new b ≡ pending_at old b
   pub refreshed : (b : ℤ) → last_at new b ≡ last_at old b
 
--- what keeps the two functions in step: each has one value for a whole bucket, and where nothing was refreshed
+-- what keeps the two functions in step: each has one value for a whole bucket, and if nothing was refreshed
 -- something is pending
 pub record IsInStep (w : WidthValue) (pending refreshed : ℤ → Option ℕ) : Type 0 where
   pub bounds : IsWidth w

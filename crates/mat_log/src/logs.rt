@@ -165,7 +165,7 @@ impl MatLog {
     pub fn lasts(&self) -> Result<Seq<Piece>, NoMemory>
         ensures lasts { IfOk result (AreLasts self.now.width (last_at self.now)) }
     {
-        // Reading the width tells that each bucket has one value.
+        // Reading the width tells the prover that each bucket has one value.
         let _width = self.width;
         let pieces = self.refreshed.ranges(all_buckets(self.width))?;
         merge_pieces(self.alloc, pieces.items())
@@ -177,7 +177,7 @@ impl MatLog {
         requires { IsWholeSpan self.now.width span }
         ensures ranges { IfOk result (AreRanges self.now.width span (is_dirty self.now)) }
     {
-        // Reading the end tells that it is a number of 64 bits.
+        // Reading the end tells the prover that it is a number of 64 bits.
         let _end = span.hi;
         join_pieces(self.pending.ranges(span)?)
     }
@@ -206,7 +206,7 @@ impl MatLog {
         }
     }
 
-    /// Whether one sweep over all pieces costs less than feeding so many entries in order.
+    /// Whether one sweep over all pieces costs less than feeding a given number of entries in order.
     fn is_swept(&self, entries: usize) -> bool {
         let edges = self.pending.size().saturating_add(self.refreshed.size());
         entries > edges / EDGES_AN_ENTRY
@@ -261,7 +261,7 @@ impl MatLog {
         requires within { AreWithin entries.now.items self.now }
         ensures ranges { IfOk result (AreRanges self.now.width span (is_dirty_with self.now entries.now.items)) }
     {
-        // Reading the end tells that it is a number of 64 bits, and reading the width that the two
+        // Reading the end tells the prover that it is a number of 64 bits, and reading the width that the two
         // maps are in step.
         let _end = span.hi;
         let _width = self.width;
@@ -294,7 +294,7 @@ impl MatLog {
         requires within { AreWithin entries.now.items self.now }
         ensures ranges { IfOk result (AreRanges self.now.width span (is_changed_with self.now entries.now.items)) }
     {
-        // Reading the width tells that the two maps are in step.
+        // Reading the width tells the prover that the two maps are in step.
         let _width = self.width;
         let pending = self.pending_near(entries, span)?;
         let refreshed = self.refreshed.within(span)?;
@@ -311,7 +311,7 @@ impl MatLog {
         ensures ranges { IfOk result (AreRanges self.now.width span (λ b.
             lies_in ranges.now b && is_renewed self.now snap b)) }
     {
-        // Reading the width tells that the two maps are in step.
+        // Reading the width tells the prover that the two maps are in step.
         let _width = self.width;
         let all = position_map(self.alloc, ranges, snap)?;
         let refreshed = self.refreshed.within(span)?;
@@ -332,7 +332,7 @@ impl MatLog {
         requires within { AreWithin entries.now.items self.now }
         ensures ranges { IfOk result (AreRanges self.now.width span (is_redone_with self.now entries.now.items snap)) }
     {
-        // Reading the end tells that it is a number of 64 bits, and reading the width that the two
+        // Reading the end tells the prover that it is a number of 64 bits, and reading the width that the two
         // maps are in step.
         let _end = span.hi;
         let _width = self.width;

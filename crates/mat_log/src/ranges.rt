@@ -9,7 +9,7 @@ use std::alloc::Global;
 use ts_bucket::Span;
 use ts_schema::{NoMemory, Seq};
 
-/// The range that is open after a piece, where one may be open before it.
+/// The range that is open after a piece, if one may be open before it.
 fn open_range(range: &Option<Span>, next: Span) -> Span
     ensures { result ≡ open_after range.now next }
 {

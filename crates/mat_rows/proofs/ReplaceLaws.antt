@@ -67,7 +67,7 @@ rise_rest : (s : SpanValue) (ss : List SpanValue) → SpansRise (s ∷ ss) → S
 rise_rest s [] r = tt
 rise_rest s (t ∷ ss) r = r.1
 
--- at each bucket the groups are the new ones where it lies in a span, and else the old ones
+-- at each bucket the groups are the new ones if it lies in a span, and otherwise the old ones
 pub of_bucket-replaced : (b : ℤ) (ss : List SpanValue) (new old : List Group) → AreSpans ss → SpansRise ss → of_bucket b (groups_replaced ss new old) ≡ cond (lies_in ss b) (of_bucket b new) (of_bucket b old)
 of_bucket-replaced b [] new old a r = refl
 of_bucket-replaced b (s ∷ ss) new old a r =
@@ -137,7 +137,7 @@ all_kept : (p : Group → Bool) (P : Group → Type 0) (gs : List Group) → All
 all_kept p P [] h = tt
 all_kept p P (g ∷ gs) h = filter_step P g (filter p gs) (p g) (λ e. h.0) (all_kept p P gs h.1)
 
--- what holds of the new groups and of the old ones holds of all
+-- what is true of the new groups and of the old ones is true of all
 pub all_replaced : (P : Group → Type 0) (ss : List SpanValue) (new old : List Group) → AllByRecursion P new → AllByRecursion P old → AllByRecursion P (groups_replaced ss new old)
 all_replaced P [] new old p q = q
 all_replaced P (s ∷ ss) new old p q =
@@ -152,7 +152,7 @@ order_join x (g ∷ gs) hs p q a b =
     let less : g.start <ℤ x = a.0 in
     (all_append (λ h. group_cmp g h ≡ Less) gs hs p.0 (all_weaker (λ h. x ≤ℤ h.start) (λ h. group_cmp g h ≡ Less) (λ h le. less_by_start g h (omega (arith, ints))) hs b), order_join x gs hs p.1 q a.1 b)
 
--- all start from x on, where the old ones do, and the spans are above it
+-- all start from x on, if the old ones do, and the spans are above it
 from_replaced : (x : ℤ) (ss : List SpanValue) (new old : List Group) → AreSpans ss → AllByRecursion (λ (t : SpanValue). x ≤ℤ t.lo) ss → AllByRecursion (λ g. x ≤ℤ g.start) old → AllByRecursion (λ g. x ≤ℤ g.start) (groups_replaced ss new old)
 from_replaced x [] new old a h o = o
 from_replaced x (s ∷ ss) new old a h o =

@@ -30,7 +30,7 @@ abbrev pub groups_replaced : List SpanValue → List Group → List Group → Li
 groups_replaced [] new old = old
 groups_replaced (s ∷ ss) new old = below s.lo old ++ (within s new ++ groups_replaced ss new (from_on s.hi old))
 
--- each bucket has its new groups where it starts in one of the spans, and its old ones elsewhere
+-- each bucket has its new groups if it starts in one of the spans, and its old ones elsewhere
 abbrev pub BucketsAreOfBoth : List SpanValue → List Group → List Group → List Group → Type 0
 BucketsAreOfBoth spans new old groups =
     (b : ℤ) → of_bucket b groups ≡ cond (lies_in spans b) (of_bucket b new) (of_bucket b old)

@@ -54,7 +54,7 @@ impl MatRows {
         })
     }
 
-    /// How many groups there are.
+    /// The number of groups.
     pub fn len(&self) -> usize
         ensures len { result ≡ length self.now }
     {

@@ -44,12 +44,12 @@ abbrev pub TakesInAll : Summary → Summary → Summary → Type 0
 TakesInAll other old new =
     (mine theirs : List (Option ℤ)) → old ≡ summary mine → other ≡ summary theirs → new ≡ summary (mine ++ theirs)
 
--- the sum of so many values, NULL where there are none
+-- the sum of a given number of values, NULL if there are none
 abbrev pub sum_shown : ℕ → ℤ → Datum
 sum_shown zero sum = Null
 sum_shown (suc n) sum = Int sum
 
--- the mean of so many values with this sum, NULL where there are none
+-- the mean of a given number of values with this sum, NULL if there are none
 abbrev pub mean_shown : ℕ → ℤ → Datum
 mean_shown zero sum = Null
 mean_shown (suc n) sum = Ratio (lowest_terms sum (suc n))
@@ -69,7 +69,7 @@ value_of Null = None
 value_of (Int v) = Some v
 value_of (Ratio q) = None
 
--- there are no more values than rows and fewer than 2^62 rows, and the sum is one of so many 64-bit values
+-- there are no more values than rows and fewer than 2^62 rows, and the sum is one of that many 64-bit values
 pub record IsBounded (count values : ℕ) (sum : ℤ) : Type 0 where
   pub counted : values ≤ count
   pub fewer : count < 2 ^ 62

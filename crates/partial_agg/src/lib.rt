@@ -1,5 +1,5 @@
-//! Partial aggregates: what a column of values sums up to, for every aggregate function at once, so
-//! that what was aggregated in parts can be put together.
+//! Partial aggregates: what a column of values sums up to, for every aggregate function at once, so that what
+//! was aggregated in parts can be combined.
 //!
 //! - `partials`: the partial aggregate of a column, and what a function shows of it.
 //! - `keys`: the keys of a group.

@@ -215,7 +215,7 @@ module _ (def : ViewDef) (kept : List Group) (mark : Option ℤ) (starts : Span)
       (all_weaker (IsKept def.fold.width mark starts) (λ g. among g.start (buckets_in def.fold.width starts) ≡ true) (λ g p. among-buckets_in def.fold.width starts g.start ∙ (and_parts _ _ p).0) kept kept_is)
       (all_weaker (IsLive def.fold.width mark starts) (λ g. among g.start (buckets_in def.fold.width starts) ≡ true) (λ g p. among-buckets_in def.fold.width starts g.start ∙ (and_parts _ _ p).0) live live_is)
 
-  -- of a bucket that is asked for and not below the mark, the live groups are those of its rows
+  -- of a bucket that is requested and not below the mark, the live groups are those of its rows
   live_at : (b : ℤ) → is_asked def.fold.width starts b ≡ true → is_below b mark ≡ false → of_bucket b live ≡ cond def.only [] (groups_in def.fold rows b)
   live_at b asked above =
       let at : is_live def.fold.width mark starts b ≡ true = rw (asked, above) refl in

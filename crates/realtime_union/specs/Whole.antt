@@ -9,7 +9,7 @@ use Rattle.ts_model.specs.Reads.{rows_near}
 use Rattle.ts_model.specs.Rows.{in_order}
 use Rattle.realtime_union.specs.Live.{all_times}
 
--- the rows that match every test, in row order, with all their columns, where the time column is at this place
+-- the rows that match every test, in row order, with all their columns, if the time column is at this place
 abbrev pub passing_rows : ℕ → List Test → List Row → List (List Datum)
 passing_rows at tests rows = map (all_columns at) (filter (λ row. passes_all row tests) (in_order rows))
 

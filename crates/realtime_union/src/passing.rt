@@ -97,7 +97,7 @@ fn show_row(
     Ok(())
 }
 
-/// Appends all columns of a row in declared order, where the time column is at this place.
+/// Appends all columns of a row in declared order, if the time column is at this place.
 #[inline(always)]
 fn put_columns(at: u32, row: &Row, cells: &mut Vec<Datum>) -> Result<(), NoMemory>
     ensures { IfOk result (λ _. cells.new.items ≡ cells.old.items ++ all_columns at row.now) }

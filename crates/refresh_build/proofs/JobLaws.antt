@@ -47,7 +47,7 @@ rising_apart w (s ∷ u ∷ ss) whole rise = ((λ t inside. none_below w s.hi u 
 pub ranges_apart : (w : WidthValue) (starts : SpanValue) (test : ℤ → Bool) (spans : List Span) → AreRanges w starts test spans → AreApart spans
 ranges_apart w starts test spans ranges = rising_apart w spans ranges.whole ranges.rising
 
--- they hold a number exactly where they hold its bucket
+-- they hold a number if and only if they hold its bucket
 pub lies_in-bucket : (w : WidthValue) (spans : List Span) (t : ℤ) → IsWidth w → AllByRecursion (IsWholeRange w) spans → lies_in spans t ≡ lies_in spans (bucket_of w t)
 lies_in-bucket w [] t wide whole = refl
 lies_in-bucket w (s ∷ ss) t wide whole =

@@ -1,4 +1,4 @@
--- Nothing noted is lost by a cut: what was logged is pending afterwards, where it is above the last refresh.
+-- Nothing noted is lost by a cut: what was logged is pending afterwards, if it is above the last refresh.
 use Rattle.std.proofs.Common.{◌≡◌, ℕ, ◌<◌, ◌≤◌, max, Bool, true, false, cond, ◌&&◌, nat_lt, List, [], ◌∷◌, map, ℤ, Option, Some, None, refl, sym, ap, ◌∙◌, arith}
 use Rattle.std.proofs.lemmas.Bool.Decides.{nat_tests}
 use Rattle.ts_bucket.specs.Bucket.{WidthValue}

@@ -256,7 +256,7 @@ cuts_are : (i : Image) (ws : List WaitingRefresh) → AllByRecursion (λ w. w.cu
 cuts_are i [] upto spans = tt
 cuts_are i (w ∷ ws) upto spans = (span_told i w.view w.cut upto.0 ∙ spans.0.1, cuts_are i ws upto.1 spans.1)
 
--- what an image tells of a number above its position is nothing
+-- what an image says of a number above its position is nothing
 none_above : (i : Image) (k : ℕ) → AllByRecursion (λ w. w.cut ≤ i.pos) i.waiting → AllByRecursion (λ f. f.cut ≤ i.pos) i.done → pending_among i.waiting i.done k ≡ cond (nat_le k i.pos) (pending_among i.waiting i.done k) Unknown
 none_above i k waits done = by (nat_le k i.pos) refl
   where
@@ -299,7 +299,7 @@ with_done-append : (cut : ℕ) (s : Stage) (xs ys : List FinishedRefresh) → wi
 with_done-append cut (Waits view span) xs ys = refl
 with_done-append cut (Done k) xs ys = refl
 
--- above p stand none up to p
+-- above p are none up to p
 none_upto : (p low : ℕ) (rs : List Refresh) → p ≤ low → CutsRise low rs → upto p rs ≡ []
 none_upto p low [] l rise = refl
 none_upto p low (r ∷ rs) l rise =

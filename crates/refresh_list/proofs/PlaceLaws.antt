@@ -1,4 +1,4 @@
--- Where a refresh stands among refreshes in order of their cuts.
+-- Where a refresh is among refreshes in order of their cuts.
 use Rattle.std.proofs.Common.{◌≡◌, ℕ, suc, zero, ◌+◌, ◌<◌, ◌≤◌, true, false, cond, ◌==◌, List, [], ◌∷◌, ◌++◌, map, take, drop, length, get_or, Some, None, sym, refl, ap, ◌∙◌, subst, arith, add-one}
 use Rattle.std.proofs.lemmas.Bool.{eqb-true, eq-eqb}
 use Rattle.ts_model.specs.declared.refreshes.Pending.TheVariants.{Unknown}
@@ -51,7 +51,7 @@ past_below k zero rs below = refl
 past_below k (suc p) [] below = refl
 past_below k (suc p) (r ∷ rs) below = ap (λ t. cond t (Some r) (refresh_in rs k)) (differs_below k r.cut below.0) ∙ past_below k p rs below.1
 
--- there is none where nothing is left
+-- there is none if nothing is left
 pub none_left : (k p : ℕ) (rs : List Refresh) → CutsBelow k (take p rs) → length rs ≤ p → refresh_in rs k ≡ None
 none_left k p rs below l = past_below k p rs below ∙ by_rest p rs l
   where
@@ -70,7 +70,7 @@ found_there k p d rs below l is = past_below k p rs below ∙ by_rest p rs l is
     by_rest zero (r ∷ rs) l is = ap (λ t. cond t (Some r) (refresh_in rs k)) (eq-eqb k r.cut (sym is))
     by_rest (suc p) (r ∷ rs) l is = by_rest p rs (omega arith) is
 
--- and nothing where it has another
+-- and nothing if it has another
 pub other_there : (k p low : ℕ) (d : Refresh) (rs : List Refresh) → CutsRise low rs → CutsBelow k (take p rs) → CutsFrom k (drop p rs) → p < length rs → ((get_or rs p d).cut ≡ k → ⊥) → refresh_in rs k ≡ None
 other_there k p low d rs rise below from l other = past_below k p rs below ∙ by_rest low p rs rise from l other
   where
@@ -157,7 +157,7 @@ finished_there cut by p low r rs rise l at is =
     ∙ ap (λ x. take p rs ++ ((finished_one by x ∷ []) ++ drop (suc p) rs)) at
     ∙ marked_there cut by p low r rs rise l (ap (λ x. x.cut) (sym at) ∙ is)
 
--- where there is none, none is marked
+-- if there is none, none is marked
 pub finished_none : (cut by : ℕ) (rs : List Refresh) → refresh_in rs cut ≡ None → map (finished_at cut by) rs ≡ rs
 finished_none cut by [] e = refl
 finished_none cut by (r ∷ rs) e =

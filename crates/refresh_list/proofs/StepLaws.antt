@@ -151,7 +151,7 @@ waiting-finished cut by (r ∷ rs) = by_name (cut == r.cut) refl (waiting-finish
     by_name true named rest = gone r.stage named rest
     by_name false named rest = kept r.stage named rest
 
--- what holds of the cuts, and of the stages of those that wait, stays
+-- what is true of the cuts, and of the stages of those that wait, stays
 all-finished : (P : ℕ → Stage → Type 0) (cut by : ℕ) → ((c : ℕ) (s : Stage) → P c s → P c (stage_after by s)) → (rs : List Refresh) → AllByRecursion (λ r. P r.cut r.stage) rs → AllByRecursion (λ r. P r.cut r.stage) (map (finished_at cut by) rs)
 all-finished P cut by one [] all = tt
 all-finished P cut by one (r ∷ rs) all = (

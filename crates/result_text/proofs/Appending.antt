@@ -1,4 +1,4 @@
--- Pieces appended one after another are appended together.
+-- Pieces appended in order are appended together.
 use Rattle.std.proofs.Common.{◌≡◌, ◌∙◌, ap, sym, refl, ℕ, List, [], ◌∷◌, ◌++◌, codes}
 use Rattle.std.proofs.lemmas.List.{append_assoc}
 use Rattle.ts_num.specs.Texts.{datum_text}

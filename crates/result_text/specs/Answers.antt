@@ -52,6 +52,6 @@ answer_lines a pos queue min =
 abbrev pub answer_text : Answer → ℕ → ℤ → List ℕ
 answer_text a pos min = answer_lines a pos None min
 
--- and in one with so many operations queued
+-- and in one with a given number of operations queued
 abbrev pub queued_answer_text : Answer → ℕ → ℕ → ℤ → List ℕ
 queued_answer_text a pos queue min = answer_lines a pos (Some queue) min

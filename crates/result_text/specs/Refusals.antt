@@ -52,7 +52,7 @@ entry_of code =
 abbrev pub position_text : ℕ → List ℕ
 position_text pos = codes " @" ++ decimal pos
 
--- the event that finished the refresh, where it was finished
+-- the event that finished the refresh, if it was finished
 abbrev pub finish_text : ℕ → List ℕ
 finish_text zero = []
 finish_text (suc finish) = codes " finished " ++ decimal (suc finish)

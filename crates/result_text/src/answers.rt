@@ -199,7 +199,7 @@ fn put_keys(text: &mut Text, keys: &[Option<i64>]) -> Result<(), NoMemory>
     Ok(())
 }
 
-/// Appends a number, or NULL where it is missing.
+/// Appends a number, or NULL if it is missing.
 fn put_key(text: &mut Text, key: Option<i64>) -> Result<(), NoMemory>
     ensures written { OnOk result (text.new.after ≡ text.old.after ++ datum_text (shown_or_null key)) }
     ensures kept { text.new.before ≡ text.old.before }

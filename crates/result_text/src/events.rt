@@ -143,7 +143,7 @@ fn put_columns(text: &mut Text, columns: &[Column]) -> Result<(), NoMemory>
     Ok(())
 }
 
-/// Appends a column, with ! where it is NOT NULL.
+/// Appends a column, with ! if it is NOT NULL.
 fn put_column(text: &mut Text, column: &Column) -> Result<(), NoMemory>
     ensures written { OnOk result (text.new.after ≡ text.old.after ++ column_text column.now) }
     ensures kept { text.new.before ≡ text.old.before }

@@ -13,7 +13,7 @@ use ts_schema::{NoMemory, Seq};
 pub struct Summary {
     /// Its number.
     pub number: u64,
-    /// How many events there are.
+    /// The number of events.
     pub events: u64,
     /// How many rows were inserted, less those deleted.
     pub rows: u64,

@@ -115,7 +115,7 @@ not_yet_dead p q (Some d) h e = elim (nat_le d q) as (λ b. nat_le d q ≡ b →
   | false ↦ λ f. refl
 ] refl
 
--- a later position sees what p sees, where no change is later than p
+-- a later position sees what p sees, if no change is later than p
 later_seen : (p q : ℕ) (v : Version) → p ≤ q → is_up_to p v ≡ true → visible_at q v ≡ visible_at p v
 later_seen p q v h e =
     let parts = and_parts (nat_le v.born p) (died_by p v.died) e in
@@ -444,7 +444,7 @@ nothing_left : (left : List Op) → length left < 1 → [] ≡ left
 nothing_left [] e = refl
 nothing_left (op ∷ ops) e = absurd (omega (arith, e))
 
--- where no operation is left, what was done is all
+-- if no operation is left, what was done is all
 pub leads_table : (t p : ℕ) (ops : List Op) (x : ChunksValue) (left : List Op) (y : ChunksValue) (effect : Effect) → length left < 1 → Leads t p ops x left y effect → Follows t ops p x y
 leads_table t p ops x left y effect none leads = leads.table y (subst (λ (l : List Op). Follows t l p y y) (nothing_left left none) (follows_none t p y leads.up_to))
 
@@ -510,7 +510,7 @@ scan_read r old new s x y same wide ticks at_most =
     held_is x.interval s x.versions wide ∙ ap (λ (z : ChunksValue). rows_near z.interval (rows_of z.versions) (s ∷ [])) same in
     either _ _ r (subst (λ n. OnOk r (new ≡ raised_by n old)) held ticks) (subst (λ n. OnErr r (RaisedUpTo n old new)) held at_most)
 
--- a delete on this table, by the number that it was asked for
+-- a delete on this table, by the number that it was requested
 pub delete_asked : {E : Type 0} (r : Result Applied E) (u t p : ℕ) (tests : List Test) (op : Op) (x : ChunksValue) → op ≡ Delete u tests → u ≡ t
     → IfOk r (λ a. (n : ℕ) → Follows n (Delete n tests ∷ []) p x a.table) → IfOk r (λ a. Follows t (op ∷ []) p x a.table)
 delete_asked (Ok a) u t p tests op x is same follows =

@@ -71,7 +71,7 @@ OthersAreHeld =
     (t : ℕ) (h : History) (e : Event) (table : ChunksValue) → Holds t h table → is_commit e ≡ false
     → Holds t (h ▸ e) table
 
--- what a table that holds a history tells of it, at every position
+-- what a table that holds a history says of it, at every position
 pub record Tells (t : ℕ) (h : History) (table : ChunksValue) : Type 0 where
   -- the visible rows of a span are the rows of the span there
   pub rows_are : (q : ℕ) (s : SpanValue)

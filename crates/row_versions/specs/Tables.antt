@@ -52,7 +52,7 @@ pub record Follows (t : ℕ) (ops : List Op) (p : ℕ) (old new : ChunksValue) :
   pub stored : in_order (rows_of new.versions) ≡ in_order (rows_of old.versions ++ all_appended t ops)
   pub up_to : IsUpTo p new.versions
 
--- what these operations add to an effect, where table t has these rows
+-- what these operations add to an effect, if table t has these rows
 pub record Counts (t : ℕ) (ops : List Op) (rows : List Row) (before after : Effect) : Type 0 where
   pub inserted : after.inserted ≡ before.inserted + length (all_appended t ops)
   pub removed : after.removed ≡ before.removed + length (all_taken t ops rows)

@@ -50,7 +50,7 @@ impl Effect {
         })
     }
 
-    /// The same after so many rows with this hull were removed.
+    /// The same after a given number of rows with this hull were removed.
     pub fn and_removed(self, removed: u64, hull: Option<Hull>) -> Result<Effect, NoMemory>
         ensures inserted { IfOk result (λ e. e.inserted ≡ self.inserted) }
         ensures removed { IfOk result (λ e. e.removed ≡ self.removed + removed) }

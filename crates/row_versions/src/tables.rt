@@ -54,7 +54,7 @@ impl Table {
         }
     }
 
-    /// The same table again.
+    /// A copy of the table.
     pub fn copy(&self) -> Result<Table, NoMemory>
         ensures same { IfOk result (λ copy. copy ≡ self.now) }
     {
@@ -93,7 +93,7 @@ impl Table {
         self.chunks.scan(pos, span, steps)
     }
 
-    /// The same of a part of the span. It looks at the same rows, and takes those of the part alone.
+    /// The same of a part of the span. It reads the same rows, and takes those of the part only.
     pub fn scan_part<L>(
         &self,
         pos: u64,
@@ -109,15 +109,15 @@ impl Table {
         self.chunks.scan_part(pos, span, part, steps)
     }
 
-    /// A time that parts a span near its middle, where many rows were ever inserted in the chunks that meet it,
-    /// so that no chunk is parted.
+    /// A time that parts a span near its middle, if many rows were ever inserted in the chunks that meet it, so
+    /// that no chunk is parted.
     pub fn middle(&self, span: Span) -> Option<i64>
         ensures inside { IfSome result (λ t. (span.lo <ℤ t) × (t <ℤ span.hi)) }
     {
         self.chunks.middle(span)
     }
 
-    /// The greatest time that is visible at a position, and `None` exactly where no row is.
+    /// The greatest time that is visible at a position, and `None` if and only if no row is.
     pub fn last(&self, pos: u64) -> Option<i64>
         ensures last { result ≡ latest_at pos self.now.versions }
     {

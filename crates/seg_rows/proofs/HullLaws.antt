@@ -1,4 +1,4 @@
--- Laws of hulls and of greatest times: both join, and the order of what is joined plays no part.
+-- Laws of hulls and of greatest times: both join, and the order of what is joined has no effect.
 use Rattle.std.proofs.Common.{◌≡◌, ℤ, Option, Some, None, List, [], ◌∷◌, ◌++◌, refl, sym, ◌∙◌, ap, arith}
 use Rattle.std.specs.Int.{int_min, int_max}
 use Rattle.std.proofs.lemmas.Int.{ints, clamps}

@@ -96,7 +96,7 @@ rows_of-with_lives (r ∷ rows) (l ∷ lives) e = ap (λ rs. r ∷ rs) (rows_of-
 pub rows_of-versions : (rows : List Row) (lives : Lives) → Covers (length rows) lives → rows_of (versions_of rows lives) ≡ rows
 rows_of-versions rows lives covers = rows_of-with_lives rows (lives_of (length rows) lives) covers
 
--- two sealed lists, one after the other
+-- two sealed lists, concatenated
 pub joined_sealed : (first second rows : List Row) (l m lives : Lives) (g h hull : Option HullValue) (d e dead : Option ℕ) → IsSealed first l g d → IsSealed second m h e → rows ≡ first ++ second
     → ((n : ℕ) → lives_of n lives ≡ lives_of (length first) l ++ lives_of (length second) m) → hull ≡ joined_hull g h → dead ≡ later_death d e → IsSealed rows lives hull dead
 joined_sealed first second rows l m lives g h hull d e dead one two rows_are lives_are hull_is dead_is =

@@ -60,7 +60,7 @@ misses_rest : (s : SpanValue) (t : ℤ) (k : Option HullValue) → misses s (joi
 misses_rest s t None e = refl
 misses_rest s t (Some h) e = grind (arith, ints, clamps)
 
--- where a span misses the hull of all times, nothing is shown
+-- if a span misses the hull of all times, nothing is shown
 pub none_shown : (p : ℕ) (s : SpanValue) (vs : List Version) → misses s (hull_of (rows_of vs)) ≡ true → rows_at p s vs ≡ []
 none_shown p s [] e = refl
 none_shown p s (v ∷ vs) e =
@@ -137,7 +137,7 @@ kill_nothing p tests old new removed after counted none = after ∙ after_kill-n
 -- what is seen and taken of two lists
 pub ruleset parts = (rows_at-append, taken_at-append, latest_at-append, hull_of-append, latest_of-append, length-append, map-append, append-nil, list_all-append)
 
--- where no version has a later time, no visible one has
+-- if no version has a later time, no visible one has
 pub no_later : (p : ℕ) (best : Option ℤ) (vs : List Version) → later_time best (latest_of (rows_of vs)) ≡ best → later_time best (latest_at p vs) ≡ best
 no_later p best [] h = h
 no_later p best (v ∷ vs) h =

@@ -26,7 +26,7 @@ lives_of n (Each lives) = lives
 abbrev pub AreUnharmed : List Life → Type 0
 AreUnharmed lives = map life_from (map (λ life. life.born) lives) ≡ lives
 
--- the position at which the last of these ended, where all have; where there is none, the first position
+-- the position at which the last of these ended, if all have; if there is none, the first position
 abbrev pub all_died : List Life → Option ℕ
 all_died [] = Some 0
 all_died (life ∷ lives) = later_death life.died (all_died lives)
@@ -35,7 +35,7 @@ all_died (life ∷ lives) = later_death life.died (all_died lives)
 abbrev pub Covers : ℕ → Lives → Type 0
 Covers n lives = length (lives_of n lives) ≡ n
 
--- these lives are kept, for whatever number of rows
+-- these lives are kept, for any number of rows
 abbrev pub Keeps : Lives → List Life → Type 0
 Keeps lives kept = (n : ℕ) → lives_of n lives ≡ kept
 

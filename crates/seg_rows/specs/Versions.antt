@@ -49,7 +49,7 @@ taken_at p tests vs = rows_of (filter (is_taken p tests) vs)
 abbrev pub after_kill : ℕ → List Test → Version → Version
 after_kill p tests v = cond (is_taken p tests v) (record { row = v.row; born = v.born; died = Some p }) v
 
--- the greater of two times; where one is missing, it is the other
+-- the greater of two times; if one is missing, it is the other
 abbrev pub later_time : Option ℤ → Option ℤ → Option ℤ
 later_time None b = b
 later_time (Some x) None = Some x
@@ -64,7 +64,7 @@ latest_of (row ∷ rows) = later_time (Some row.at) (latest_of rows)
 abbrev pub latest_at : ℕ → List Version → Option ℤ
 latest_at p vs = latest_of (rows_of (filter (visible_at p) vs))
 
--- the later of two positions, where both are known
+-- the later of two positions, if both are known
 abbrev pub later_death : Option ℕ → Option ℕ → Option ℕ
 later_death None q = None
 later_death (Some p) None = None
@@ -83,7 +83,7 @@ AsOften {X} xs ys = (test : X → Bool) → count_by test xs ≡ count_by test y
 abbrev pub GainsFirst : {X : Type 0} → List X → List X → List X → Type 0
 GainsFirst {X} items old new = (k : ℕ) × (new ≡ old ++ take k items)
 
--- a list has these items more, wherever they stand: every test passes as many of it as of the old list and of these
--- items together
+-- a list has these items more, wherever they are: every test passes as many of it as of the old list and of
+-- these items together
 abbrev pub HasMore : {X : Type 0} → List X → List X → List X → Type 0
 HasMore {X} items old new = (test : X → Bool) → count_by test new ≡ count_by test old + count_by test items

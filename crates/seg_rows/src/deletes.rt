@@ -20,7 +20,7 @@ pub struct DeleteEffect {
 }
 
 impl DeleteEffect {
-    /// The same and one more version, where that is taken.
+    /// The same and one more version, if that is taken.
     fn and(self, taken: bool, row: &Row) -> DeleteEffect
         requires { self.removed + 1 < 2 ^ 64 }
         ensures removed { result.removed ≡ self.removed + cond taken 1 0 }

@@ -74,7 +74,7 @@ fn append_births(into: &mut Vec<u64>, lives: &Lives, count: usize) -> Result<(),
     Ok(())
 }
 
-/// Appends the lives of so many versions.
+/// Appends the lives of a given number of versions.
 fn append_lives(into: &mut Vec<Life>, lives: &Lives, count: usize) -> Result<(), NoMemory>
     requires covers { Covers count lives.now }
     ensures { OnOk result (into.new.items ≡ into.old.items ++ lives_of count lives.now) }

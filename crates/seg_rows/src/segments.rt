@@ -72,14 +72,14 @@ impl Segment {
         })
     }
 
-    /// How many versions there are.
+    /// The number of versions.
     pub fn count(&self) -> u64
         ensures count { result ≡ length self.now }
     {
         self.rows.len() as u64
     }
 
-    /// The same segment again.
+    /// A copy of the segment.
     pub fn copy(&self) -> Result<Segment, NoMemory>
         ensures same { IfOk result (λ copy. copy ≡ self.now) }
     {
@@ -128,7 +128,7 @@ impl Segment {
         })
     }
 
-    /// The segment after a delete at a position that takes so many versions.
+    /// The segment after a delete at a position that takes a given number of versions.
     fn after(&self, removed: u64, tests: &Seq<Test>, pos: u64) -> Result<Segment, NoMemory>
         requires counted { removed ≡ length (taken_at pos tests.now self.now) }
         ensures after { IfOk result (λ s. s ≡ map (after_kill pos tests.now) self.now) }
@@ -156,7 +156,7 @@ impl Segment {
     }
 
     /// Appends the rows of the span that are visible at a position, in the order of the versions. Ticks once
-    /// per version, and looks at none where the hull of all times misses the span. When out of memory, `out` has
+    /// per version, and reads none if the hull of all times misses the span. When out of memory, `out` has
     /// gained the first of these rows.
     pub fn scan<L>(
         &self,
@@ -181,7 +181,7 @@ impl Segment {
         )
     }
 
-    /// The greatest time that is visible at a position, and `None` exactly where no version is.
+    /// The greatest time that is visible at a position, and `None` if and only if no version is.
     pub fn last(&self, pos: u64) -> Option<i64>
         ensures last { result ≡ latest_at pos self.now }
     {
@@ -210,8 +210,8 @@ impl Segment {
         greatest_time(self.hull)
     }
 
-    /// The greatest of a time and the times that are visible at a position. Where no version has a
-    /// later time, none is looked at.
+    /// The greatest of a time and the times that are visible at a position. If no version has a later time,
+    /// none is read.
     pub fn last_of(&self, pos: u64, best: Option<i64>) -> Option<i64>
         ensures last { result ≡ later_time best (latest_at pos self.now) }
     {

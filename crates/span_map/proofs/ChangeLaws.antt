@@ -1,4 +1,5 @@
--- Laws of changes: an edge more changes no value, nor does one that begins the value before it, and a change within a span changes its values alone.
+-- Laws of changes: an edge more changes no value, nor does one that begins the value before it, and a change
+-- within a span changes its values only.
 use Rattle.std.proofs.Common.{◌≡◌, ℕ, ◌<◌, ◌≤◌, length, zero, suc, ◌+◌, Bool, true, false, not, cond, nat_eq, ◌⊎◌, inl, inr, ℤ, ◌≤ℤ◌, ◌<ℤ◌, int_lt, int_le, List, [], ◌∷◌, ◌++◌, map, take, drop, insert, get_or, set, Option, Some, None, refl, sym, ap, ◌∙◌, subst, arith, true≢false}
 use Rattle.std.proofs.lemmas.Bool.{false≢true}
 use Rattle.std.proofs.lemmas.List.{append_assoc, drop-set-lt, length-set}
@@ -28,7 +29,7 @@ insert_step v t e es k true false p q rest h = ap (λ xs. e ∷ xs) (rest h)
 insert_step v t e es k false true p q rest h = refl
 insert_step v t e es k false false p q rest h = absurd (true≢false (sym ((Decides-int_eq e.from t).1 (same_number e.from t p q)) ∙ h))
 
--- the edge put at its place, where none was at its number
+-- the edge inserted at its place, if none was at its number
 pub with_edge-insert : (v : Option ℕ) (t : ℤ) (es : List Edge) → begins_at t (drop (place_below t es) es) ≡ false → insert es (place_below t es) (record { from = t; value = last_value v (take (place_below t es) es) }) ≡ with_edge v t es
 with_edge-insert v t [] h = refl
 with_edge-insert v t (e ∷ es) h = insert_step v t e es (place_below t es) (int_lt e.from t) (int_lt t e.from) refl refl (with_edge-insert e.value t es) h
@@ -39,7 +40,7 @@ there_step v t e es k true false p q rest h = ap (λ xs. e ∷ xs) (rest h)
 there_step v t e es k false true p q rest h = let same : e.from ≡ t = (Decides-int_eq e.from t).0 h in absurd (grind (arith, ints))
 there_step v t e es k false false p q rest h = refl
 
--- the edges stay where one of them is at that number
+-- the edges stay if one of them is at that number
 pub with_edge-there : (v : Option ℕ) (t : ℤ) (es : List Edge) → begins_at t (drop (place_below t es) es) ≡ true → with_edge v t es ≡ es
 with_edge-there v t [] h = absurd (false≢true h)
 with_edge-there v t (e ∷ es) h = there_step v t e es (place_below t es) (int_lt e.from t) (int_lt t e.from) refl refl (with_edge-there e.value t es) h
@@ -188,7 +189,7 @@ values-changed s c (x ∷ xs) t l r lo hi =
     ∙ values_on s c x.from x.value (edge_changed s c x).value xs t r.0 r.1 (λ below. later_edge x xs s.lo below lo) (λ below. later_edge x xs s.hi below hi) refl above
     ∙ sym (ap (λ b. cond (in_span s t) (value_after c (cond b None (value_from x.value xs t))) (cond b None (value_from x.value xs t))) high))
 
--- ---- edges changed one after another
+-- ---- edges changed in order
 
 value_over : (v : Option ℕ) (xs ys zs : List Edge) (t : ℤ) → value_from (last_value v xs) ys t ≡ value_from (last_value v xs) zs t → value_from v (xs ++ ys) t ≡ value_from v (xs ++ zs) t
 value_over v [] ys zs t e = e

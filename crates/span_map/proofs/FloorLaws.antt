@@ -12,12 +12,12 @@ use Rattle.span_map.proofs.EdgeLaws.{value_from-below, IsBelowFirst-from}
 use Rattle.span_map.proofs.PieceLaws.{rising-between, value_from-between}
 use Rattle.ts_schema.proofs.Cases.{le-int_le}
 
--- t is at or above the start of the open run, or of the span where none is open
+-- t is at or above the start of the open run, or of the span if none is open
 abbrev run_from : SpanValue → Option ℤ → ℤ → Bool
 run_from s None t = int_le s.lo t
 run_from s (Some from) t = int_le from t
 
--- a run is open exactly where the floor has nothing or less, and starts with the span or at an edge
+-- a run is open if and only if the floor has nothing or less, and starts with the span or at an edge
 abbrev RunFits : SpanValue → ℕ → Option ℤ → Option ℕ → List Edge → Type 0
 RunFits s pos None w es = is_before pos w ≡ false
 RunFits s pos (Some from) w es = (is_before pos w ≡ true) × (s.lo ≤ℤ from) × ((from ≡ s.lo) ⊎ IsBelowFirst from es)

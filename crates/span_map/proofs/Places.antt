@@ -21,7 +21,7 @@ rising_places (e ∷ es) i zero d r h l = absurd (omega arith)
 rising_places (e ∷ es) zero (suc j) d r h l = rising_after e.from es j d r.0 r.1 (omega arith)
 rising_places (e ∷ es) (suc i) (suc j) d r h l = rising_places es i j d r.1 (omega arith) (omega arith)
 
--- a test that each lower edge passes where a higher one does splits rising edges
+-- a test that each lower edge passes if a higher one does splits rising edges
 pub parted : (p : Edge → Bool) (es : List Edge) → ((a b : Edge) → a.from <ℤ b.from → p b ≡ true → p a ≡ true) → IsRising es → IsPartitionedBy p es
 parted p es down r i j d le l h = by_order (cases_lt i j)
   where
@@ -29,7 +29,7 @@ parted p es down r i j d le l h = by_order (cases_lt i j)
     by_order (inl less) = down (get_or es i d) (get_or es j d) (rising_places es i j d r less l) h
     by_order (inr more) = let same : i ≡ j = omega arith in subst (λ k. p (get_or es k d) ≡ true) (sym same) h
 
--- how many edges stand before the first one that fails the test
+-- how many edges are before the first one that fails the test
 abbrev pub place_where : (Edge → Bool) → List Edge → ℕ
 place_where p [] = 0
 place_where p (e ∷ es) = cond (p e) (suc (place_where p es)) 0

@@ -9,7 +9,7 @@ use Rattle.span_map.specs.Edges.{IsRising, place_below, place_upto}
 use Rattle.span_map.specs.Places.{place_before, stands_before}
 use Rattle.span_map.proofs.Places.{place_where, place_where-below, place_where-upto, rising_places}
 
--- an edge below one that stands before a place stands before it
+-- an edge below one that is before a place is before it
 lower_stands : (before : Before) (a b : Edge) → a.from <ℤ b.from → stands_before before b ≡ true → stands_before before a ≡ true
 lower_stands (Upto t) a b less h = grind (arith, ints)
 lower_stands (Below t) a b less h = grind (arith, ints)
@@ -20,7 +20,7 @@ same_item [] i d e l is = absurd (omega (arith, l))
 same_item (x ∷ es) zero d e l is = sym is
 same_item (x ∷ es) (suc i) d e l is = same_item es i d e (omega (arith, l)) is
 
--- those below one place stand before the one that is sought, and those from another on don't
+-- those below one place are before the one that is sought, and those from another on don't
 pub record IsNarrowed (before : Before) (es : List Edge) (low high : ℕ) : Type 0 where
   pub order : low ≤ high
   pub within : high ≤ length es

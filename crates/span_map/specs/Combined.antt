@@ -9,8 +9,8 @@ use Rattle.span_map.specs.declared.edges.Edge.{Edge}
 use Rattle.span_map.specs.declared.rules.Rule.{Rule}
 use Rattle.span_map.specs.declared.rules.Rule.TheVariants.{Over, Later, Above, NotBelow, Where}
 
--- what a rule makes of the values of two maps: the second one where it is there, the later one, the second one where
--- it is above the first, or where it isn't below it, or where the first is there
+-- what a rule makes of the values of two maps: the second one if it exists, the later one, the second one if it
+-- is above the first, or if it isn't below it, or if the first is there
 abbrev pub combined_by : Rule → Option ℕ → Option ℕ → Option ℕ
 combined_by Over v None = v
 combined_by Over v (Some p) = Some p
@@ -29,7 +29,7 @@ earliest [] (e ∷ es) = Some e.from
 earliest (d ∷ ds) [] = Some d.from
 earliest (d ∷ ds) (e ∷ es) = Some (int_min d.from e.from)
 
--- the value from x on, where it was v before, and the edges are those from x on
+-- the value from x on, if it was v before, and the edges are those from x on
 abbrev pub value_from_on : ℤ → Option ℕ → List Edge → Option ℕ
 value_from_on x v [] = v
 value_from_on x v (e ∷ es) = cond (int_eq e.from x) e.value v

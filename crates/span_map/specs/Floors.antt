@@ -10,7 +10,7 @@ abbrev pub run_filled : Option ℤ → ℤ → ℕ → Option ℕ → ℤ → Op
 run_filled None end pos v t = v
 run_filled (Some from) end pos v t = cond (int_le from t && int_lt t end) (Some pos) v
 
--- an open run stays, and one opens at x where none is
+-- an open run stays, and one opens at x if none is
 abbrev pub open_run : Option ℤ → ℤ → Option ℤ
 open_run None x = Some x
 open_run (Some from) x = Some from

@@ -90,7 +90,7 @@ fn put(edges: &mut Vec<Edge>, place: usize, edge: Edge)
     let _ = edges.insert(place, edge);
 }
 
-/// Puts an edge at `t` where there is none, which changes no value.
+/// Inserts an edge at `t` if there is none, which changes no value.
 fn split(edges: &mut Vec<Edge>, t: i64)
     requires rising { IsRising edges.old.items }
     requires room { vec_len edges.old < vec_capacity edges.old }
@@ -161,8 +161,8 @@ fn take_out(edges: &mut Vec<Edge>, first: usize, end: usize)
     let _ = edges.drain(first..end);
 }
 
-/// Changes the value of each edge within the span. Where an edge from its start to its end begins
-/// the value that was there before it, the edge goes.
+/// Changes the value of each edge within the span. If an edge from its start to its end begins the value that
+/// was there before it, the edge goes.
 fn change_within(edges: &mut Vec<Edge>, span: Span, change: Change)
     requires rising { IsRising edges.old.items }
     ensures rising { IsRising edges.new.items }

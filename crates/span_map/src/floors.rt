@@ -50,7 +50,7 @@ fn assign_between(edges: &mut Vec<Edge>, from: i64, end: i64, pos: u64)
     }
 }
 
-/// Where a run is open after an edge of the floor.
+/// If a run is open after an edge of the floor.
 fn run_after(run: Option<i64>, edge: Edge, span: Span, pos: u64) -> Option<i64>
     ensures { result ≡ run_past span pos run edge }
 {
@@ -93,7 +93,7 @@ fn assign_runs(edges: &mut Vec<Edge>, span: Span, pos: u64, start: Option<i64>, 
     close_run(edges, run, span.hi, pos);
 }
 
-/// Where a run is open at the start of a span at which the floor has this value.
+/// If a run is open at the start of a span at which the floor has this value.
 fn run_at_start(value: Option<u64>, span: Span, pos: u64) -> Option<i64>
     ensures { result ≡ run_on span pos value }
 {

@@ -20,7 +20,7 @@ fn push_if(edges: &mut Vec<Edge>, before: Option<u64>, edge: Edge) -> Result<(),
     Ok(())
 }
 
-/// The value of the last of these edges, where the value before them is this one.
+/// The value of the last of these edges, if the value before them is this one.
 fn last_of(before: Option<u64>, edges: &[Edge]) -> Option<u64>
     ensures { result ≡ last_value before edges.now }
 {
@@ -31,8 +31,8 @@ fn last_of(before: Option<u64>, edges: &[Edge]) -> Option<u64>
     }
 }
 
-/// The edges from the start of a span to its end that give it the values of these edges, where one
-/// value is there before it and one after it.
+/// The edges from the start of a span to its end that give it the values of these edges, if one value is there
+/// before it and one after it.
 pub(crate) fn patch(
     alloc: Global,
     span: Span,

@@ -98,7 +98,7 @@ hypertable_is r n s t =
     let h = some_hyper (table_numbered r n).hyper table.1 in
     record { table = table.0; hyper = h.0; is = h.1 }
 
--- a test that holds of a hypertable
+-- a test that is true of a hypertable
 on_hypertable : (test : TableDef → HyperInfo → Bool) (r : Roster) (n : ℕ) (h : IsHypertable r n) → test (table_numbered r n).def h.hyper ≡ true → of_table test (table_of r n) ≡ true
 on_hypertable test r n h e = ap (of_table test) h.table.at ∙ ap (of_hyper test (table_numbered r n).def) h.is ∙ e
 
@@ -120,7 +120,7 @@ columns_of cols e =
 may_come : (h : History) (e : Event) (n : ℕ) → sound_at h e ≡ true → event_bytes e ≤ n → n < 4294967296 → timely_at h e ≡ true → MayCome h e
 may_come h e n fits short small time = record { is_sound = and_from _ _ fits (lt-ltb _ _ (omega arith)); is_timely = time }
 
--- a name that isn't taken, where there is room for one more
+-- a name that isn't taken, if there is room for one more
 free_and_few : (p : ℕ) (r : Roster) (name : List ℕ) (there : ℕ) → name_refusal p r name there ≡ None → (not (is_taken r name) && nat_lt there 64) ≡ true
 free_and_few p r name there e =
     let both = neither (refusal_if p 7 (not (finds_nothing (found_in r name)))) _ e in
@@ -189,7 +189,7 @@ hyper_action h p (found.Plain n) col interval s t e =
 
 -- ---- CREATE MATERIALIZED VIEW
 
--- a refusal behind another, which is refused too
+-- a refusal after another, which is refused too
 no_more : (a : Option Refusal) (r : Refusal) → (a ⊳ Some r) ≡ None → ⊥
 no_more None r e = absurd cc
 no_more (Some q) r e = absurd cc

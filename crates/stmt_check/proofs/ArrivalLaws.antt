@@ -53,7 +53,7 @@ written (Some names) values k c = picked_named names values c.name
 
 -- ---- where it arrives
 
--- behind the time each column has the place that it is declared at
+-- after the time each column has the place that it is declared at
 other_behind : (at : ℕ) (names : Option (List (List ℕ))) (k : ℕ) (cols : List Column) (j : ℕ) (c : Column) → at < k → slice_get cols j ≡ Some c → slice_get (other_places at names k cols) j ≡ Some (place_in names (k + j) c)
 other_behind at names k [] j c lt e = absurd cc
 other_behind at names k (d ∷ cols) zero c lt e =
@@ -86,7 +86,7 @@ at_least x y apart le = go (cases_lt x y)
     go (inl l) = omega arith
     go (inr l) = absurd (apart (omega arith))
 
--- one column further past the time, where the places of those behind are known
+-- one column further past the time, if the places of those after it are known
 past_step : (at : ℕ) (names : Option (List (List ℕ))) (k : ℕ) (d : Column) (cols : List Column) (j : ℕ) (c : Column) → k ≤ at → at < k + suc j → slice_get cols j ≡ Some c
     → ((i : ℕ) → j ≡ suc i → k + 1 ≤ at → slice_get (other_places at names (k + 1) cols) i ≡ Some (place_in names (k + suc j) c))
     → (b : Bool) → (at == k) ≡ b → slice_get (cond b (other_places at names (k + 1) cols) (place_in names k d ∷ other_places at names (k + 1) cols)) j ≡ Some (place_in names (k + suc j) c)

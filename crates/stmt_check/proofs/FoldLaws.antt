@@ -197,7 +197,7 @@ aggregates_fit p distinct count info bucket keys before (a ∷ aggs) s some w e 
 
 -- ---- names of output columns
 
--- a name that none of these is comes behind them
+-- a name that none of these is comes after them
 pub apart_push : (names : List (List ℕ)) (n : List ℕ) → all_apart names ≡ true → list_any (λ other. same_name other n) names ≡ false → all_apart (names ++ n ∷ []) ≡ true
 apart_push [] n a e = refl
 apart_push (m ∷ names) n a e =

@@ -1,4 +1,4 @@
--- What follows where something isn't refused.
+-- What follows if something isn't refused.
 use Rattle.std.proofs.Common.{◌≡◌, ℕ, Bool, true, false, not, Option, Some, None, is_some, refl}
 use Rattle.ts_model.specs.declared.outcomes.Refusal.{Refusal}
 use Rattle.stmt_check.specs.Refusals.{◌⊳◌, marked_refusal, refusal_if_none}

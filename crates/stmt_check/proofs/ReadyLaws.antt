@@ -66,7 +66,7 @@ not_le n m l = Rattle.std.proofs.lemmas.Bool.lt-leb n m l
 
 -- ---- names
 
--- an item isn't named as those before it, where all names are apart
+-- an item isn't named as those before it, if all names are apart
 apart_before : (before : List (List ℕ)) (name : List ℕ) (behind : List (List ℕ)) → all_apart (before ++ name ∷ behind) ≡ true → list_any (λ other. same_name other name) before ≡ false
 apart_before [] name behind e = refl
 apart_before (n ∷ before) name behind e =

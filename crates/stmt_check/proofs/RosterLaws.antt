@@ -47,7 +47,7 @@ pub record RosterIsSound (r : Roster) : Type 0 where
 
 -- ---- lists
 
--- what holds of the item at each place holds of all items, and the other way around
+-- what is true of the item at each place is true of all items, and the other way around
 all_by_place : {X : Type 0} (P : X → Type 0) (xs : List X) → ((i : ℕ) (x : X) → slice_get xs i ≡ Some x → P x) → AllByRecursion P xs
 all_by_place P [] at = tt
 all_by_place P (x ∷ xs) at = (at 0 x refl, all_by_place P xs (λ i. at (suc i)))

@@ -67,7 +67,7 @@ named_there name k (n ∷ names) i e = here k n names i (same_name n name) refl 
 pub same_itself : (name : List ℕ) → same_name name name ≡ true
 same_itself name = (bytes_eq-Decides name name).1 refl
 
--- no column passes where no name does
+-- no column passes if no name does
 none_at : (test : List ℕ → Bool) (cols : List Column) (j : ℕ) (c : Column) → list_any test (map (λ d. d.name) cols) ≡ false → slice_get cols j ≡ Some c → test c.name ≡ false
 none_at test [] j c e at = absurd cc
 none_at test (d ∷ cols) j c e at = here test d cols j c (or_parts (test d.name) (list_any test (map (λ x. x.name) cols)) e) (λ i f. none_at test cols i c (or_parts (test d.name) (list_any test (map (λ x. x.name) cols)) e).1 f) at
@@ -102,7 +102,7 @@ mapped_at f [] i x e = absurd cc
 mapped_at f (y ∷ xs) zero x e = let same : y ≡ x = cc in ap (λ z. Some (f z)) same
 mapped_at f (y ∷ xs) (suc i) x e = mapped_at f xs i x e
 
--- at the place of a column's value stands its rule
+-- at the place of a column's value is its rule
 pub rule_there : (at : ℕ) (cols : List Column) (names : Option (List (List ℕ))) (k : ℕ) (c : Column) (i : ℕ) → all_apart (map (λ d. d.name) cols) ≡ true → slice_get cols k ≡ Some c → place_in names k c ≡ Some i → slice_get (value_rules at cols names) i ≡ Some (rule_at at c k)
 rule_there at cols None k c i a e p =
     let same : k ≡ i = cc in
@@ -113,7 +113,7 @@ rule_there at cols (Some names) k c i a e p =
     let here : slice_get names i ≡ Some c.name = subst (λ (j : ℕ). slice_get names j ≡ Some c.name) (let z : r.0 ≡ i = omega (arith, r.1) in z) r.2 in
     mapped_at (rule_of at cols) names i c.name here ∙ ap Some (named_rule at cols k c a e)
 
--- the value of a column: a time where it is the time, and not NULL where it must not be
+-- the value of a column: a time if it is the time, and not NULL if it must not be
 record ValueIsFine (must time : Bool) (v : Option ℤ) : Type 0 where
   pub some : must ≡ true → is_some v ≡ true
   pub in_range : time ≡ true → is_time (unwrap_or v (pos 0)) ≡ true
@@ -135,7 +135,7 @@ record RowPasses (p at : ℕ) (cols : List Column) (names : Option (List (List �
   pub passed : values_refusal p (value_rules at cols names) values ≡ None
   pub proper : AllByRecursion IsValue values
 
--- a column that isn't left out where it must not be has a fine value
+-- a column that isn't left out if it must not be has a fine value
 column_value : (p at : ℕ) (cols : List Column) (names : Option (List (List ℕ))) (values : List (Option ℤ)) (k : ℕ) (c : Column) → RowPasses p at cols names values → slice_get cols k ≡ Some c → ((c.must || at == k) && is_none (place_in names k c)) ≡ false → ValueIsFine (c.must || at == k) (at == k) (value_at values (place_in names k c))
 column_value p at cols names values k c r e left = go (place_in names k c) refl left
   where
@@ -179,7 +179,7 @@ must_fit c None h k = unless_must c.must h
     unless_must false g = refl
 must_fit c (Some v) h k = k
 
--- the values of the columns behind the time fit them
+-- the values of the columns after the time fit them
 fit_behind : (at : ℕ) (names : Option (List (List ℕ))) (values : List (Option ℤ)) (k : ℕ) (cs : List Column) → at < k → AllFine at names values k cs → values_fit cs (map (value_at values) (other_places at names k cs)) ≡ true
 fit_behind at names values k [] lt f = refl
 fit_behind at names values k (c ∷ cs) lt f =
@@ -217,7 +217,7 @@ abbrev given : List (Option ℕ) → ℕ
 given [] = 0
 given (o ∷ os) = one_if (is_some o) + given os
 
--- how many of these columns have a value, where the first has the declared place k
+-- how many of these columns have a value, if the first has the declared place k
 abbrev taken : Option (List (List ℕ)) → ℕ → List Column → ℕ
 taken names k [] = 0
 taken names k (c ∷ cs) = one_if (is_some (place_in names k c)) + taken names (k + 1) cs
@@ -253,7 +253,7 @@ counted_from at names k (c ∷ cs) (suc j) e lt left =
     let rest = counted_from at names (k + 1) cs j (omega arith) (omega arith) both.1 in
     rw apart (record { length = omega (arith, rest.length); given = omega (arith, rest.given) })
 
--- ---- no more values are given than stand in the row
+-- ---- no more values are given than are in the row
 
 abbrev same_count : (List ℕ → Bool) → List Column → ℕ
 same_count test [] = 0

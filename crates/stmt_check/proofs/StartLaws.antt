@@ -1,4 +1,4 @@
--- The starts asked for are those that pass every test, and drop_chunks drops whole chunks.
+-- The starts requested are those that pass every test, and drop_chunks drops whole chunks.
 use Rattle.std.proofs.Common.{◌≡◌, ◌∙◌, refl, sym, ap, ℕ, Bool, true, false, not, ◌&&◌, List, [], ◌∷◌, Some, None, ℤ, pos, ◌+ℤ◌, ◌≤ℤ◌, ◌<ℤ◌, int_le, int_lt, arith}
 use Rattle.std.specs.Int.{int_min, int_max, int_rem_euclid}
 use Rattle.std.specs.List.{list_all}
@@ -34,7 +34,8 @@ one_test Ge n b e low high = let u : int_lt b greatest ≡ true = grind (arith, 
 one_test IsNull n b e low high = absurd cc
 one_test NotNull n b e low high = absurd cc
 
--- b is at or above the greater of two numbers where it is at or above both, and below the lesser where it is below both
+-- b is at or above the greater of two numbers if it is at or above both, and below the lesser if it is below
+-- both
 above_max : (x y b : ℤ) → int_le (int_max x y) b ≡ (int_le x b && int_le y b)
 above_max x y b = same_from_decides {P = (x ≤ℤ b) × (y ≤ℤ b)} (int_le (int_max x y) b) (int_le x b && int_le y b) ((λ t. let l : int_max x y ≤ℤ b = grind (arith, ints) in (omega (arith, ints, clamps), omega (arith, ints, clamps))), (λ s. let p : x ≤ℤ b = s.0 in let q : y ≤ℤ b = s.1 in let l : int_max x y ≤ℤ b = omega (arith, ints, clamps) in grind (arith, ints))) ((λ t. (grind (arith, ints), grind (arith, ints))), (λ s. let p : x ≤ℤ b = s.0 in let q : y ≤ℤ b = s.1 in grind (arith, ints)))
 
@@ -77,7 +78,7 @@ starts_pass_each p def tests b e low high =
 
 -- ---- chunks
 
--- a time lies before the chunk of a bound exactly where its chunk ends at or before the bound
+-- a time lies before the chunk of a bound if and only if its chunk ends at or before the bound
 chunk_ends : (interval bound t : ℤ) → pos 0 <ℤ interval → int_lt t (chunk_start interval bound) ≡ int_le (chunk_of interval t).hi bound
 chunk_ends d n t h =
     let of_t = remainder_bounds t d h in

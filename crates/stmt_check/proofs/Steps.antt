@@ -43,7 +43,7 @@ aggregates_step pos distinct n info b ks xs i d h =
     before_and_after (aggregates_refusal pos distinct n info b ks) xs i d h
     ∙ ap (λ before. aggregate_refusal pos n info (columns_before (length ks) (length (take i xs))) (distinct && is_taken b ks (take i xs) (aggregate_name a)) a ⊳ aggregates_refusal pos distinct n info b ks before (drop (i + 1) xs)) (sym (take_more xs i d h))
 
--- nothing is refused where no rule is left, or no value
+-- nothing is refused if no rule is left, or no value
 pub no_value_left : (pos : ℕ) (rules : List Rule) (values : List (Option ℤ)) → (length rules ≡ 0) ⊎ (length values ≡ 0) → values_refusal pos rules values ≡ None
 no_value_left pos [] values none = refl
 no_value_left pos (rule ∷ rules) [] none = refl
@@ -55,7 +55,7 @@ no_value_left pos (rule ∷ rules) (value ∷ values) none =
 
 -- ---- parts of a block
 
--- what stands in front of what is left of a block, and what is left behind it
+-- what is in front of what is left of a block, and what is left after it
 pub record IsPart {X : Type 0} (block part rest : List X) (from to : ℕ) : Type 0 where
   pub order : from ≤ to
   pub within : to ≤ length block
@@ -74,7 +74,7 @@ next_part block part rest from le h =
       left = sym (drop-drop (length part) from block) ∙ ap (drop (length part)) h ∙ drop-append_seam part rest;
     }
 
--- the values of the next row stand in front of what is left of the block
+-- the values of the next row are in front of what is left of the block
 pub next_values : (shape : Shape) (block : List (Option ℤ)) (rows : List (List (Option ℤ))) (values : List (Option ℤ)) (rest : List (List (Option ℤ))) (from n : ℕ) → from ≤ length block → drop from block ≡ flat_map (others_of shape) rows → rows ≡ values ∷ rest → n ≡ length shape.others → IsPart block (others_of shape values) (flat_map (others_of shape) rest) from (from + n)
 next_values shape block rows values rest from n le left first count =
     let size : n ≡ length (others_of shape values) = count ∙ sym (length-map shape.others (value_at values)) in

@@ -1,4 +1,4 @@
--- What a statement's first refusal is, and what it asks for where there is none.
+-- What a statement's first refusal is, and what it asks for if there is none.
 use Rattle.std.specs.Prelude.{◌≡◌, ℕ, ℤ, pos as nonneg, true, false, List, [], ◌∷◌, length, slice_index_or, Option, Some, None, unwrap_or, ⊤, IsTrue, ◌<◌, ◌^◌, Result}
 use Rattle.std.specs.List.{AllByRecursion}
 use Rattle.ts_model.specs.declared.events.Op.TheVariants as ops
@@ -158,11 +158,11 @@ action_of roster (stmts.Calendar number unit fold) =
     (calendar_of (table_at roster (found_in roster fold.table)) fold)
 action_of roster (stmts.Rows table tests) = actions.Ask (rows_query roster (found_in roster table) tests)
 
--- a statement is resolved: what it asks for where nothing is refused, and else the first refusal
+-- a statement is resolved: what it asks for if nothing is refused, and otherwise the first refusal
 abbrev pub Resolves : ℕ → Roster → Stmt → Result Action ResolveStop → Type 0
 Resolves pos roster stmt result = Checks (refusal_of pos roster stmt) (action_of roster stmt) result
 
--- the check of a statement: the action where nothing is refused, and else the first refusal
+-- the check of a statement: the action if nothing is refused, and otherwise the first refusal
 abbrev pub IsChecked : ℕ → Roster → Stmt → Checked → Type 0
 IsChecked pos roster stmt (checked.Ready action) =
     (refusal_of pos roster stmt ≡ None) × (action ≡ action_of roster stmt)

@@ -15,7 +15,7 @@ use Rattle.ts_catalog.specs.Columns.{view_column_of}
 use Rattle.stmt_syntax.specs.declared.statements.NamedTest.{NamedTest}
 use Rattle.stmt_check.specs.Refusals.{◌⊳◌, refusal_if}
 
--- the next number, where there is one of 64 bits
+-- the next number, if there is one of 64 bits
 abbrev pub next : ℤ → ℤ
 next n = int_min (n +ℤ nonneg 1) greatest
 
@@ -83,6 +83,6 @@ abbrev pub bound_refusal : ℕ → Option ℤ → Option Refusal
 bound_refusal pos None = None
 bound_refusal pos (Some t) = refusal_if pos bad_time (not (is_time t))
 
--- the test that drop_chunks puts: the time lies before the chunk that holds n
+-- the test that drop_chunks applies: the time lies before the chunk that holds n
 abbrev pub drop_test : ℤ → ℤ → Test
 drop_test interval n = record { col = 0; cmp = Lt; num = chunk_start interval n }

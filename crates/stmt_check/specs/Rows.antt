@@ -18,7 +18,7 @@ use Rattle.stmt_check.specs.Results.{Checks}
 abbrev pub blank_column : Column
 blank_column = record { name = []; must = false }
 
--- the rule of the column with the declared place `place`, where the time column has the place `at`
+-- the rule of the column with the declared place `place`, if the time column has the place `at`
 abbrev pub rule_at : ℕ → Column → ℕ → Rule
 rule_at at c place = record { time = at == place; must = c.must || at == place }
 
@@ -50,7 +50,7 @@ list_refusal pos cols before (n ∷ ns) =
     refusal_if pos name_taken (is_among n before) ⊳ refusal_if_none pos no_column (column_from n 0 cols)
     ⊳ list_refusal pos cols (before ++ n ∷ []) ns
 
--- the column list, where there is one
+-- the column list, if there is one
 abbrev pub list_refusal_of : ℕ → List Column → Option (List (List ℕ)) → Option Refusal
 list_refusal_of pos cols None = None
 list_refusal_of pos cols (Some names) = list_refusal pos cols [] names
@@ -60,7 +60,7 @@ abbrev pub leaves_out : ℕ → Option (List (List ℕ)) → ℕ → List Column
 leaves_out at names k [] = false
 leaves_out at names k (c ∷ cs) = ((c.must || at == k) && is_none (place_in names k c)) || leaves_out at names (k + 1) cs
 
--- one value: a time is in the range of times, and NULL is only where it may be
+-- one value: a time is in the range of times, and NULL is only if it may be
 abbrev pub value_refusal : ℕ → Rule → Option ℤ → Option Refusal
 value_refusal pos rule None = refusal_if pos null_value rule.must
 value_refusal pos rule (Some v) = refusal_if pos bad_time (rule.time && not (is_time v))
@@ -84,7 +84,7 @@ abbrev pub rows_refusal : ℕ → Shape → ℕ → List (List (Option ℤ)) →
 rows_refusal pos shape k [] = None
 rows_refusal pos shape k (r ∷ rs) = row_refusal pos shape k r ⊳ rows_refusal pos shape (k + 1) rs
 
--- the value at a place, or NULL where a column is left out
+-- the value at a place, or NULL if a column is left out
 abbrev pub value_at : List (Option ℤ) → Option ℕ → Option ℤ
 value_at values None = None
 value_at values (Some i) = slice_index_or values i None
@@ -118,7 +118,7 @@ shape_of at cols names count = record {
   others = other_places at names 0 cols;
 }
 
--- INSERT into a hypertable with these columns, where the time column has the place `at`
+-- INSERT into a hypertable with these columns, if the time column has the place `at`
 abbrev pub insert_refusal : ℕ → ℕ → List Column → Option (List (List ℕ)) → List (List (Option ℤ)) → Option Refusal
 insert_refusal pos at cols names rows =
     list_refusal_of pos cols names ⊳ rows_refusal pos (shape_of at cols names (length rows)) 0 rows

@@ -42,7 +42,7 @@ pub record IsOperation (h : History) (bytes : ℕ) (op : Op) : Type 0 where
   pub fits : IsTrue (op_fits (roster h) op)
   pub size : op_bytes op ≤ 8 * bytes
 
--- a window of an aggregate that is there
+-- a window of an existing aggregate
 pub record IsWindow (h : History) (view : ℕ) (lo hi : Option ℤ) : Type 0 where
   pub there : IsSome (view_of (roster h) view)
   pub low : ForSome lo (λ t. IsTrue (is_time t))
@@ -57,7 +57,7 @@ pub record IsCalendar (h : History) (table number : ℕ) (unit : List ℕ) (at :
   pub query : IsTrue (can_ask (roster h) (Buckets table fold))
   pub columns : IsTrue (columns_are_there most_columns fold)
 
--- what an action from a text of so many bytes asks for can be done at a history
+-- what an action from a text of a given number of bytes asks for can be done at a history
 abbrev pub IsSound : History → ℕ → Action → Type 0
 IsSound h bytes (actions.Table def) = MayCome h (events.Table def)
 IsSound h bytes (actions.Hyper table hyper) = MayCome h (events.Hyper table hyper)
@@ -87,7 +87,7 @@ RostersAreNumbered = (h : History) → all_allowed h ≡ true → IsNumbered (ro
 
 -- ---- queues
 
--- operations that may be committed together, from texts of so many bytes
+-- operations that may be committed together, from texts of a given number of bytes
 pub record IsQueue (h : History) (bytes : ℕ) (ops : List Op) : Type 0 where
   pub fits : IsTrue (list_all (op_fits (roster h)) ops)
   pub size : sum_by op_bytes ops ≤ 8 * bytes

@@ -45,14 +45,14 @@ DropsWholeChunks =
 
 -- ---- which values
 
--- the value that stands under a name, or NULL
+-- the value that is under a name, or NULL
 abbrev pub value_named : List (List ℕ) → List (Option ℤ) → List ℕ → Option ℤ
 value_named [] values name = None
 value_named (n ∷ names) [] name = None
 value_named (n ∷ names) (v ∷ values) name = if same_name n name then v else value_named names values name
 
--- the value that a row's values have for the column with declared place k: the one under its name where columns are
--- listed, and else the one at its place
+-- the value that a row's values have for the column with declared place k: the one under its name if columns
+-- are listed, and otherwise the one at its place
 abbrev pub value_written : Option (List (List ℕ)) → List (Option ℤ) → ℕ → Column → Option ℤ
 value_written None values k c = slice_index_or values k None
 value_written (Some names) values k c = value_named names values c.name
@@ -76,7 +76,7 @@ pub record NamesColumns (info : TableInfo) (f : NamedFold) : Type 0 where
   pub aggs : AllByRecursion (λ a. IfSome a.col (λ c. is_some (column_of info c) ≡ true)) f.aggs
   pub tests : AllByRecursion (λ t. is_some (column_of info t.col) ≡ true) f.tests
 
--- a CREATE TABLE, a hypertable and an aggregate whose event would be allowed aren't refused, where the names that
+-- a CREATE TABLE, a hypertable and an aggregate whose event would be allowed aren't refused, if the names that
 -- they use are there
 pub record AllowedIsReady : Type 0 where
   pub tables : (h : History) (pos : ℕ) (name : List ℕ) (cols : List Column)

@@ -12,7 +12,7 @@ pub enum Action {
         table: u32,
         hyper: Hyper,
     },
-    /// Make this aggregate, and refresh it where it is to be filled.
+    /// Make this aggregate, and refresh it if it is to be filled.
     View {
         def: ViewDef,
         filled: bool,
@@ -63,7 +63,7 @@ pub enum Action {
         unit: Name,
         /// The declared place of the time column.
         at: u32,
-        /// The grouping, whose width isn't looked at.
+        /// The grouping, whose width has no effect.
         fold: Fold,
     },
 }

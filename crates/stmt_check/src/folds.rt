@@ -18,10 +18,10 @@ use ts_model::{Agg, Fold, Refusal, TableInfo};
 use ts_num::Fun;
 use ts_schema::{Name, NoMemory, Seq, Test};
 
-/// The name of a bucket's column where no other is given.
+/// The name of a bucket's column if no other is given.
 const BUCKET_NAME: &[u8] = b"time_bucket";
 
-/// The name of the column of a bucket of the calendar where no other is given.
+/// The name of the column of a bucket of the calendar if no other is given.
 const CALENDAR_NAME: &[u8] = b"calendar_bucket";
 
 /// The tests with the numbers of their columns.
@@ -46,7 +46,7 @@ pub(crate) fn check_tests(
     Ok(numbered)
 }
 
-/// What stands behind the head of a fold, with the numbers of its columns.
+/// What is after the head of a fold, with the numbers of its columns.
 #[derive(Drop)]
 pub(crate) struct FoldTail {
     keys: Seq<u32>,
@@ -54,7 +54,7 @@ pub(crate) struct FoldTail {
     tests: Seq<Test>,
 }
 
-/// The fold with the numbers of its columns; `distinct` where its output names have to differ.
+/// The fold with the numbers of its columns; `distinct` if its output names have to differ.
 pub(crate) fn check_fold(
     alloc: Global,
     pos: u64,
@@ -113,7 +113,7 @@ pub(crate) fn check_calendar(
     Ok((number, fold))
 }
 
-/// How many units a bucket of the calendar has, where the unit is one and the column is the time column.
+/// How many units a bucket of the calendar has, if the unit is one and the column is the time column.
 fn check_units(
     pos: u64,
     info: &TableInfo,
@@ -130,7 +130,7 @@ fn check_units(
     Ok(count)
 }
 
-/// How many units a bucket of the calendar has, where that is in range.
+/// How many units a bucket of the calendar has, if that is in range.
 fn unit_count(number: i64) -> Option<u32>
     ensures { result ≡ unit_count number }
 {
@@ -151,7 +151,7 @@ fn is_unit(word: &[u8]) -> bool
         || word == b"year".as_slice()
 }
 
-/// The rest of a fold behind its head, whose column has this name.
+/// The rest of a fold after its head, whose column has this name.
 pub(crate) fn check_rest(
     alloc: Global,
     pos: u64,
@@ -169,7 +169,7 @@ pub(crate) fn check_rest(
     Ok(FoldTail { keys, aggs, tests })
 }
 
-/// The width, where it is in range and the column is the time column.
+/// The width, if it is in range and the column is the time column.
 fn check_width(pos: u64, info: &TableInfo, fold: &NamedFold) -> Result<Width, ResolveStop>
     requires { length info.now.def.cols < 2 ^ 32 }
     ensures { ChecksWidth pos info.now fold.now result }
@@ -234,7 +234,7 @@ fn check_keys(
     Ok(numbers)
 }
 
-/// The number of a key's column, after so many columns; whether its name is taken and has to differ.
+/// The number of a key's column, after a given number of columns; whether its name is taken and has to differ.
 fn check_key(
     pos: u64,
     repeats: bool,
@@ -277,7 +277,7 @@ fn check_aggregates(
     Ok(numbered)
 }
 
-/// An aggregate with the number of its column, after so many columns; whether its name is taken and
+/// An aggregate with the number of its column, after a given number of columns; whether its name is taken and
 /// has to differ.
 fn check_aggregate(
     pos: u64,
@@ -308,14 +308,14 @@ fn check_argument(pos: u64, info: &TableInfo, col: &Option<Name>) -> Result<u32,
     }
 }
 
-/// How many output columns the bucket, so many keys and so many aggregates are.
+/// How many output columns the bucket, these keys and these aggregates make up.
 fn columns_up_to(keys: usize, aggs: usize) -> u64
     ensures { result ≡ columns_before keys aggs }
 {
     1u64.saturating_add(keys as u64).saturating_add(aggs as u64)
 }
 
-/// How many output columns there are.
+/// The number of output columns.
 fn count_columns(fold: &NamedFold) -> u64
     ensures { result ≡ output_count fold.now }
 {

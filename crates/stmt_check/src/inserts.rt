@@ -33,7 +33,7 @@ pub(crate) struct Shape {
     rules: Seq<Rule>,
     /// Whether a column is left out that must not be NULL.
     left_out: bool,
-    /// How many rows there are.
+    /// The number of rows.
     count: u64,
     /// The place of the time.
     time: Option<usize>,
@@ -287,7 +287,7 @@ fn check_values(pos: u64, rules: &[Rule], values: &[Option<i64>]) -> Result<(), 
     Ok(())
 }
 
-/// Checks that a time is in the range of times, and that NULL is only where it may be.
+/// Checks that a time is in the range of times, and that NULL is only if it may be.
 fn check_value(pos: u64, rule: Rule, value: Option<i64>) -> Result<(), ResolveStop>
     ensures { Passes (value_refusal pos rule value) result }
 {
@@ -310,7 +310,7 @@ fn make_rows(
     ensures { IfOk result (λ made. made ≡ rows_of shape.now rows.now) }
 {
     let block = Arc::new(alloc, other_values(alloc, shape, rows)?)?;
-    // A length that is read has 64 bits, so the place behind a row's values in the block has too.
+    // A length that is read has 64 bits, so the place after a row's values in the block has too.
     let _total = block.len();
     let mut made = Vec::with_capacity(alloc, rows.len())?;
     let mut from = 0;
@@ -355,7 +355,7 @@ fn append_others(
     Ok(())
 }
 
-/// The value at a place, or NULL where a column is left out.
+/// The value at a place, or NULL if a column is left out.
 fn value_at(values: &[Option<i64>], place: Option<usize>) -> Option<i64>
     ensures { result ≡ value_at values.now place }
 {

@@ -1,4 +1,4 @@
-//! How many rows an INSERT may have.
+//! The greatest number of rows of an INSERT.
 ghost use Rattle.std.specs.Prelude.{◌≡◌};
 ghost use Rattle.stmt_check.specs.Limits.{most_rows};
 ghost use Rattle.stmt_check.specs.declared.limits.TheConstants as limits;

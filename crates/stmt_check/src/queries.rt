@@ -15,7 +15,7 @@ use ts_model::ViewDef;
 use ts_model::codes::{BAD_TIME, NO_COLUMN};
 use ts_schema::{Cmp, Test};
 
-/// The starts that all tests let pass, where each is on the bucket column and bounds it.
+/// The starts that all tests let pass, if each is on the bucket column and bounds it.
 pub(crate) fn check_starts(
     pos: u64,
     def: &ViewDef,

@@ -18,8 +18,8 @@ use ts_model::{Hyper, Op, Query, Roster, TableDef, ViewDef};
 use ts_schema::{Column, Name, Seq};
 
 /// What a statement asks for by the names of a roster, or the first refusal of its names and values; `pos` is
-/// the position looked at, which a refusal carries. It looks neither at the block of a session nor at what only
-/// shows where the statement is carried out, as `E15` and `E19` do. A query of an aggregate in wider buckets is
+/// the read position, which a refusal carries. It looks neither at the block of a session nor at what only
+/// shows if the statement is carried out, as `E15` and `E19` do. A query of an aggregate in wider buckets is
 /// refused as `E13`: `hier_agg` reads it.
 pub fn check(alloc: Global, stmt: &Stmt, roster: &Roster, pos: u64) -> Checked
     requires { IsNumbered roster.now }

@@ -29,7 +29,7 @@ pub(crate) fn check_columns(pos: u64, columns: &[Column]) -> Result<(), ResolveS
     Ok(())
 }
 
-/// The declared place of the time column, where the interval is in range.
+/// The declared place of the time column, if the interval is in range.
 pub(crate) fn check_hyper(
     pos: u64,
     columns: &[Column],

@@ -1,4 +1,4 @@
--- What is so of whatever a rule has of tokens whose names are names and whose numbers are of 64 bits.
+-- What is true of all that a rule has of tokens whose names are names and whose numbers are of 64 bits.
 use Rattle.std.proofs.Common.{◌≡◌, ℕ, List, [], ◌∷◌, ◌++◌, Option, Some, subst, inl, inr}
 use Rattle.std.specs.Prelude.{◌⊎◌}
 use Rattle.std.specs.List.{AllByRecursion}
@@ -26,7 +26,7 @@ proper_split (t ∷ us) vs h = let k = proper_split us vs h.1 in ((h.0, k.0), k.
 pub record Holds {A : Type 0} (L : Rule A) (P : A → Type 0) : Type 0 where
   pub holds : (ts : List Token) (a : A) → AreProper ts → L ts a → P a
 
--- ---- rules put together
+-- ---- rules combined
 
 pub holds_any : {A : Type 0} (L : Rule A) → Holds L (λ _. Unit {0})
 holds_any L = record { holds = λ ts a h l. tt }
@@ -43,7 +43,7 @@ holds_then f g = record {
       (g a (f.holds us a parts.0 l)).holds vs b parts.1 m;
 }
 
--- behind tokens that say nothing
+-- after tokens that say nothing
 pub past : {A B : Type 0} (L : Rule A) {M : Rule B} {Q : B → Type 0} → Holds M Q → Holds (sequence L (λ _. M)) Q
 past L g = holds_then (holds_any L) (λ _ _. g)
 

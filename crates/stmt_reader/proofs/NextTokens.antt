@@ -1,4 +1,4 @@
--- What a reader knows of the next token, and what it tells of the tokens that are left.
+-- What a reader knows of the next token, and what it says of the tokens that are left.
 use Rattle.std.proofs.Common.{◌≡◌, ℕ, ◌+◌, ◌≤◌, Bool, true, false, List, length, Option, Some, None, refl, sym, subst}
 use Rattle.stmt_tokens.specs.Tokens.{Next, token, ended, nothing, next}
 use Rattle.stmt_tokens.specs.Scan as scan
@@ -19,7 +19,7 @@ place_of at (scan.token t begin end) = begin + 1
 place_of at scan.ended = at + 1
 place_of at (scan.nothing begin) = begin + 1
 
--- the fault where nothing that may come next comes, by the place
+-- the fault if nothing that may come next comes, by the place
 abbrev pub Refuses : SeenNext → Stream → Type 0
 Refuses (scan.token t begin end) s = Syntax (place s) ≡ fault_here s
 Refuses scan.ended s = Syntax (place s) ≡ fault_here s

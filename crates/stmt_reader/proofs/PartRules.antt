@@ -224,7 +224,7 @@ reads_aggregate n = reads_then n (reads_function n) (λ f. reads_then n (reads_m
 abbrev pub on_aggregates : Seen → Bool
 on_aggregates = any (parts separators.Comma) on_as
 
--- the aggregates, of which the first begins behind its opening parenthesis
+-- the aggregates, of which the first begins after its opening parenthesis
 abbrev pub aggregates_of : Fun → Rule (List NamedAgg)
 aggregates_of f = sequence (rule.aggregate_rest f) (λ a. sequence (rule.many (behind (parts separators.Comma) rule.aggregate)) (λ others. rule.means (a ∷ others)))
 

@@ -40,7 +40,7 @@ said_err s (Some b) f e = absurd cc
 
 -- ---- one token
 
--- what refuses numbers that aren't i64 takes fit tokens alone
+-- what refuses numbers that aren't i64 takes fit tokens only
 fit_number : (test : Seen → Bool) (z : ℤ) (b : Bool) → test (scan.number None) ≡ false → test (scan.number (cond b (Some z) None)) ≡ true → b ≡ true
 fit_number test z true n e = refl
 fit_number test z false n e = sym n ∙ e
@@ -231,7 +231,7 @@ reads_number n = record {
 
 -- ---- past a token
 
--- a reading behind a token, on streams of at most n tokens with that one
+-- a reading after a token, on streams of at most n tokens with that one
 abbrev pub Inner : ℕ → {A : Type 0} → Parser A → Rule A → (Seen → Bool) → Type 0
 Inner zero p L c = Unit {0}
 Inner (suc m) p L c = Reads m p L c
@@ -390,7 +390,7 @@ pub reads_choose : (n : ℕ) {A : Type 0} (test : Seen → Bool) {p q : Parser A
 reads_choose n test {c = c} {d = d} r t leads apart =
     reads_choose_on n test (any test (any c d)) r t leads apart (λ s e. (heads-any c d s (heads-any test (any c d) s e).1).0) (λ s e. (heads-any c d s (heads-any test (any c d) s e).1).1)
 
--- ---- past a token where it comes next, or another way
+-- ---- past a token if it comes next, or another way
 
 takes_cond : {A : Type 0} (b : Bool) (p : Parser A) (r : Stream) (f : Fault) (z : Result (A × Stream) Fault) → cond b (p r) z ≡ cond b (go_on (cond b (ok_unit r) (Err f)) (λ _. p)) z
 takes_cond true p r f z = refl

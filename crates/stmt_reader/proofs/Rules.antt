@@ -12,7 +12,7 @@ use Rattle.stmt_reader.specs.declared.faults.Fault.{Fault}
 use Rattle.stmt_reader.specs.declared.faults.Fault.TheVariants.{NoToken, Syntax, BadNumber}
 use Rattle.stmt_reader.proofs.Placed.{AllFit, MisfitIn, misfit_left, misfit_right, fit-append, onto-append, plain-append, size-onto, splits, nothing_placed, ahead_onto}
 
--- what was found: tokens of the rule, whose numbers are i64; and nothing behind them but the next token matters
+-- what was found: tokens of the rule, whose numbers are i64; and nothing after them but the next token matters
 pub record Found {A : Type 0} (p : Parser A) (L : Rule A) (s : Stream) (a : A) (left : Stream) : Type 0 where
   pub taken : List Placed
   pub split : s ≡ onto taken left
@@ -20,7 +20,7 @@ pub record Found {A : Type 0} (p : Parser A) (L : Rule A) (s : Stream) (a : A) (
   pub fit : AllFit taken
   pub firm : (rest : Stream) → seen_ahead left ≡ seen_ahead rest → p (onto taken rest) ≡ Ok (a, rest)
 
--- a fault at a token: it is refused whatever follows, or it is a number that isn't an i64 where one may stand
+-- a fault at a token: it is refused whatever follows, or it is a number that isn't an i64 where one may be
 abbrev pub StuckAt : {A : Type 0} → Parser A → Rule A → List Placed → Placed → Fault → Type 0
 StuckAt p L taken t f =
     ((f ≡ Syntax t.at) × ((rest : Stream) → p (onto taken (t then rest)) ≡ Err f))
@@ -31,7 +31,7 @@ Stuck p L taken (ends q) f = f ≡ Syntax q
 Stuck p L taken (stops q) f = f ≡ NoToken q
 Stuck p L taken (t then left) f = StuckAt p L taken t f
 
--- where reading ended: behind tokens that begin something of the rule, whose numbers are i64
+-- where reading ended: after tokens that begin something of the rule, whose numbers are i64
 pub record Failed {A : Type 0} (p : Parser A) (L : Rule A) (s : Stream) (f : Fault) : Type 0 where
   pub taken : List Placed
   pub left : Stream
@@ -69,7 +69,7 @@ heads-any c d (ends p) e = (refl, refl)
 heads-any c d (stops p) e = (refl, refl)
 heads-any c d (t then s) e = or_parts (c (seen_token t.token)) (d (seen_token t.token)) e
 
--- no word of M, with nothing of `on` behind it, begins with a token of `test`
+-- no word of M, with nothing of `on` after it, begins with a token of `test`
 abbrev pub Avoids : {B : Type 0} → (Seen → Bool) → Rule B → (Seen → Bool) → Type 0
 Avoids {B} test M on = (ts : List Placed) (b : B) (left : Stream) → M (plain ts) b → heads on left ≡ false → heads test (onto ts left) ≡ false
 
@@ -154,7 +154,7 @@ reads_gives n a = record {
   agrees = λ ts b left le m free. rw (nothing_placed ts m.0) (ap (λ x. (x, left)) m.1);
 }
 
--- ---- one after the other
+-- ---- in order
 
 begins_first : {A B : Type 0} (L : Rule A) (M : A → Rule B) (us : List Token) → ((a : A) → Begins (M a) []) → Begins L us → Begins (sequence L M) us
 unfolding sequence
@@ -173,7 +173,7 @@ stuck_first p q L M taken (stops r) f rest h = h
 stuck_first p q L M taken (t then left) f rest (inl h) = inl (h.0, λ others. rw (h.1 others) refl)
 stuck_first p q L M taken (t then left) f rest (inr h) = inr (h.0, h.1, begins_first L M (plain taken ++ t.token ∷ []) rest h.2)
 
--- what the second reading makes of a stream behind what the first one took
+-- what the second reading makes of a stream after what the first one took
 second_is : {A B : Type 0} (p : Parser A) (q : A → Parser B) (us vs : List Placed) (a : A) (r : Stream) → p (onto us (onto vs r)) ≡ Ok (a, onto vs r) → bind p q (onto (us ++ vs) r) ≡ q a (onto vs r)
 unfolding bind
 second_is p q us vs a r e = rw (onto-append us vs r, e) refl

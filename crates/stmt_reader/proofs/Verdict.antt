@@ -120,7 +120,7 @@ module _ {A : Type 0} (whole : read.Parser A) (L : Rule A) {on : Seen → Bool} 
   behind_at taken ts left r never (inl w) = record { between = w.between; front = w.front; back = w.back }
   behind_at taken ts left r never (inr w) = behind_in taken ts left r w.between never w.front w.back
 
-  -- what can't lie among the tokens that were taken lies behind them
+  -- what can't lie among the tokens that were taken lies after them
   behind : (s : Stream) (taken ts : List Placed) (left r : Stream) → Good s taken left → s ≡ onto ts r → ((x : Placed) (xs : List Placed) → taken ≡ ts ++ x ∷ xs → r ≡ x then (onto xs left) → ⊥) → Behind taken left ts r
   behind s taken ts left r g e never = behind_at taken ts left r never (meet taken ts left r (sym g.split ∙ e))
 
@@ -142,7 +142,7 @@ module _ {A : Type 0} (whole : read.Parser A) (L : Rule A) {on : Seen → Bool} 
       let h : t ≡ x = cc in
       both_ways (is_fit t.token) never (fit_at ts xs t (subst AllFit (front ∙ ap (λ y. ts ++ y ∷ xs) (sym h)) g.fit)))
 
-  -- a refusal lies behind what was taken
+  -- a refusal lies after what was taken
   pub record Later (left : Stream) (g : Fault) : Type 0 where
     pub between : List Placed
     pub at : Stream
@@ -173,7 +173,7 @@ module _ {A : Type 0} (whole : read.Parser A) (L : Rule A) {on : Seen → Bool} 
   good_found : (s : Stream) (a : A) (left : Stream) (f : Found whole L s a left) → Good s f.taken left
   good_found s a left f = record { split = f.split; begins = ([], a, subst (λ x. L x a) (sym (append-nil (plain f.taken))) f.said); fit = f.fit }
 
-  -- what reading a stream with these tokens and nothing behind them gives
+  -- what reading a stream with these tokens and nothing after them gives
   pub whole_agrees : (ts : List Placed) (a : A) (p : ℕ) → L (plain ts) a → Agrees ts a (ends p) (whole (onto ts (ends p)))
   whole_agrees ts a p m = (reads_whole (length ts)).agrees ts a (ends p) (omega arith) m refl
 
@@ -219,14 +219,14 @@ module _ {A : Type 0} (whole : read.Parser A) (L : Rule A) {on : Seen → Bool} 
       let h : t ≡ u = cc in
       never (subst (λ x. Begins L (plain x ++ u.token ∷ [])) (sym ts-is) (subst (λ x. Begins L (plain taken ++ x.token ∷ [])) h b))
 
-  -- nothing but the end lies behind the end
+  -- nothing but the end lies after the end
   end_only : (taken : List Placed) (p : ℕ) (ts : List Placed) (r : Stream) → Behind taken (ends p) ts r → (ends p ≡ r → ⊥) → ⊥
   end_only taken p ts r b never = end_only_at p r b.between b.back never
 
   end_same : (taken : List Placed) (p : ℕ) (ts : List Placed) (q : ℕ) → Behind taken (ends p) ts (ends q) → taken ≡ ts
   end_same taken p ts q b = sym (b.front ∙ ap (λ x. taken ++ x) (end_empty p (ends q) b.between b.back) ∙ append-nil taken)
 
-  -- a L can't end where a token was left
+  -- a L can't end if a token was left
   not_ended : (ts : List Placed) (a b : A) (t : Placed) (l : Stream) (r : Result (A × Stream) Fault) → r ≡ Ok (a, t then l) → Agrees ts b (ends 0) r → ⊥
   not_ended ts a b t l (Ok x) e h = then_is_no_end t l 0 (sym (second a (t then l) x e) ∙ ap (λ y. y.1) h)
   not_ended ts a b t l (Err f) e h = absurd cc
@@ -248,7 +248,7 @@ module _ {A : Type 0} (whole : read.Parser A) (L : Rule A) {on : Seen → Bool} 
 
   -- ---- the verdict
 
-  -- nothing lies behind the end but what is no fault
+  -- nothing lies after the end but what is no fault
   nothing_wrong : (s : Stream) (a : A) (p : ℕ) (f : Found whole L s a (ends p)) (g : Fault) → Refuses L s g → ⊥
   nothing_wrong s a p f (NoToken q) (ts, e) = end_only f.taken p ts (stops q) (stops_behind s f.taken ts (ends p) q (good_found s a (ends p) f) e) (λ k. cc)
   nothing_wrong s a p f (Syntax q) (inl (ts, t, l, e, q-is, never)) = end_only f.taken p ts (t then l) (refused_token_behind s f.taken ts (ends p) t l (good_found s a (ends p) f) e never) (λ k. cc)
@@ -261,7 +261,7 @@ module _ {A : Type 0} (whole : read.Parser A) (L : Rule A) {on : Seen → Bool} 
   verdict_ok s a (stops p) r f = first_at s f.taken (stops p) (NoToken p) (good_found s a (stops p) f) r refl (f.taken, f.split) (λ g _. tt)
   verdict_ok s a (t then l) r f = first_at s f.taken (t then l) (Syntax t.at) (good_found s a (t then l) f) r refl (inl (f.taken, t, l, f.split, refl, none_found s a t l f)) (λ g _. tt)
 
-  -- a number that isn't an i64, where a number may stand: no token there is refused
+  -- a number that isn't an i64, where a number may be: no token there is refused
   number_stands : (s : Stream) (taken : List Placed) (t : Placed) (l : Stream) → Good s taken (t then l) → Rises s → Begins L (plain taken ++ t.token ∷ []) → (g : Fault) → Refuses L s g → Comes (BadNumber t.at) g
   number_stands s taken t l good r b (NoToken q) h = tt
   number_stands s taken t l good r b (BadNumber q) h = tt
@@ -378,7 +378,7 @@ one_first L s (BadNumber p) (NoToken q) r a b = absurd (no_number L s q p r (let
 one_first L s (BadNumber p) (Syntax q) r a b = absurd ((a.1 (Syntax q) b.0).1 (let x = (a.1 (Syntax q) b.0).0 in let y = (b.1 (BadNumber p) a.0).0 in omega arith))
 one_first L s (Syntax p) (BadNumber q) r a b = absurd ((b.1 (Syntax p) a.0).1 (let x = (a.1 (BadNumber q) b.0).0 in let y = (b.1 (Syntax p) a.0).0 in omega arith))
 
--- where nothing is wrong, each number is an i64
+-- if nothing is wrong, each number is an i64
 fit_unless_refused : {A : Type 0} (L : Rule A) (before ts : List Placed) (s l : Stream) → s ≡ onto (before ++ ts) l → ((g : Fault) → Refuses L s g → ⊥) → AllFit ts
 fit_unless_refused L before [] s l e none = tt
 fit_unless_refused L before (t ∷ ts) s l e none =

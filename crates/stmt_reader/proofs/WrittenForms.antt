@@ -1,4 +1,4 @@
--- What the grammar's statements hold is whole, and takes so many bytes.
+-- What the grammar's statements hold is whole, and takes a given number of bytes.
 use Rattle.std.proofs.Common.{ℕ, ◌+◌, ◌≤◌, length, Some, None, arith}
 use Rattle.stmt_reader.specs.Grammar as rule
 use Rattle.stmt_reader.specs.Grammar.{Rule}
@@ -11,7 +11,7 @@ use Rattle.stmt_syntax.specs.declared.statements.Stmt.TheVariants as stmt
 use Rattle.stmt_reader.proofs.Yields.{Yields, Item, yields_means, yields_then, yields_either, yields_listed, yields_keyword, yields_mark, yields_name, yields_quoted, yields_number, yields_spelled}
 use Rattle.stmt_reader.proofs.WrittenParts.{Any, yields_value, yields_row, yields_column, yields_source, yields_fold, yields_fold_behind, yields_calendar_bucket}
 
--- a statement by tokens of so many bytes
+-- a statement by tokens of a given number of bytes
 abbrev Holds : Stmt → ℕ → Type 0
 Holds s n = IsShaped n s
 

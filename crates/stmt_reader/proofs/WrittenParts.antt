@@ -1,4 +1,4 @@
--- What the grammar's parts hold is whole, and takes so many bytes.
+-- What the grammar's parts hold is whole, and takes a given number of bytes.
 use Rattle.std.proofs.Common.{◌≡◌, ℕ, ◌+◌, ◌*◌, ◌<◌, ◌≤◌, Bool, true, false, cond, List, [], ◌∷◌, length, Option, Some, None, refl, sym, ap, subst, ◌∙◌, arith, ℤ, pos}
 use Rattle.std.specs.Prelude.{codes, sum_by, is_some}
 use Rattle.std.specs.Str.{bytes_eq}
@@ -97,7 +97,7 @@ compares (number z) op e = absurd cc
 compares (quoted w) op e = absurd cc
 compares (mark m) op e = record { plain = compares_mark m op e; size = omega arith }
 
--- what stands behind the column of a test
+-- what is after the column of a test
 record TestOf (c : List ℕ) (t : NamedTest) (n : ℕ) : Type 0 where
   pub col : t.col ≡ c
   pub whole : IsWholeTest t
@@ -202,7 +202,7 @@ named (number z) f e = absurd cc
 named (quoted w) f e = absurd cc
 named (mark m) f e = absurd cc
 
--- * or c: a function with an argument where it takes one
+-- * or c: a function with an argument if it takes one
 record ArgumentOf (a : Fun × Option (List ℕ)) (n : ℕ) : Type 0 where
   pub whole : is_some a.1 ≡ takes_argument a.0
   pub size : argument_size a.1 ≤ n
@@ -285,7 +285,7 @@ yields_grouping first keys =
     yields_then (yields_keyword kw.By) (λ _ n hn.
     record { holds = λ ts u l. omega arith }))
 
--- a fold whose head has this column and this name, and what stands behind the head
+-- a fold whose head has this column and this name, and what is after the head
 pub record BehindHead (b : Head) (f : NamedFold) (n : ℕ) : Type 0 where
   pub is : IsWholeFold f
   pub size : fold_size f ≤ 15 + length b.at + alias_size b.name + n

@@ -1,4 +1,4 @@
--- What is so of whatever a rule has: of its value, and of how many bytes its tokens take.
+-- What is true of all that a rule has: of its value, and of how many bytes its tokens take.
 use Rattle.std.proofs.Common.{◌≡◌, ℕ, ◌+◌, ◌<◌, ◌≤◌, Bool, true, List, [], ◌∷◌, ◌++◌, length, Option, Some, sym, ap, subst, ◌∙◌, arith, inl, inr}
 use Rattle.std.specs.Prelude.{sum_by, ◌⊎◌}
 use Rattle.std.specs.List.{AllByRecursion}
@@ -12,7 +12,7 @@ use Rattle.stmt_reader.specs.Grammar.{Rule, means, sequence, either, many, list_
 use Rattle.stmt_tokens.specs.declared.keywords.Keyword.{Keyword}
 use Rattle.stmt_tokens.specs.declared.tokens.Mark.{Mark}
 
--- at least so many bytes are written for a token
+-- at least a given number of bytes are written for a token
 abbrev pub token_size : Token → ℕ
 token_size (word w) = length w
 token_size (number z) = 1
@@ -31,7 +31,7 @@ weight-append (t ∷ us) vs = omega (arith, weight-append us vs)
 pub record Yields {A : Type 0} (L : Rule A) (P : A → ℕ → Type 0) : Type 0 where
   pub holds : (ts : List Token) (a : A) → L ts a → P a (weight ts)
 
--- ---- rules put together
+-- ---- rules combined
 
 pub yields_means : {A : Type 0} (a : A) (P : A → ℕ → Type 0) → P a 0 → Yields (means a) P
 unfolding means
@@ -57,7 +57,7 @@ yields_either f g = record { holds = λ ts a l. yields_one_of f g ts a l }
 
 -- ---- lists
 
--- an item that is so, and takes at least so many bytes
+-- an item that is so, and takes at least a given number of bytes
 pub record Item {A : Type 0} (R : A → Type 0) (f : A → ℕ) (a : A) (n : ℕ) : Type 0 where
   pub is : R a
   pub size : f a ≤ n

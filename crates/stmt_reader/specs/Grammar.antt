@@ -25,7 +25,7 @@ use Rattle.ts_schema.specs.declared.conditions.Cmp.TheVariants as cmp
 abbrev pub Rule : Type 0 → Type 1
 Rule A = List Token → A → Type 0
 
--- ---- how rules are put together
+-- ---- how rules are combined
 
 -- no token, which means this
 unfoldable pub means : {A : Type 0} → A → Rule A
@@ -91,7 +91,7 @@ name = one word_of
 abbrev pub quoted_name : Rule (List ℕ)
 quoted_name = one quoted_of
 
--- num: any number, also where it isn't an i64
+-- num: any number, also if it isn't an i64
 unfoldable pub number : Rule ℤ
 number ts z = ts ≡ number_token z ∷ []
 
@@ -113,7 +113,7 @@ row = do
   mark marks.Close
   means values
 
--- IS NULL or IS NOT NULL, behind IS
+-- IS NULL or IS NOT NULL, after IS
 abbrev pub null_test : List ℕ → Rule NamedTest
 null_test c =
     either
@@ -147,7 +147,7 @@ source = do
 abbrev pub alias : Rule (Option (List ℕ))
 alias = optional (keyword kw.As >> name >>= λ x. means (Some x)) None
 
--- * behind count (, or c
+-- * after count (, or c
 abbrev pub argument : Fun → Rule (Fun × Option (List ℕ))
 argument f = either (token_rule (is_star_of f) >> means (fun.CountAll, None)) (name >>= λ c. means (f, Some c))
 
@@ -196,7 +196,7 @@ abbrev pub items_from : ℕ → List (List ℕ) → Rule (Unit {0})
 items_from i [] = means tt
 items_from i (n ∷ names) = mark marks.Comma >> token_rule (is_item i n) >> items_from (suc i) names
 
--- GROUP BY item { , item }, where the items are as many as the head, which has this name, and the keys together
+-- GROUP BY item { , item }, if the items are as many as the head, which has this name, and the keys together
 abbrev pub group_by : List ℕ → List (List ℕ) → Rule (Unit {0})
 group_by first keys = do
   keyword kw.Group
@@ -204,8 +204,8 @@ group_by first keys = do
   token_rule (is_item 0 first)
   items_from 1 keys
 
--- the rest of a fold behind its head, whose own word this is: { , c } , agg { , agg } FROM n [WHERE tests] GROUP BY
--- item { , item }
+-- the rest of a fold after its head, whose own word this is: { , c } , agg { , agg } FROM n [WHERE tests] GROUP
+-- BY item { , item }
 abbrev pub fold_behind : List ℕ → Head → Rule NamedFold
 fold_behind own h = do
   list ← select_list
@@ -213,11 +213,11 @@ fold_behind own h = do
   group_by (head_name own h.name) list.0
   means (record { step = h.step; shift = h.shift; at = h.at; name = h.name; keys = list.0; aggs = list.1; table = from.0; tests = from.1 })
 
--- fold, behind its SELECT: bucket { , c } , agg { , agg } FROM n [WHERE tests] GROUP BY item { , item }
+-- fold, after its SELECT: bucket { , c } , agg { , agg } FROM n [WHERE tests] GROUP BY item { , item }
 abbrev pub fold : Rule NamedFold
 fold = bucket >>= fold_behind bucket_word
 
--- ( num , 'unit' , c ) [AS x], behind calendar_bucket
+-- ( num , 'unit' , c ) [AS x], after calendar_bucket
 abbrev pub calendar_bucket : Rule CalendarHead
 calendar_bucket = do
   mark marks.Open

@@ -27,7 +27,7 @@ use Rattle.ts_schema.specs.declared.conditions.Cmp.{Cmp}
 use Rattle.ts_schema.specs.declared.conditions.Cmp.TheVariants as cmp
 use Rattle.stmt_tokens.specs.declared.tokens.Mark.{Mark}
 
--- the fault where nothing that may come next comes
+-- the fault if nothing that may come next comes
 abbrev pub fault_here : Stream → Fault
 fault_here (ends p) = Syntax p
 fault_here (stops p) = NoToken p
@@ -47,13 +47,13 @@ abbrev pub Gives : {A : Type 0} → Result A ReadError → Result (A × Stream) 
 Gives (Ok a) read left = read ≡ Ok (a, left)
 Gives (Err e) read left = Fails e read
 
--- ---- how readings are put together
+-- ---- how readings are combined
 
 -- no token is read, and this is what it gives
 abbrev pub gives : {A : Type 0} → A → Parser A
 gives a s = Ok (a, s)
 
--- one after the other
+-- in order
 abbrev pub go_on : {A B : Type 0} → Result (A × Stream) Fault → (A → Parser B) → Result (B × Stream) Fault
 go_on (Ok x) q = q x.0 x.1
 go_on (Err f) q = Err f
@@ -72,11 +72,11 @@ infixr 10 ◌>>◌
 abbrev pub ◌>>◌ : {A B : Type 0} → Parser A → Parser B → Parser B
 p >> q = bind p (λ _. q)
 
--- past a token that passes the test where one comes next, and else another way
+-- past a token that passes the test if one comes next, and otherwise another way
 unfoldable pub takes : {A : Type 0} → (Seen → Bool) → Parser A → Parser A → Parser A
 takes test p q s = if heads test s then p (tail s) else q s
 
--- one way where a token comes next that passes the test, and else another
+-- one way if a token comes next that passes the test, and otherwise another
 unfoldable pub choose : {A : Type 0} → (Seen → Bool) → Parser A → Parser A → Parser A
 choose test p q s = if heads test s then p s else q s
 
@@ -199,7 +199,7 @@ alias = takes (is_keyword kw.As) (name >>= λ x. gives (Some x)) (gives None)
 
 -- ---- folds
 
--- * behind count (, or c
+-- * after count (, or c
 unfoldable pub argument : Fun → Parser (Fun × Option (List ℕ))
 argument f = takes (is_star_of f) (gives (fun.CountAll, None)) (name >>= λ c. gives (f, Some c))
 
@@ -289,7 +289,7 @@ group_by first keys = do
   keyword kw.By
   items first keys
 
--- the rest of a fold behind its head, whose own word this is
+-- the rest of a fold after its head, whose own word this is
 unfoldable pub fold_behind : List ℕ → Head → Parser NamedFold
 fold_behind own h = do
   list ← select_list
@@ -314,7 +314,7 @@ calendar_bucket = do
   x ← alias
   gives (record { number = z; unit = u; head = record { step = pos 1; shift = pos 0; at = c; name = x } })
 
--- ---- statements, after the words that tell them apart
+-- ---- statements, after the words that distinguish them
 
 -- n ( column { , column } )
 unfoldable pub table_rest : Parser Stmt
@@ -440,7 +440,7 @@ drop_rest = do
   mark marks.Close
   gives (stmt.Drop t z)
 
--- FROM n [WHERE tests], behind SELECT *
+-- FROM n [WHERE tests], after SELECT *
 unfoldable pub rows_rest : Parser Stmt
 rows_rest = source >>= λ s. gives (stmt.Rows s.0 s.1)
 

@@ -29,7 +29,7 @@ IsSaid L s a = (ts : List Placed) × (p : ℕ) × (s ≡ onto ts (ends p)) × L 
 
 -- ---- what may be wrong, at its place
 
--- a token stands there, and the tokens up to it begin nothing that the rule has
+-- a token is there, and the tokens up to it begin nothing that the rule has
 abbrev pub NothingAt : {A : Type 0} → Rule A → Stream → ℕ → Type 0
 NothingAt L s p =
     (ts : List Placed) × (t : Placed) × (left : Stream) × (s ≡ onto ts (t then left)) × (t.at ≡ p)
@@ -44,7 +44,7 @@ abbrev pub Refuses : {A : Type 0} → Rule A → Stream → Fault → Type 0
 -- no token begins there
 Refuses L s (NoToken p) = (ts : List Placed) × (s ≡ onto ts (stops p))
 Refuses L s (Syntax p) = NothingAt L s p ⊎ IncompleteAt L s p
--- a number stands there that isn't an i64
+-- a number is there that isn't an i64
 Refuses L s (BadNumber p) =
     (ts : List Placed) × (t : Placed) × (left : Stream) × (s ≡ onto ts (t then left)) × (t.at ≡ p)
     × (is_fit t.token ≡ false)
@@ -57,7 +57,7 @@ fault_place (NoToken p) = p
 fault_place (Syntax p) = p
 fault_place (BadNumber p) = p
 
--- where both are at one place, a number that isn't an i64 comes second
+-- if both are at one place, a number that isn't an i64 comes second
 abbrev pub Comes : Fault → Fault → Type 0
 Comes (BadNumber p) (Syntax q) = p ≡ q → ⊥
 Comes (BadNumber p) (NoToken q) = Unit {0}
@@ -69,8 +69,8 @@ Comes (Syntax p) g = Unit {0}
 abbrev pub First : {A : Type 0} → Rule A → Stream → Fault → Type 0
 First L s f = Refuses L s f × ((g : Fault) → Refuses L s g → (fault_place f ≤ fault_place g) × Comes f g)
 
--- what the grammar says of what reading gives: what the tokens say, where nothing is wrong, or the first thing that
--- is wrong
+-- what the grammar says of what reading gives: what the tokens say, if nothing is wrong, or the first thing
+-- that is wrong
 abbrev pub Verdict : {A : Type 0} → Rule A → Stream → Result (A × Stream) Fault → Type 0
 Verdict L s (Ok x) = IsSaid L s x.0 × ((g : Fault) → Refuses L s g → ⊥)
 Verdict L s (Err f) = First L s f

@@ -110,8 +110,8 @@ impl Reader<'_> {
         self.more_rows(rows, values)
     }
 
-    /// Makes room for as many rows of so many values as there may be in what is left of the text, where all of
-    /// them are as long as the one that begins there.
+    /// Makes room for as many rows of a given number of values as there may be in what is left of the text, if
+    /// all of them are as long as the one that begins there.
     fn make_room(
         &self,
         begin: usize,

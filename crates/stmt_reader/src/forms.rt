@@ -1,4 +1,4 @@
-//! The forms of statements, one after the other.
+//! The forms of statements, in order.
 ghost use Rattle.std.specs.Prelude.{◌≡◌, Ok};
 ghost use Rattle.stmt_reader.specs.Cursor.{ahead};
 ghost use Rattle.stmt_reader.specs.Reading as spec;

@@ -32,7 +32,7 @@ pub trait Phrase {
 }
 
 impl Reader<'_> {
-    /// Goes past what parts two items, where it comes next.
+    /// Goes past what parts two items, if it comes next.
     pub(crate) fn takes_separator(&mut self, separator: Separator) -> bool
         ensures taken { result ≡ heads (parts separator) (ahead self.old) }
         ensures left { ahead self.new ≡ (if result then tail (ahead self.old) else ahead self.old) }

@@ -111,7 +111,7 @@ impl<'a> Reader<'a> {
         }
     }
 
-    /// The fault where nothing that may come next comes.
+    /// The fault if nothing that may come next comes.
     pub fn refusal(&self) -> ReadError
         ensures { result ≡ ReadError.Fault (fault_here (ahead self.now)) }
     {
@@ -200,7 +200,7 @@ impl<'a> Reader<'a> {
         }
     }
 
-    /// Goes past this word of the grammar where it comes next.
+    /// Goes past this word of the grammar if it comes next.
     pub fn takes_keyword(&mut self, keyword: Keyword) -> bool
         ensures taken { result ≡ heads (is_keyword keyword) (ahead self.old) }
         ensures left { ahead self.new ≡ (if result then tail (ahead self.old) else ahead self.old) }
@@ -212,7 +212,7 @@ impl<'a> Reader<'a> {
         here
     }
 
-    /// Goes past the word with this text where it comes next. The text is in lower case.
+    /// Goes past the word with this text if it comes next. The text is in lower case.
     pub fn takes_word(&mut self, text: &[u8]) -> bool
         requires { lower text.now ≡ text.now }
         ensures taken { result ≡ heads (is_spelled text.now) (ahead self.old) }
@@ -225,7 +225,7 @@ impl<'a> Reader<'a> {
         here
     }
 
-    /// Goes past this mark where it comes next.
+    /// Goes past this mark if it comes next.
     pub fn takes_mark(&mut self, mark: Mark) -> bool
         ensures taken { result ≡ heads (is_mark mark) (ahead self.old) }
         ensures left { ahead self.new ≡ (if result then tail (ahead self.old) else ahead self.old) }

@@ -30,8 +30,7 @@ pub enum ReadStmt {
     NoMemory,
 }
 
-/// The statement that stands in a text after its first `skip` bytes. The text is a line before its
-/// comment.
+/// The statement that is in a text after its first `skip` bytes. The text is a line before its comment.
 pub fn read_stmt(alloc: Global, text: &[u8], skip: u32) -> ReadStmt
     requires short { length text.now ≤ longest_line }
     requires within { skip ≤ length text.now }
@@ -39,7 +38,7 @@ pub fn read_stmt(alloc: Global, text: &[u8], skip: u32) -> ReadStmt
     // What reading from left to right gives.
     ensures exact { Answers result (statement (stream text.now skip)) }
 
-    // What the grammar says: the statement where nothing is wrong, and else the first thing that is.
+    // What the grammar says: the statement if nothing is wrong, and otherwise the first thing that is.
     ensures judged { Judges (stream text.now skip) result }
 
     // A statement is whole, and no longer than its text.
@@ -62,8 +61,8 @@ fn answer(alloc: Global, text: &[u8], skip: u32) -> ReadStmt
     }
 }
 
-/// States that what reading gives of each text is what the grammar says of it: its statement where
-/// nothing is wrong, and else the first thing that is. It does nothing.
+/// States that what reading gives of each text is what the grammar says of it: its statement if nothing is
+/// wrong, and otherwise the first thing that is. It does nothing.
 pub fn reading_law()
     ensures { ReadsByTheGrammar }
 {}

@@ -36,7 +36,7 @@ pub record IsProperTest (t : NamedTest) : Type 0 where
   pub col : IsName t.col
   pub num : IsWord t.num
 
--- its column and its name are names, where it has them
+-- its column and its name are names, if it has them
 pub record IsProperAgg (a : NamedAgg) : Type 0 where
   pub col : IsAlias a.col
   pub name : IsAlias a.name

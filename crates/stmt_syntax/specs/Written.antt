@@ -1,4 +1,4 @@
--- What a text holds of a statement: the statement is whole, and the text has at least so many bytes.
+-- What a text holds of a statement: the statement is whole, and the text has at least a given number of bytes.
 use Rattle.std.specs.Prelude.{◌≡◌, ℕ, ◌+◌, ◌*◌, ◌<◌, ◌≤◌, ℤ, pos, Bool, true, false, List, length, sum_by, Option, Some, None, is_some}
 use Rattle.std.specs.List.{AllByRecursion}
 use Rattle.ts_num.specs.declared.values.Fun.{Fun}
@@ -30,7 +30,7 @@ abbrev pub takes_argument : Fun → Bool
 takes_argument fun.CountAll = false
 takes_argument other = true
 
--- an aggregate has an argument exactly where its function takes one
+-- an aggregate has an argument if and only if its function takes one
 pub record IsWholeAgg (a : NamedAgg) : Type 0 where
   pub argument : is_some a.col ≡ takes_argument a.fun
 
@@ -85,7 +85,7 @@ column_size c = 7 + length c.name
 abbrev pub row_size : List (Option ℤ) → ℕ
 row_size values = 1 + 2 * length values
 
--- c op num, behind WHERE or AND
+-- c op num, after WHERE or AND
 abbrev pub test_size : NamedTest → ℕ
 test_size t = 5 + length t.col
 
@@ -94,7 +94,7 @@ abbrev pub argument_size : Option (List ℕ) → ℕ
 argument_size None = 1
 argument_size (Some c) = length c
 
--- AS x, where there is one
+-- AS x, if there is one
 abbrev pub alias_size : Option (List ℕ) → ℕ
 alias_size None = 0
 alias_size (Some x) = 2 + length x
@@ -109,12 +109,12 @@ fold_size f =
     26 + length f.at + alias_size f.name + sum_by name_size f.keys + sum_by agg_size f.aggs + length f.table + sum_by
     test_size f.tests
 
--- ( c { , c } ), where there is one
+-- ( c { , c } ), if there is one
 abbrev pub list_size : Option (List (List ℕ)) → ℕ
 list_size None = 0
 list_size (Some cols) = 1 + sum_by name_size cols
 
--- at least so many bytes are written of a statement
+-- at least a given number of bytes are written of a statement
 abbrev pub size_of : Stmt → ℕ
 size_of (stmt.Table name cols) = 12 + length name + sum_by column_size cols
 size_of (stmt.Hyper table col interval) = length table + length col
@@ -135,12 +135,12 @@ size_of (stmt.Buckets fold) = 6 + fold_size fold
 size_of (stmt.Calendar number unit fold) = 6 + length unit + fold_size fold
 size_of (stmt.Rows table tests) = 11 + length table + sum_by test_size tests
 
--- a statement of a text of so many bytes
+-- a statement of a text of a given number of bytes
 pub record IsShaped (bytes : ℕ) (s : Stmt) : Type 0 where
   pub whole : IsWhole s
   pub size : size_of s ≤ bytes
 
--- a statement as a text of so many bytes has it, in which nothing is wrong
+-- a statement as a text of a given number of bytes has it, in which nothing is wrong
 pub record IsWritten (bytes : ℕ) (s : Stmt) : Type 0 where
   pub whole : IsWhole s
   pub size : size_of s ≤ bytes

@@ -35,7 +35,7 @@ pub enum Stmt {
     /// `INSERT`
     Insert {
         table: Name,
-        /// The column list, where one is written.
+        /// The column list, if one is written.
         cols: Option<Seq<Name>>,
         rows: CellRows<Option<i64>>,
     },
@@ -62,11 +62,11 @@ pub enum Stmt {
         lo: Option<i64>,
         hi: Option<i64>,
     },
-    /// `REFRESH SNAP`, with the number of the refresh where one is written.
+    /// `REFRESH SNAP`, with the number of the refresh if one is written.
     Snap {
         cut: Option<i64>,
     },
-    /// `REFRESH FINISH`, with the number of the refresh where one is written.
+    /// `REFRESH FINISH`, with the number of the refresh if one is written.
     Finish {
         cut: Option<i64>,
     },
@@ -101,7 +101,7 @@ pub enum Stmt {
 pub struct NamedFold {
     /// The width of a bucket.
     pub step: i64,
-    /// The offset of the buckets, 0 where none is written.
+    /// The offset of the buckets, 0 if none is written.
     pub shift: i64,
     /// The column of `time_bucket`.
     pub at: Name,

@@ -7,7 +7,7 @@ use Rattle.stmt_tokens.specs.Tokens.{blank_len, begins_with}
 use Rattle.stmt_tokens.specs.declared.lines.LineKind.{LineKind}
 use Rattle.stmt_tokens.specs.declared.lines.LineKind.TheVariants.{Blank, NotAscii, NoSession, Stmt}
 
--- how many bytes stand before the comment, which begins at the first two bytes --, within quotes too
+-- how many bytes are before the comment, which begins at the first two bytes --, within quotes too
 abbrev pub comment_at : List ℕ → ℕ
 comment_at [] = 0
 comment_at (b ∷ bytes) = if b == 45 && begins_with 45 bytes then 0 else 1 + comment_at bytes
@@ -24,14 +24,14 @@ continues_session b = begins_session b || (nat_le 48 b && nat_le b 57) || b == 9
 abbrev pub session_len : List ℕ → ℕ
 session_len bytes = prefix_len continues_session bytes
 
--- a session name of 1 to 16 bytes and a colon stand in front
+-- a session name of 1 to 16 bytes and a colon are in front
 abbrev pub has_session : List ℕ → Bool
 has_session [] = false
 has_session (b ∷ bytes) =
     begins_session b && nat_le (session_len (b ∷ bytes)) 16
     && begins_with 58 (drop (session_len (b ∷ bytes)) (b ∷ bytes))
 
--- a line whose text before the comment is this one, of which so many bytes in front are blank
+-- a line whose text before the comment is this one, of which a given number of bytes in front are blank
 abbrev pub of_text : List ℕ → ℕ → LineKind
 of_text text blanks =
     if nat_le (length text) blanks then Blank
@@ -40,17 +40,17 @@ of_text text blanks =
     then (let n = session_len (drop blanks text) in Stmt n (blanks + n + 1) (length text))
     else NoSession
 
--- what a line is: blank; with a byte outside ASCII before its comment; without a session name; or a statement of a
--- session, with the length of the session's name, how many bytes stand before the statement, the last of which is the
--- colon, and how many stand before the comment
+-- what a line is: blank; with a byte outside ASCII before its comment; without a session name; or a statement
+-- of a session, with the length of the session's name, how many bytes are before the statement, the last of
+-- which is the colon, and how many are before the comment
 abbrev pub line_kind : List ℕ → LineKind
 line_kind line = let text = take (comment_at line) line in of_text text (blank_len text)
 
--- the name of the session of a line: it stands before the colon, which is the last of the bytes to skip
+-- the name of the session of a line: it is before the colon, which is the last of the bytes to skip
 abbrev pub session_name : List ℕ → ℕ → ℕ → List ℕ
 session_name line len skip = take len (drop (skip - suc len) line)
 
--- the places of a line with a statement: the name, which is a good one, stands directly before the colon, the colon
+-- the places of a line with a statement: the name, which is a good one, is directly before the colon, the colon
 -- before the statement, and the statement before the comment
 pub record IsStatementLine (line : List ℕ) (len skip end : ℕ) : Type 0 where
   pub named : IsTrue (is_name (session_name line len skip))

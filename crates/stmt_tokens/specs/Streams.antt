@@ -38,7 +38,7 @@ onto (t ∷ ts) s = t then (onto ts s)
 abbrev pub plain : List Placed → List Token
 plain ts = map (λ t. t.token) ts
 
--- how many tokens there are
+-- the number of tokens
 abbrev pub size : Stream → ℕ
 size (ends p) = 0
 size (stops p) = 0

@@ -59,7 +59,7 @@ keyword_text kw.View = codes "view"
 keyword_text kw.Where = codes "where"
 keyword_text kw.With = codes "with"
 
--- ---- what one token says; None where it isn't one of these
+-- ---- what one token says; None if it isn't one of these
 
 -- the word of the grammar
 abbrev pub is_keyword : Keyword → Seen → Bool
@@ -114,7 +114,7 @@ abbrev pub quoted_of : Seen → Option (List ℕ)
 quoted_of (quoted w) = Some w
 quoted_of other = None
 
--- a number, where it is an i64
+-- a number, if it is an i64
 abbrev pub number_of : Seen → Option (Option ℤ)
 number_of (number z) = Some z
 number_of other = None

@@ -14,18 +14,18 @@ use memchr::memchr;
 pub enum LineKind {
     /// It holds only blanks before its comment.
     Blank,
-    /// A byte of 128 or more stands before the comment.
+    /// A byte of 128 or more is before the comment.
     NotAscii,
-    /// It doesn't begin, behind blanks or none, with a session name and a colon directly after it. A session name is
-    /// a letter from `a` to `z`, then such letters, digits and `_`, 1 to 16 bytes in all.
+    /// It doesn't begin, after blanks or none, with a session name and a colon directly after it. A session
+    /// name is a letter from `a` to `z`, then such letters, digits and `_`, 1 to 16 bytes in all.
     NoSession,
     /// A session name, a colon, and a statement.
     Stmt {
-        /// How many bytes the session name has. They stand directly before the colon.
+        /// How many bytes the session name has. They are directly before the colon.
         name_len: u32,
-        /// How many bytes stand before the statement; the last one is the colon.
+        /// How many bytes are before the statement; the last one is the colon.
         skip: u32,
-        /// How many bytes stand before the comment.
+        /// How many bytes are before the comment.
         end: u32,
     },
 }
@@ -62,7 +62,7 @@ fn begins_with_dash(text: &[u8]) -> bool
     text.first() == Some(&b'-')
 }
 
-/// What a line is whose text before the comment is this one, with so many blanks in front.
+/// What a line is whose text before the comment is this one, with a given number of blanks in front.
 fn kind_of(text: &[u8], blanks: usize) -> LineKind
     requires short { length text.now ≤ longest_line }
     requires within { blanks ≤ length text.now }
@@ -93,7 +93,7 @@ fn is_ascii(text: &[u8]) -> bool
     text.is_ascii()
 }
 
-/// Whether a session name of 1 to 16 bytes and a colon stand in front.
+/// Whether a session name of 1 to 16 bytes and a colon are in front.
 fn begins_with_session(text: &[u8]) -> bool
     ensures { result ≡ has_session text.now }
 {

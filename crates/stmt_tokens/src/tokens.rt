@@ -117,7 +117,7 @@ impl Mark {
 pub enum Token<'a> {
     /// A word of 1 to 63 bytes.
     Word(&'a [u8]),
-    /// A number, where it is an i64.
+    /// A number, if it is an i64.
     Number(Option<i64>),
     /// The word between two quotes.
     Quoted(&'a [u8]),
@@ -287,8 +287,8 @@ pub enum NextToken<'a> {
 }
 
 /// The next token after the first `skip` bytes of a text, by its places. The text is a line before its comment.
-/// The reader of statements goes by `look`, which hands out the token itself; this is for callers that keep
-/// places alone.
+/// The reader of statements relies on `look`, which returns the token itself; this is for callers that keep
+/// places only.
 pub fn next_token(text: &[u8], skip: u32) -> TokenAt
     requires short { length text.now ≤ longest_line }
     requires within { skip ≤ length text.now }
@@ -333,18 +333,18 @@ pub fn look(text: &[u8], skip: usize) -> NextToken<'_>
     }
 }
 
-/// A mark, and where it stands. The bytes count from 0.
+/// A mark, and where it is. The bytes count from 0.
 #[derive(Clone, Copy, Debug)]
 pub struct MarkAt {
     pub mark: Mark,
     /// Its first byte.
     pub begin: usize,
-    /// The byte behind it.
+    /// The byte after it.
     pub end: usize,
 }
 
-/// The mark that comes after the first `skip` bytes of a text, where at most one space stands before it and no mark
-/// of two bytes begins with its byte. Most marks are such. `None` doesn't tell that no mark comes next.
+/// The mark that comes after the first `skip` bytes of a text, if at most one space is before it and no mark of
+/// two bytes begins with its byte. Most marks are such. `None` doesn't mean that no mark comes next.
 #[inline]
 pub fn lone_mark_at(text: &[u8], skip: usize) -> Option<MarkAt>
     requires within { skip ≤ length text.now }
@@ -362,7 +362,7 @@ pub fn lone_mark_at(text: &[u8], skip: usize) -> Option<MarkAt>
     })
 }
 
-/// The byte behind the space that stands directly after the first `skip` bytes, or `skip` where none does.
+/// The byte after the space that is directly after the first `skip` bytes, or `skip` if none does.
 #[inline]
 #[tactic(auto, using(crate::proofs::Spaces::next_past_space))]
 fn past_space(text: &[u8], skip: usize) -> usize
@@ -377,8 +377,8 @@ fn past_space(text: &[u8], skip: usize) -> usize
     }
 }
 
-/// The mark that stands directly after the first `skip` bytes, where its byte begins no longer one. Most marks
-/// stand so, directly behind a word or a number.
+/// The mark that is directly after the first `skip` bytes, if its byte begins no longer one. Most marks are so,
+/// directly after a word or a number.
 #[inline]
 fn lone_mark(text: &[u8], skip: usize) -> Option<Mark>
     ensures next { IfSome result (λ mark. spec.next text.now skip
@@ -419,7 +419,7 @@ fn look_behind_blanks(text: &[u8], skip: usize) -> NextToken<'_>
     }
 }
 
-/// How many blanks stand in front: spaces, tabs, and a CR at the end of the text. Most often there is none.
+/// How many blanks are in front: spaces, tabs, and a CR at the end of the text. Most often there is none.
 #[inline]
 pub fn blank_len(text: &[u8]) -> usize
     ensures len { result ≡ spec.blank_len text.now }
@@ -437,7 +437,7 @@ pub fn blank_len(text: &[u8]) -> usize
     }
 }
 
-/// The same, where blanks stand in front.
+/// The same, if blanks are in front.
 fn blanks_in_front(text: &[u8]) -> usize
     ensures len { result ≡ spec.blank_len text.now }
     ensures within { result ≤ length text.now }
@@ -451,7 +451,7 @@ fn blanks_in_front(text: &[u8]) -> usize
     }
 }
 
-/// How many spaces and tabs stand in front.
+/// How many spaces and tabs are in front.
 fn space_len(text: &[u8]) -> usize
     ensures len { result ≡ prefix_len is_space text.now }
     ensures within { result ≤ length text.now }
@@ -507,14 +507,14 @@ fn word_at(text: &[u8]) -> Option<Lexeme<'_>>
 /// The most digits that surely write an i64.
 const SHORT_NUMBER: usize = 18;
 
-/// Digits that stand in front: how many, and the number that they write where they are at most `SHORT_NUMBER`.
+/// Digits that are in front: how many, and the number that they write if they are at most `SHORT_NUMBER`.
 #[derive(Clone, Copy, Debug)]
 struct Digits {
     len: usize,
     value: u64,
 }
 
-/// As many digits as there are, after a minus where one stands in front.
+/// As many digits as there are, after a minus if one is in front.
 #[inline]
 fn number_at(text: &[u8]) -> Option<Lexeme<'_>>
     ensures { view_lexeme result ≡ seen_lexeme (spec.number_at text.now) }
@@ -532,7 +532,7 @@ fn number_at(text: &[u8]) -> Option<Lexeme<'_>>
     })
 }
 
-/// The value of a numeral, where it is an i64. Few digits were read already.
+/// The value of a numeral, if it is an i64. Few digits were read already.
 fn number_of(text: &[u8], sign: usize, digits: Digits) -> Option<i64>
     requires numeral { IsNumeral 10 (without_leading_sign text.now) }
     requires small { digits.value < 10 ^ 18 }
@@ -547,18 +547,18 @@ fn number_of(text: &[u8], sign: usize, digits: Digits) -> Option<i64>
     }
 }
 
-/// A number, and where it stands. The bytes count from 0.
+/// A number, and where it is. The bytes count from 0.
 #[derive(Clone, Copy, Debug)]
 pub struct NumberAt {
     pub value: i64,
     /// Its first byte.
     pub begin: usize,
-    /// The byte behind it.
+    /// The byte after it.
     pub end: usize,
 }
 
-/// The number that comes after the first `skip` bytes of a text, where it has fewer than 18 digits and at most one
-/// space stands before it. Most values of a row are such. `None` doesn't tell that no number comes next.
+/// The number that comes after the first `skip` bytes of a text, if it has fewer than 18 digits and at most one
+/// space is before it. Most values of a row are such. `None` doesn't mean that no number comes next.
 #[inline]
 pub fn short_number_at(text: &[u8], skip: usize) -> Option<NumberAt>
     requires within { skip ≤ length text.now }
@@ -581,7 +581,8 @@ pub fn short_number_at(text: &[u8], skip: usize) -> Option<NumberAt>
     })
 }
 
-/// The digits that stand in front. Few are read once, since most bytes of a statement are digits of short numbers.
+/// The digits that are in front. Few are read once, since most bytes of a statement are digits of short
+/// numbers.
 #[inline]
 fn digits_in_front(text: &[u8]) -> Digits
     ensures len { result.len ≡ prefix_len is_ascii_digit text.now }
@@ -599,7 +600,7 @@ fn digits_in_front(text: &[u8]) -> Digits
     }
 }
 
-/// The first of the digits that stand in front, `SHORT_NUMBER` at most.
+/// The first of the digits that are in front, `SHORT_NUMBER` at most.
 #[inline]
 fn few_digits(text: &[u8]) -> Digits
     ensures most { result.len ≤ 18 }
@@ -619,7 +620,7 @@ fn few_digits(text: &[u8]) -> Digits
     Digits { len, value }
 }
 
-/// The value of digits with one more behind them.
+/// The value of digits with one more after them.
 #[inline]
 fn value_with(value: u64, digit: u8) -> u64
     requires small { value < 10 ^ 17 }
@@ -629,7 +630,7 @@ fn value_with(value: u64, digit: u8) -> u64
     value * 10 + u64::from(digit - b'0')
 }
 
-/// How many digits stand in front.
+/// How many digits are in front.
 fn digit_len(text: &[u8]) -> usize
     ensures len { result ≡ prefix_len is_ascii_digit text.now }
     ensures within { result ≤ length text.now }
@@ -637,7 +638,7 @@ fn digit_len(text: &[u8]) -> usize
     text.iter().take_while(|b| b.is_ascii_digit()).count()
 }
 
-/// The number that a sign of so many bytes and the value of the digits behind it mean.
+/// The number that a sign of a given number of bytes and the value of the digits after it mean.
 fn signed_number(sign: usize, value: u64) -> i64
     requires { value < 10 ^ 18 }
     ensures { result ≡ signed_number sign value }
@@ -728,7 +729,7 @@ fn word_len(text: &[u8]) -> usize
     text.iter().take_while(|b| may_continue_word(**b)).count()
 }
 
-/// 1 where a minus stands in front, else 0.
+/// 1 if a minus is in front, otherwise 0.
 fn sign_len(text: &[u8]) -> usize
     ensures len { result ≡ spec.sign_len text.now }
     ensures within { result ≤ length text.now }

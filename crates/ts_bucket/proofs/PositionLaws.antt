@@ -27,7 +27,7 @@ pub later-self : (p : Option ℕ) → later p p ≡ p
 later-self None = refl
 later-self (Some p) = ap Some (let e : max p p ≡ p = omega arith in e)
 
--- the later of two is above s exactly where one of them is
+-- the later of two is above s if and only if one of them is
 pub is_above-later : (s : ℕ) (p q : Option ℕ) → is_above s (later p q) ≡ (is_above s p || is_above s q)
 is_above-later s None q = refl
 is_above-later s (Some p) None = grind (arith, nat_tests)

@@ -11,7 +11,7 @@ use Rattle.ts_bucket.proofs.BucketLaws.{bucket_of_meets, bucket_of-last, bucket_
 use Rattle.ts_bucket.proofs.SpanLaws.{in_span-ends, in_span-from_ends}
 use Rattle.ts_bucket.proofs.WindowLaws.{start_from-above, start_from-first}
 
--- a span of whole buckets holds a number exactly where it holds the start of its bucket
+-- a span of whole buckets holds a number if and only if it holds the start of its bucket
 pub in_span-bucket : (w : WidthValue) (s : SpanValue) (t : ℤ) → IsWidth w → is_bucket w s.lo ≡ true → is_bucket w s.hi ≡ true → in_span s t ≡ in_span s (bucket_of w t)
 in_span-bucket w s t h p q =
     let at_or_below : bucket_of w t ≤ℤ t = (bucket_of_meets w t h).at_or_below in

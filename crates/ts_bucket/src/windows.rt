@@ -34,16 +34,16 @@ fn first_start(w: Width, lo: Option<i64>) -> i64
     }
 }
 
-/// The span from `lo` on and below `hi`, where it has a number.
+/// The span from `lo` on and below `hi`, if it has a number.
 fn nonempty(lo: i64, hi: i64) -> Option<Span>
     ensures { result ≡ nonempty_span lo hi }
 {
     if lo < hi { Some(Span { lo, hi }) } else { None }
 }
 
-/// The greatest span of whole buckets, from the first bucket on, in the window from `lo` on and
-/// below `hi`, or `None` where no whole bucket is in it. A window with no `lo` starts at the first
-/// bucket. Both ends lie within 2^41 of the range of times.
+/// The greatest span of whole buckets, from the first bucket on, in the window from `lo` on and below `hi`, or
+/// `None` if no whole bucket is in it. A window with no `lo` starts at the first bucket. Both ends lie within
+/// 2^41 of the range of times.
 pub fn inscribe(w: Width, lo: Option<i64>, hi: i64) -> Option<Span>
     requires low { ForSome lo IsNearTimes }
     requires high { IsNearTimes hi }

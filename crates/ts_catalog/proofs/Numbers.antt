@@ -19,7 +19,7 @@ record IsNumbered {X : Type 0} (k : ℕ) (items : List X) (n : ℕ) (P : X → T
 in_front : {X : Type 0} (k : ℕ) (x : X) (xs : List X) (P : X → Type 0) → P x → IsNumbered k (x ∷ xs) k P
 in_front k x xs P p = record { place = 0; counted = omega arith; there = record { item = x; at = refl; is = p } }
 
--- one more item in front puts each place one further
+-- one more item in front moves each place one further
 one_further : {X : Type 0} (k : ℕ) (x : X) (xs : List X) (n : ℕ) (P : X → Type 0) → IsNumbered (k + 1) xs n P → IsNumbered k (x ∷ xs) n P
 one_further k x xs n P i = record {
   place = suc i.place;
@@ -116,7 +116,7 @@ table_or_view roster name (found.Plain n) b ta vb ht hv = from_zero roster.table
 table_or_view roster name (found.Hyper n) b ta vb ht hv = from_zero roster.tables n (λ t. (t.def.name ≡ name) × (is_some t.hyper ≡ true)) ht
 table_or_view roster name (found.View n) b ta vb ht hv = absurd ta
 
--- what is found stands in the roster
+-- what is found is in the roster
 pub found_is_there : (roster : Roster) (name : List ℕ) → IsThere roster name (found_in roster name)
 found_is_there roster name = table_or_view roster name (table_from name 0 roster.tables) (view_from name 0 roster.views)
     (from_is_table name 0 roster.tables) (from_is_view name 0 roster.views)

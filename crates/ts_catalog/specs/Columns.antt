@@ -16,8 +16,8 @@ abbrev pub column_from : List ℕ → ℕ → List Column → Option ℕ
 column_from name k [] = None
 column_from name k (c ∷ cs) = if same_name c.name name then Some k else column_from name (k + 1) cs
 
--- the number of a hypertable's column by its declared place, where the time column has the place `at`:
--- the time column is number 0, and the others count from 1 in declared order
+-- the number of a hypertable's column by its declared place, if the time column has the place `at`: the time
+-- column is number 0, and the others count from 1 in declared order
 abbrev pub hyper_number : ℕ → ℕ → ℕ
 hyper_number at place = if place == at then 0 else if nat_lt place at then place + 1 else place
 

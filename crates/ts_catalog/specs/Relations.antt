@@ -21,7 +21,7 @@ abbrev pub view_from : List ℕ → ℕ → List ViewDef → Found
 view_from name k [] = found.None
 view_from name k (v ∷ vs) = if same_name v.name name then found.View k else view_from name (k + 1) vs
 
--- a, or b where a is nothing
+-- a, or b if a is nothing
 abbrev pub or_else : Found → Found → Found
 or_else found.None b = b
 or_else (found.Plain n) b = found.Plain n
@@ -43,7 +43,7 @@ pub record HasItem {X : Type 0} (items : List X) (place : ℕ) (P : X → Type 0
   pub at : slice_get items place ≡ Some item
   pub is : P item
 
--- what is found stands in the roster at its number, with the name and of the kind
+-- what is found is in the roster at its number, with the name and of the kind
 abbrev pub IsThere : Roster → List ℕ → Found → Type 0
 IsThere roster name found.None = Unit {0}
 IsThere roster name (found.Plain n) = HasItem roster.tables n (λ t. (t.def.name ≡ name) × (is_some t.hyper ≡ false))

@@ -67,7 +67,7 @@ pub adds_zeros : (known new : Option FileState) (n : ℕ) → new ≡ after_zero
 adds_zeros None new n is = is
 adds_zeros (Some s) new n is = subst (AddsZeros (Some s)) (sym is) (count_zeros s n)
 
--- after a write that reached the end, the length that is told is the end
+-- after a write that reached the end, the length that is reported is the end
 pub end_told : (told written now : Option FileState) (at len : ℕ) (piece : List ℕ) → written ≡ after_write told at piece → now ≡ written
     → IsLengthOf written len → len ≤ at + length piece → IfSome now (λ s. length s.bytes ≡ at + length piece)
 end_told None written now at len piece is same measured le =

@@ -22,7 +22,7 @@ end_within_push n m (p ∷ pieces) piece le all here =
     let first : p.at + length p.bytes ≤ n = all.0 in
     (omega arith, end_within_push n m pieces piece le all.1 here)
 
--- no write ends behind the bytes, and they have no fewer bytes than at the last sync
+-- no write ends after the bytes, and they have no fewer bytes than at the last sync
 record Holds (s : State) : Type 0 where
   grown : length s.synced ≤ length s.now
   ends : end_within (length s.now) s.writes

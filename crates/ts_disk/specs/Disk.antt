@@ -19,8 +19,8 @@ HasRange told end = IfSome told (λ file. end ≤ length file)
 abbrev pub IsRange : Option (List ℕ) → ℕ → List ℕ → Type 0
 IsRange told at bytes = IfSome told (λ file. bytes ≡ take (length bytes) (drop at file))
 
--- a write puts its piece at its place; one that failed may have put any bytes into its range and past the old end,
--- and leaves the others as they were; unknown bytes stay unknown
+-- a write writes its piece at its place; one that failed may have written any bytes into its range and past the
+-- old end, and leaves the others as they were; unknown bytes stay unknown
 abbrev pub Writes : {T E : Type 0} → Option (List ℕ) → ℕ → List ℕ → Result T E → Option (List ℕ) → Type 0
 Writes None at piece result new = new ≡ None
 Writes (Some file) at piece result new =

@@ -78,7 +78,7 @@ pub record OnFile (F : Type 0) : Type 0 where
   pub file : F
   pub faults : ℕ
 
--- as a disk it tells no bytes, and promises nothing of what a crash leaves
+-- as a disk it reports no bytes, and promises nothing of what a crash leaves
 abbrev pub untold : {F : Type 0} → OnFile F → Option (List ℕ)
 untold disk = None
 

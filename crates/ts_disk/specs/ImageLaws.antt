@@ -1,4 +1,4 @@
--- What holds of the images of a disk in memory at each moment.
+-- What is true of the images of a disk in memory at each moment.
 use Rattle.std.proofs.Common.{◌≡◌, ◌⊎◌, inl, inr, ℕ, ◌+◌, ◌-◌, ◌<◌, ◌≤◌, Bool, true, false, ◌||◌, min, List, [], ◌∷◌, ◌++◌, length, take, drop, get_or, refl, sym, ◌∙◌, ap, subst, arith, length-append, length-take, length-drop}
 use Rattle.std.proofs.lemmas.Bool.Decides.{nat_tests}
 use Rattle.std.proofs.lemmas.List.{take_all, get_or_append_left, get_or-append_right, get_or-take, get_or-drop}
@@ -41,7 +41,7 @@ get_or-written file at piece i in_file (inr high) =
     ∙ get_or-drop (at + length piece) file (i - (at + length piece)) 0
     ∙ ap (λ (k : ℕ). get_or file k 0) place
 
--- a place that a write doesn't cover lies before or behind it
+-- a place that a write doesn't cover lies before or after it
 pub apart : (i : ℕ) (piece : Piece) → covers i piece ≡ false → (i < piece.at) ⊎ (piece.at + length piece.bytes ≤ i)
 apart i piece none = grind (arith, nat_tests)
 

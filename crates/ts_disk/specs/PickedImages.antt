@@ -20,8 +20,8 @@ none_kept pick i (piece ∷ pieces) = not (is_kept pick i) && none_kept pick (i 
 abbrev pub half : List ℕ → List ℕ
 half bytes = take ((length bytes + 1) / 2) bytes
 
--- what is kept of a write after which these follow: the first half, where that is picked and it is the last that is
--- kept
+-- what is kept of a write after which these follow: the first half, if that is picked and it is the last that
+-- is kept
 abbrev pub kept_part : ℕ → ℕ → List ℕ → List Piece → List ℕ
 kept_part pick i bytes pieces = if bit pick 63 && none_kept pick (i + 1) pieces then half bytes else bytes
 

@@ -28,7 +28,7 @@ struct SyncedBytes {
     since: usize,
 }
 
-/// Does these acts again.
+/// Repeats these acts.
 fn replay(alloc: Global, first: &[u8], acts: &[Act]) -> Result<SyncedBytes, NoMemory>
     ensures within { IfOk result (λ r. r.since ≤ length acts.now) }
     ensures synced { IfOk result (λ r. r.synced.items ≡ (state_after (at_rest first.now) acts.now).synced) }
@@ -118,7 +118,7 @@ fn part_to_keep<'a>(pick: u64, i: u64, bytes: &'a [u8], acts: &[Act]) -> &'a [u8
     }
 }
 
-/// Puts bytes at a place, and zeros into a gap before them.
+/// Writes bytes at a place, and zeros into a gap before them.
 fn patch(file: &mut Vec<u8>, at: usize, bytes: &[u8]) -> Result<(), NoMemory>
     ensures { OnOk result (file.new.items ≡ file_with file.old.items at bytes.now) }
 {

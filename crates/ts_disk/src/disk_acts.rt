@@ -15,6 +15,6 @@ pub struct Piece {
 pub enum Act {
     /// Bytes were written.
     Write(Piece),
-    /// All bytes were put onto the disk.
+    /// All bytes were written to the disk.
     Sync,
 }

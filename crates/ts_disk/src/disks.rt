@@ -29,14 +29,14 @@ pub trait Disk {
     /// What a crash at some moment from that one on might have left, during a call or between two.
     ghost left_since: { Self → ℕ → List ℕ → Type 0 };
 
-    /// How many calls have failed.
+    /// The number of calls that have failed.
     ghost faults: { Self → ℕ };
 
-    /// Returns how many calls have failed, at most `u64::MAX`.
+    /// Returns the number of calls that have failed, at most `u64::MAX`.
     fn faults(&self) -> u64
         ensures { result ≡ faults self.now };
 
-    /// Returns how many bytes there are.
+    /// Returns the number of bytes.
     fn len(&mut self) -> Result<u64, Failed>
         ensures length { IfOk result (λ n. HasLength (bytes self.old) n) }
         ensures most { IfOk result (λ n. n ≤ MOST_BYTES) }

@@ -50,14 +50,14 @@ impl FailFile {
         &self.bytes
     }
 
-    /// Returns how many syncs succeeded.
+    /// Returns the number of syncs that succeeded.
     pub fn syncs(&self) -> u64
         ensures { result ≡ self.now.syncs }
     {
         self.syncs
     }
 
-    /// Returns how many calls failed.
+    /// Returns the number of calls that failed.
     pub fn failures(&self) -> u64
         ensures { result ≡ self.now.failed }
     {

@@ -11,7 +11,7 @@ pub trait FileCalls {
     /// What is known of the file. Nothing is known of a file of the operating system.
     ghost known: { Self → Option FileState };
 
-    /// Returns how many bytes there are.
+    /// Returns the number of bytes.
     fn len(&mut self) -> io::Result<u64>
         ensures measures { Measures (known self.old) result (known self.new) };
 

@@ -139,7 +139,7 @@ impl MemDisk {
     }
 }
 
-/// Copies the bytes at first, where nothing has changed yet.
+/// Copies the bytes at first, if nothing has changed yet.
 fn make_changed(first: &Vec<u8>, is_changed: &mut bool, bytes: &mut Vec<u8>) -> Result<(), NoMemory>
     ensures changed { OnOk result (is_changed.new ≡ true) }
     ensures bytes { OnOk result (bytes.new.items ≡ (if is_changed.old then bytes.old.items else first.now.items)) }

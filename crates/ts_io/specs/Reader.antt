@@ -6,8 +6,8 @@ use Rattle.ts_io.specs.declared.limits.TheConstants.{INPUT_LIMIT, LINE_LIMIT}
 use Rattle.ts_io.specs.declared.line_reader.LineEnd.{LineEnd}
 use Rattle.ts_io.specs.declared.line_reader.LineEnd.TheVariants.{Line, LineLong, End, InputLong, ReadFault}
 
--- the bytes taken and not yet given, how many bytes from these on lie within the limit of the input, the line given
--- last, whether there may be another, and whether the source has told its end
+-- the bytes taken and not yet given, how many bytes from these on lie within the limit of the input, the line
+-- given last, whether there may be another, and whether the source has reported its end
 pub record Reading : Type 0 where
   pub held : List ℕ
   pub allowed : ℕ
@@ -76,11 +76,11 @@ is_read_fault End = false
 is_read_fault InputLong = false
 is_read_fault ReadFault = true
 
--- a reader knows whether its source has told its end, and then no byte is left there
+-- a reader knows whether its source has reported its end, and then no byte is left there
 pub record Follows (reading : Reading) (ended : Bool) (left : Option (List ℕ)) : Type 0 where
   pub knows : ended ≡ reading.at_end
   pub empty : reading.at_end ≡ true → IsAtEnd left
 
--- a reader of a source that hasn't told its end follows it
+-- a reader of a source that hasn't reported its end follows it
 abbrev pub FollowsAtStart : Reading → Type 0
 FollowsAtStart reading = (ended : Bool) (left : Option (List ℕ)) → ended ≡ false → Follows reading ended left

@@ -35,20 +35,20 @@ pub enum LineEnd {
     ReadFault,
 }
 
-/// A reader of lines. A line ends with the byte LF, and bytes after the last one form a line where
-/// there are any. At most 67,108,864 bytes of the input are read as lines.
+/// A reader of lines. A line ends with the byte LF, and bytes after the last one form a line if there are any.
+/// At most 67,108,864 bytes of the input are read as lines.
 #[derive(Drop)]
 pub struct Lines {
     /// The bytes taken: those before `start` were given, and the others are held.
     bytes: Vec<u8>,
     start: usize,
-    /// Where the line given last stands in `bytes`.
+    /// Where the line given last is in `bytes`.
     line_from: usize,
     line_to: usize,
     /// How many bytes from those held on lie within the limit of the input. One more may be held.
     allowed: usize,
     is_open: bool,
-    /// Whether the source has told its end. Then no byte is held.
+    /// Whether the source has reported its end. Then no byte is held.
     at_end: bool,
     /// What one read fills.
     piece: Vec<u8>,
@@ -95,7 +95,7 @@ impl Lines {
         })
     }
 
-    /// The line that the last call of `next` gave, where that answered `Line`. Its LF is no part of it, and a CR
+    /// The line that the last call of `next` gave, if that answered `Line`. Its LF is no part of it, and a CR
     /// before the LF is. After another answer nothing is said of these bytes.
     pub fn line(&self) -> &[u8]
         ensures line { result.now ≡ self.now.line }
@@ -103,10 +103,9 @@ impl Lines {
         &self.bytes[self.line_from..self.line_to]
     }
 
-    /// Finds the next line. Reads from the source only if it holds no whole line and the source hasn't told
-    /// its end. Takes no memory. Each call must have the same source, which hasn't told its end before the
-    /// first. After `End`, `InputLong` or `ReadFault` there is no other line, and this may not be called
-    /// again.
+    /// Finds the next line. Reads from the source only if it holds no whole line and the source hasn't reported
+    /// its end. Takes no memory. Each call must have the same source, which hasn't reported its end before the
+    /// first. After `End`, `InputLong` or `ReadFault` there is no other line, and this may not be called again.
     pub fn next<S: Source>(&mut self, source: &mut S) -> LineEnd
         requires is_open { self.old.is_open ≡ true }
         requires follows { Follows self.old (S.ended source.old) (S.left source.old) }
@@ -128,7 +127,7 @@ impl Lines {
         }
     }
 
-    /// Reads until the next line ends, where no whole line is held.
+    /// Reads until the next line ends, if no whole line is held.
     fn read_line<S: Source>(&mut self, source: &mut S) -> LineEnd
         requires is_open { self.old.is_open ≡ true }
         requires none { ended_lines (take self.old.allowed self.old.held) ≡ [] }
@@ -199,7 +198,7 @@ impl Lines {
         self.stop(LineEnd::InputLong)
     }
 
-    /// Gives the line that ends at place `n` of the bytes held, or skips it where it is too long.
+    /// Returns the line that ends at place `n` of the bytes held, or skips it if it is too long.
     fn give(&mut self, n: usize) -> LineEnd
         requires is_open { self.old.is_open ≡ true }
         requires end { IsFirstEnd (take self.old.allowed self.old.held) n }
@@ -222,7 +221,7 @@ impl Lines {
         }
     }
 
-    /// Gives the bytes held as the last line, where there are any, at the end of the input.
+    /// Returns the bytes held as the last line, if there are any, at the end of the input.
     fn give_last(&mut self) -> LineEnd
         requires is_open { self.old.is_open ≡ true }
         requires none { ended_lines self.old.held ≡ [] }
@@ -258,7 +257,7 @@ impl Lines {
         end
     }
 
-    /// Notes that the source has told its end, where no byte is held.
+    /// Notes that the source has reported its end, if no byte is held.
     fn note_end(&mut self)
         requires empty { length self.old.held ≡ 0 }
         ensures noted { self.new ≡ record self.old { at_end = true } }
@@ -267,7 +266,7 @@ impl Lines {
         self.at_end = true;
     }
 
-    /// Whether the source has told its end.
+    /// Whether the source has reported its end.
     fn is_at_end(&self) -> bool
         ensures at_end { result ≡ self.now.at_end }
         ensures empty { OnTrue result (self.now.held ≡ []) }
@@ -290,8 +289,8 @@ impl Lines {
         self.buffered().len() > self.allowed
     }
 
-    /// The place of the first line end within the limit of the input, where none stands among the first
-    /// `searched` bytes held.
+    /// The place of the first line end within the limit of the input, if none is among the first `searched`
+    /// bytes held.
     fn first_end(&self, searched: usize) -> Option<usize>
         requires held { searched ≤ length self.now.held }
         requires allowed { searched ≤ self.now.allowed }
@@ -304,7 +303,7 @@ impl Lines {
         first_end_after(&held[..self.allowed.min(held.len())], searched)
     }
 
-    /// Gives the first `line` bytes held as the line, and moves past the first `past`.
+    /// Returns the first `line` bytes held as the line, and moves past the first `past`.
     fn advance(&mut self, line: usize, past: usize)
         requires within { line ≤ past }
         requires held { past ≤ length self.old.held }
@@ -322,7 +321,7 @@ impl Lines {
         self.allowed -= past;
     }
 
-    /// Reads once behind the bytes held, one byte beyond the limit of the input at most.
+    /// Reads once after the bytes held, one byte beyond the limit of the input at most.
     fn ask<S: Source>(&mut self, source: &mut S) -> Got
         requires allowed { length self.old.held ≤ self.old.allowed }
         requires short { length self.old.held ≤ LINE_LIMIT }

@@ -56,7 +56,7 @@ impl MemSource {
         }
     }
 
-    /// Gives as much as may be from the front of the bytes left.
+    /// Returns as much as possible from the front of the bytes left.
     fn give(&mut self, into: &mut [u8]) -> usize
         ensures count { result ≡ min self.old.most (min (length into.old) (length self.old.left)) }
         ensures copied { take result into.new ≡ take result self.old.left }

@@ -17,10 +17,10 @@ pub trait Sink {
     /// The bytes that were written, if they are known.
     ghost written: { Self → Option (List ℕ) };
 
-    /// How many calls have failed.
+    /// The number of calls that have failed.
     ghost faults: { Self → ℕ };
 
-    /// How many calls have failed, at most `u64::MAX`.
+    /// The number of calls that have failed, at most `u64::MAX`.
     fn faults(&self) -> u64
         ensures { result ≡ faults self.now };
 

@@ -13,7 +13,7 @@ pub enum Got {
     Failed,
 }
 
-/// Whether what a read gave tells the end: no byte, though there was room.
+/// Whether what a read gave reports the end: no byte, though there was room.
 pub(crate) fn tells_end(got: Got, into: &[u8]) -> bool
     ensures { result ≡ told_end got into.now }
 {
@@ -28,18 +28,18 @@ pub trait Source {
     /// The bytes that are left, if they are known.
     ghost left: { Self → Option (List ℕ) };
 
-    /// Whether it has told its end.
+    /// Whether it has reported its end.
     ghost ended: { Self → Bool };
 
-    /// How many calls have failed.
+    /// The number of calls that have failed.
     ghost faults: { Self → ℕ };
 
-    /// How many calls have failed, at most `u64::MAX`.
+    /// The number of calls that have failed, at most `u64::MAX`.
     fn faults(&self) -> u64
         ensures { result ≡ faults self.now };
 
-    /// Reads the next bytes into the front of `into`, as many as the source likes. A source that has
-    /// told its end is asked no more.
+    /// Reads the next bytes into the front of `into`, as many as the source likes. A source that has reported
+    /// its end isn't read again.
     fn read(&mut self, into: &mut [u8]) -> Got
         requires untold { ended self.old ≡ false }
         ensures bytes { Gives (left self.old) (left self.new) result into.new }

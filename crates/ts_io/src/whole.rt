@@ -42,9 +42,9 @@ pub enum AllEnd {
     NoMemory,
 }
 
-/// Reads a whole input into `out`, which is empty. If the input is longer than 67,108,864 bytes, reads so
-/// many, then takes one byte more from the source and drops it. Doesn't read on after the source has told its
-/// end. After a fault, or when out of memory, `out` holds all that was given before.
+/// Reads a whole input into `out`, which is empty. If the input is longer than 67,108,864 bytes, reads that
+/// many, then takes one byte more from the source and drops it. Doesn't read on after the source has reported
+/// its end. After a fault, or when out of memory, `out` holds all that was given before.
 pub fn read_all<S: Source>(source: &mut S, out: &mut Vec<u8>) -> AllEnd
     requires untold { S.ended source.old ≡ false }
     requires empty { out.old.items ≡ [] }

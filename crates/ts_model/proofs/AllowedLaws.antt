@@ -119,7 +119,7 @@ sound_stays g h e q s =
     let parts = and_parts (sound_at g e) _ s in
     and_from _ _ (sound_at_stays g h e q parts.0) parts.1
 
--- whatever an allowed history begins with is allowed
+-- every history that an allowed one begins with is allowed
 pub allowed_begins : {g h : History} → Begins g h → all_allowed h ≡ true → all_allowed g ≡ true
 allowed_begins same ok = ok
 allowed_begins (further {h = h} q) ok = allowed_begins q (and_parts (all_allowed h) _ ok).0
@@ -137,7 +137,7 @@ consistent_of (h ▸ e) ok =
     let parts = and_parts (all_allowed h) (allowed h e) ok in
     and_from _ _ (consistent_of h parts.0) (consistent_next h e parts.1)
 
--- whatever a consistent history begins with is consistent
+-- every history that a consistent one begins with is consistent
 pub consistent_begins : {g h : History} → Begins g h → all_consistent h ≡ true → all_consistent g ≡ true
 consistent_begins same ok = ok
 consistent_begins (further {h = h} q) ok = consistent_begins q (and_parts (all_consistent h) _ ok).0

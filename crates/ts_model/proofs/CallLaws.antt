@@ -1,5 +1,5 @@
--- Laws of calls: what a call leaves begins with what was seen; what an alone store finds; a stopped store stays
--- stopped.
+-- Laws of calls: what a call leaves begins with what was seen; what a store that is alone finds; a stopped
+-- store stays stopped.
 use Rattle.std.specs.Prelude.{Bool, true}
 use Rattle.std.proofs.Common.{sym, refl, subst}
 use Rattle.ts_model.specs.declared.outcomes.Outcome.{Outcome}
@@ -34,6 +34,6 @@ begins_called {act = act} {outcome = outcome} {new = new} c = begins_trans c.fin
 pub begins_looked : {alone : Bool} {old : State} {Tells : History → Type 0} {new : State} → Looked alone old Tells new → Begins old.history new.history
 begins_looked c = begins_trans c.finds.begins (begins_kept c.keeps)
 
--- an alone store answers at what was seen
+-- a store that is alone answers at what was seen
 pub answered_alone : {A : Type 0} {act : History → Act A} {old : State} {outcome : Outcome A} {new : State} → Called true old act outcome new → Answered (act old.history) old outcome new
 answered_alone {act = act} {outcome = outcome} {new = new} c = subst (λ s. Answered (act s.history) s outcome new) (c.finds.alone_found refl) c.answered

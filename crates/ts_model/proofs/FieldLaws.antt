@@ -40,7 +40,7 @@ sum_from f n (x ∷ xs) = omega (arith, sum_from f (n + f x) xs, sum_from f (0 +
 pub sum_cons : {X : Type 0} (f : X → ℕ) (x : X) (xs : List X) → sum_by f (x ∷ xs) ≡ f x + sum_by f xs
 sum_cons f x xs = omega (arith, sum_from f (0 + f x) xs)
 
--- as many items as ones in the sum, where each gives at least one
+-- as many items as ones in the sum, if each gives at least one
 counted : {X : Type 0} (f : X → ℕ) → ((x : X) → 1 ≤ f x) → (xs : List X) → length xs ≤ sum_by f xs
 counted f least [] = omega arith
 counted f least (x ∷ xs) = omega (arith, sum_cons f x xs, counted f least xs, least x)

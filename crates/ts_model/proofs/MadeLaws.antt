@@ -49,7 +49,7 @@ made_allowed h e a is_sound is_timely =
       | false ↦ λ _. tt
     ] refl
 
--- a new relation is allowed where its name is free and there is room for it
+-- a new relation is allowed if its name is free and there is room for it
 relation_allowed : (h : History) (taken : Bool) (many : ℕ) (e : Event) → (taken ≡ false → nat_lt many most_relations ≡ true → MakesAllowed h (act_with_number h e)) → MakesAllowed h (new_relation h taken many e)
 relation_allowed h true many e ok = tt
 relation_allowed h false many e ok =

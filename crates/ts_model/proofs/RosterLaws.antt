@@ -31,7 +31,7 @@ slice_get-change_at (z ∷ xs) zero (suc i) f x e = (false, e)
 slice_get-change_at (z ∷ xs) (suc j) zero f x e = (false, e)
 slice_get-change_at (z ∷ xs) (suc j) (suc i) f x e = slice_get-change_at xs j i f x e
 
--- a place below the length stays where the list grows and the place doesn't move
+-- a place below the length stays if the list grows and the place doesn't move
 place_stays : (a b m n t : ℕ) → a ≡ b → m ≤ n → cond (nat_lt a m) (Some a) None ≡ Some t → cond (nat_lt b n) (Some b) None ≡ Some t
 place_stays a b m n t e l p =
     elim (nat_lt a m) as (λ x. nat_lt a m ≡ x → cond x (Some a) None ≡ Some t → cond (nat_lt b n) (Some b) None ≡ Some t) [

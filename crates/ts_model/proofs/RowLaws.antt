@@ -1,4 +1,4 @@
--- Laws of rows in order: the order in which rows are put in their places plays no part.
+-- Laws of rows in order: the order in which rows are inserted in their places has no effect.
 use Rattle.std.proofs.Common.{◌≡◌, suc, ◌+◌, Bool, true, false, not, cond, ◌&&◌, List, [], ◌∷◌, ◌++◌, filter, length, sym, refl, ap, ◌∙◌, arith}
 use Rattle.std.specs.List.{list_all}
 use Rattle.std.specs.Ordering.{is_gt, ordering_reverse}
@@ -70,7 +70,7 @@ swap_both a b x xs e f rest =
     ∙ ap (λ ys. x ∷ ys) rest
     ∙ sym (ap (with_row b) (with_row-past a x xs e) ∙ with_row-past b x (with_row a xs) f)
 
--- two rows are put in their places in either order
+-- two rows are inserted in their places in either order
 pub with_row-swap : (a b : Row) (xs : List Row) → with_row a (with_row b xs) ≡ with_row b (with_row a xs)
 with_row-swap a b [] = two_first a b [] refl refl
 with_row-swap a b (x ∷ xs) = swap_cases a b x xs (with_row-swap a b xs) (is_gt (row_cmp a x)) (is_gt (row_cmp b x)) refl refl
@@ -102,7 +102,7 @@ in_order-append xs ys = with_rows-append xs ys []
 pub in_order-append_swap : (xs ys : List Row) → in_order (xs ++ ys) ≡ in_order (ys ++ xs)
 in_order-append_swap xs ys = in_order-append xs ys ∙ with_rows-swap xs ys [] ∙ sym (in_order-append ys xs)
 
--- rows that come in order are put in their places in the same way
+-- rows that come in order are inserted in their places in the same way
 pub with_rows-placed : (a : Row) (xs ys : List Row) → with_rows (with_row a xs) ys ≡ with_row a (with_rows xs ys)
 with_rows-placed a [] ys = refl
 with_rows-placed a (x ∷ xs) ys =
@@ -115,7 +115,7 @@ pub with_rows-in_order : (xs ys : List Row) → with_rows (in_order xs) ys ≡ w
 with_rows-in_order [] ys = refl
 with_rows-in_order (x ∷ xs) ys = with_rows-placed x (in_order xs) ys ∙ ap (with_row x) (with_rows-in_order xs ys)
 
--- rows that stand in order stay as they are
+-- rows that are in order stay as they are
 pub in_order-is : (xs : List Row) → InOrder row_cmp xs → in_order xs ≡ xs
 in_order-is [] o = refl
 in_order-is (x ∷ xs) o = ap (with_row x) (in_order-is xs o.1) ∙ first x xs o.0
@@ -132,7 +132,7 @@ stands_in_order xs = in_order-with_rows xs [] tt
 
 -- ---- what a test selects of rows in order
 
--- a row not above the first stands before all, also after some are left out
+-- a row not above the first is before all, also after some are left out
 kept_first : (p : Row → Bool) (row : Row) (xs : List Row) → list_all (λ y. not (is_gt (row_cmp row y))) xs ≡ true → with_row row (filter p xs) ≡ row ∷ filter p xs
 kept_first p row [] e = refl
 kept_first p row (x ∷ xs) e =
@@ -164,7 +164,7 @@ filter-with_row_left p row (x ∷ xs) e =
       | false ↦ ap (λ b. cond b (row ∷ filter p (x ∷ xs)) (filter p (x ∷ xs))) e
     ]
 
--- a test selects the same of rows put in order, and of rows before they are put in order
+-- a test selects the same of rows inserted in order, and of rows before they are inserted in order
 pub filter-with_rows_kept : (p : Row → Bool) (new xs : List Row) → InOrder row_cmp xs → filter p (with_rows new xs) ≡ with_rows (filter p new) (filter p xs)
 filter-with_rows_kept p [] xs o = refl
 filter-with_rows_kept p (row ∷ new) xs o =
@@ -185,7 +185,7 @@ pub length-with_rows : (new xs : List Row) → length (with_rows new xs) ≡ len
 length-with_rows [] xs = omega arith
 length-with_rows (row ∷ new) xs = length-with_row row (with_rows new xs) ∙ omega (arith, length-with_rows new xs)
 
--- a test of all rows doesn't look at their order
+-- a test of all rows doesn't depend on their order
 all-with_row : (p : Row → Bool) (row : Row) (xs : List Row) → list_all p (with_row row xs) ≡ (p row && list_all p xs)
 all-with_row p row [] = refl
 all-with_row p row (x ∷ xs) =

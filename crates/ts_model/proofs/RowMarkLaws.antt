@@ -1,4 +1,4 @@
--- The watermark is the end of a bucket that had a result row when a finished refresh looked at it.
+-- The watermark is the end of a bucket that had a result row when a finished refresh read it.
 use Rattle.std.proofs.Common.{◌≡◌, ◌≢◌, ◌⊎◌, inl, inr, ⊎_elim, ℕ, Bool, true, false, ◌&&◌, cond, List, [], ◌∷◌, map, ℤ, ◌+ℤ◌, Option, Some, None, refl, sym, ap, ◌∙◌, subst, arith}
 use Rattle.std.specs.Prelude.{IfSome}
 use Rattle.std.specs.BTreeSet.{insert_key}

@@ -38,7 +38,7 @@ pub width_from : (w : Width) → IsWidth w → is_width w ≡ true
 width_from w width =
     and_from _ _ (and_from _ _ (and_from _ _ (lt-int_lt (pos 0) w.step width.positive) (le-int_le w.step max_step width.bounded)) (le-int_le (pos 0) w.shift width.from_zero)) (lt-int_lt w.shift w.step width.below_step)
 
--- ---- what stands in a list that grew at its end, or had one item changed
+-- ---- what is in a list that grew at its end, or had one item changed
 
 pub get_pushed : {X : Type 0} (xs : List X) (y : X) (i : ℕ) (x : X) → slice_get (xs ++ (y ∷ [])) i ≡ Some x → (slice_get xs i ≡ Some x) ⊎ (y ≡ x)
 get_pushed [] y zero x e = inr (cc)

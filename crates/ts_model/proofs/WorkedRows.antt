@@ -189,7 +189,7 @@ crossed_again_answer : answer (Aggregate 0 (span 100 200)) (crossed ▸ Cut 0 (s
 unfolding numbers_from
 crossed_again_answer = refl
 
--- ---- two refreshes of the same buckets: the one with the later snapshot stands, though it finishes first
+-- ---- two refreshes of the same buckets: the one with the later snapshot wins, though it finishes first
 
 abbrev overlapping : History
 overlapping = base ▸ inserted_rows (row 120 1 7 ∷ []) ▸ Cut 0 (span 100 200) ▸ inserted_rows (row 121 1 1 ∷ []) ▸ Cut 0 (span 100 200) ▸ Built 7 7 ▸ Built 5 5

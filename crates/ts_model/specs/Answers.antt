@@ -81,7 +81,7 @@ answer_of_view n h starts (Some def) = record {
   stale = ranges def.fold.width (stale n def h) (buckets_in def.fold.width starts);
 }
 
--- a row with all its columns in declared order, where the time column is at this place
+-- a row with all its columns in declared order, if the time column is at this place
 abbrev pub all_columns : ℕ → Row → List Datum
 all_columns at row = map shown_or_null (insert row.vals at (Some row.at))
 
@@ -96,7 +96,7 @@ answer (Rows t tests) h = record { rows = passing_rows (rows t h) tests (hyper_o
 answer (Buckets t fold) h = record { rows = fold_rows fold (rows t h); stale = [] }
 answer (Aggregate n starts) h = answer_of_view n h starts (view_of (roster h) n)
 
--- a history with a queue of operations as one commit on top, where there are any
+-- a history with a queue of operations as one commit on top, if there are any
 abbrev pub with_queue : List Op → History → History
 with_queue [] h = h
 with_queue (op ∷ ops) h = h ▸ Commit (op ∷ ops)
@@ -109,7 +109,7 @@ columns_are_there n fold =
     list_all (λ k. nat_lt k n) fold.keys && list_all (λ agg. nat_lt agg.col n) fold.aggs
     && list_all (λ t. nat_lt t.col n) fold.tests
 
--- the hypertable or the aggregate of a query is there, and so are the columns that it names
+-- the hypertable or the aggregate of a query exists, and so do the columns that it names
 abbrev pub can_ask : Roster → Query → Bool
 can_ask r (Rows t tests) =
     of_table (λ def hyper. list_all (λ test. nat_lt test.col (length def.cols)) tests) (table_of r t)

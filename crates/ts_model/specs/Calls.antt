@@ -93,7 +93,7 @@ cut_of_view n lo hi h (Some def) = cut_over n h (window n def h lo hi)
 abbrev pub act_of_cut : ℕ → Option ℤ → Option ℤ → History → Act CutDone
 act_of_cut n lo hi h = cut_of_view n lo hi h (view_of (roster h) n)
 
--- a refresh is finished where it waits; else it is refused, with its finish where there was one
+-- a refresh is finished if it waits; otherwise it is refused, with its finish if there was one
 abbrev pub finish_of : ℕ → ℕ → History → Pending → Act ℕ
 finish_of cut snap h (Waiting n) = act_with_number h (Built cut snap)
 finish_of cut snap h (Finished f) = refuses (refusal no_refresh h f)
@@ -104,8 +104,8 @@ act_of_finish cut snap h = finish_of cut snap h (pending h cut)
 
 -- ---- what a call answers and leaves
 
--- what a call that does this at the history that it found answers, and the state that it leaves. An event is refused as
--- E24 exactly if the store has stopped
+-- what a call that does this at the history that it found answers, and the state that it leaves. An event is
+-- refused as E24 if and only if the store has stopped
 abbrev pub Answered : {A : Type 0} → Act A → State → Outcome A → State → Type 0
 Answered (refuses r) found (Done a) new = ⊥
 Answered (refuses r) found (Refused q) new = (q ≡ r) × Keeps found new
@@ -121,7 +121,7 @@ Answered (makes e a) found (Refused q) new =
 Answered (makes e a) found DiskFault new = Fails e found new
 Answered (makes e a) found NoMemory new = Keeps found new
 
--- a call that does this at whatever history it finds
+-- a call that does this at any history that it finds
 pub record Called {A : Type 0} (alone : Bool) (old : State) (act : History → Act A) (outcome : Outcome A)
     (new : State) : Type 0 where
   pub found : State
@@ -132,7 +132,7 @@ pub record Called {A : Type 0} (alone : Bool) (old : State) (act : History → A
 abbrev pub Snapped : {Shot E : Type 0} → (Shot → History → Type 0) → Result Shot E → History → Type 0
 Snapped stands result h = IsTrue (all_allowed h) × IfOk result (λ shot. stands shot h)
 
--- a call that looks at whatever history it finds, and changes nothing. What it tells is a fact of that history
+-- a call that reads any history that it finds, and changes nothing. What it reports is a fact of that history
 pub record Looked (alone : Bool) (old : State) (Tells : History → Type 0) (new : State) : Type 0 where
   pub found : State
   pub finds : Found alone old found

@@ -24,7 +24,7 @@ abbrev pub hull_with : ℤ → Option Hull → Hull
 hull_with t None = record { least = t; most = t }
 hull_with t (Some h) = record { least = int_min t h.least; most = int_max t h.most }
 
--- the least and the greatest time of these rows, where there are rows
+-- the least and the greatest time of these rows, if there are rows
 abbrev pub hull_of : List Row → Option Hull
 hull_of [] = None
 hull_of (row ∷ rows) = Some (hull_with row.at (hull_of rows))

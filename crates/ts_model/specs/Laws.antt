@@ -128,7 +128,7 @@ pub record KeepsRelations (old new : Roster) : Type 0 where
 abbrev pub RelationsStay : Type 0
 RelationsStay = (g h : History) → Begins g h → KeepsRelations (roster g) (roster h)
 
--- what makes a table a hypertable fits its columns, where it is one
+-- what makes a table a hypertable fits its columns, if it is one
 abbrev pub is_hyper_sound : TableInfo → Option Hyper → Bool
 is_hyper_sound info None = true
 is_hyper_sound info (Some hyper) = hyper_fits hyper (Some info)
@@ -210,13 +210,13 @@ MakesAllowed h (refuses r) = Unit {0}
 MakesAllowed h (returns a) = Unit {0}
 MakesAllowed h (makes e a) = allowed h e ≡ true
 
--- the cut of the whole buckets of a window is sound, also where the history is at its end
+-- the cut of the whole buckets of a window is sound, also even if the history is at its end
 abbrev pub SoundCut : ℕ → History → Window → Type 0
 SoundCut n h (Whole span) = sound h (Cut n span) ≡ true
 SoundCut n h NoBucket = Unit {0}
 SoundCut n h Nothing = Unit {0}
 
--- each call makes allowed events only, where what it is given is sound
+-- each call makes allowed events only, if what it is given is sound
 pub record CallsMakeAllowed : Type 0 where
   pub tables : (def : TableDef) (h : History) → sound h (Table def) ≡ true → MakesAllowed h (making_table def h)
   pub hypers :
@@ -251,10 +251,10 @@ Rises cmp (x ∷ xs) = (list_all (λ y. is_lt (cmp x y)) xs ≡ true) × Rises c
 -- these are the keys that occur, each once, in order
 pub record IsOnce {K : Type 0} (cmp : K → K → Ordering) (keys found : List K) : Type 0 where
   pub rising : Rises cmp found
-  -- whatever test some key passes, some found key passes, and the other way round
+  -- for every test that some key passes, some found key passes, and the other way round
   pub occurring : (test : K → Bool) → list_any test found ≡ list_any test keys
 
--- the rows of a table stand in row order, each as often as it is there
+-- the rows of a table are in row order, each as often as it is there
 abbrev pub RowsStandInOrder : Type 0
 RowsStandInOrder = (t : ℕ) (h : History) → InOrder row_cmp (rows t h)
 
@@ -276,7 +276,7 @@ SumsFit =
     (vs : List ℤ) → AllByRecursion IsWord vs → length vs < 2 ^ 62
     → (neg_ℤ (pos (2 ^ 125)) ≤ℤ sum_of vs) × (sum_of vs ≤ℤ pos (2 ^ 125))
 
--- rows put in their places come in as often as they are given, and none is lost: as many pass each test
+-- rows inserted in their places come in as often as they are given, and none is lost: as many pass each test
 abbrev pub InsertsKeepAll : Type 0
 InsertsKeepAll =
     (test : Row → Bool) (new rows : List Row)

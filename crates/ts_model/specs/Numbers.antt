@@ -9,7 +9,7 @@ no_number = 0
 abbrev pub line_long : ℕ
 line_long = 1
 
--- a byte of 128 or more stands before the comment of a line
+-- a byte of 128 or more is before the comment of a line
 abbrev pub not_ascii : ℕ
 not_ascii = 2
 
@@ -53,7 +53,7 @@ value_count = 11
 abbrev pub null_value : ℕ
 null_value = 12
 
--- the relation is there and isn't a hypertable
+-- the relation exists and isn't a hypertable
 abbrev pub not_hypertable : ℕ
 not_hypertable = 13
 
@@ -66,11 +66,11 @@ bad_width = 14
 abbrev pub no_bucket : ℕ
 no_bucket = 15
 
--- the statement may not stand in a write block
+-- the statement may not be in a write block
 abbrev pub in_write_block : ℕ
 in_write_block = 16
 
--- the statement may not stand in a read block
+-- the statement may not be in a read block
 abbrev pub in_read_block : ℕ
 in_read_block = 17
 
@@ -90,7 +90,7 @@ no_snapshot = 20
 abbrev pub too_many : ℕ
 too_many = 21
 
--- the relation is there and isn't an aggregate
+-- the relation exists and isn't an aggregate
 abbrev pub not_aggregate : ℕ
 not_aggregate = 22
 

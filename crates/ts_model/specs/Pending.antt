@@ -12,8 +12,8 @@ abbrev pub finished_by : ℕ → Pending → Pending
 finished_by k (Waiting n) = Finished k
 finished_by k p = p
 
--- what became of refresh number k: it waits from its cut until a Built names it. An image tells it of numbers up to
--- its position
+-- what became of refresh number k: it waits from its cut until a Built names it. An image states it of numbers
+-- up to its position
 abbrev pub pending : History → ℕ → Pending
 pending start k = Unknown
 pending (resumed i) k = cond (nat_le k i.pos) (pending_among i.waiting i.done k) Unknown

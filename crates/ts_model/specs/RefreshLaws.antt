@@ -42,8 +42,8 @@ pub record LastsAreLast : Type 0 where
   pub refreshed : (n : ℕ) (h : History) (b : ℤ) (s : ℕ) → last n h b ≡ Some s → was_refreshed n h b s ≡ true
   pub latest : (n : ℕ) (h : History) (b : ℤ) (r : ℕ) → was_refreshed n h b r ≡ true → is_before r (last n h b) ≡ false
 
--- the refresh that waits with a number, where one does: its aggregate is what pending says, and its span that of its
--- cut
+-- the refresh that waits with a number, if one does: its aggregate is what pending says, and its span that of
+-- its cut
 abbrev pub waiting_over : ℕ → ℕ → Option Span → List WaitingRefresh
 waiting_over k n None = []
 waiting_over k n (Some span) = record { cut = k; view = n; span = span } ∷ []
@@ -75,8 +75,8 @@ FinishesMark =
     → all_consistent h ≡ true → view_of (roster h) n ≡ Some def → Fits n def h cut snap span spans groups top
     → watermark n def (h ▸ Built cut snap) ≡ greater (watermark n def h) top
 
--- m is the end of a bucket that a finished refresh covers and that had a result row at its snapshot: before its finish
--- stood this history
+-- m is the end of a bucket that a finished refresh covers and that had a result row at its snapshot: before its
+-- finish was this history
 pub record EndsARow (n : ℕ) (def : ViewDef) (h : History) (m : ℤ) : Type 0 where
   pub before : History
   pub cut : ℕ

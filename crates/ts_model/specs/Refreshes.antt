@@ -26,7 +26,7 @@ use Rattle.ts_model.specs.Roster.{roster, view_of}
 use Rattle.ts_model.specs.Rows.{rows, rows_at}
 use Rattle.ts_model.specs.Effect.{hull_of_ops}
 
--- the span of event k, where it is a cut of aggregate n. An image tells it of the refreshes that wait
+-- the span of event k, if it is a cut of aggregate n. An image states it of the refreshes that wait
 abbrev pub span_of_cut : ℕ → History → ℕ → Option Span
 span_of_cut n start k = None
 span_of_cut n (resumed i) k = cond (nat_le k i.pos) (span_among n i.waiting k) None
@@ -52,8 +52,8 @@ is_pos r (Some p) = p == r
 abbrev pub waits_over : ℕ → ℤ → ℕ → List WaitingRefresh → Bool
 waits_over n b s rs = list_any (λ r. r.view == n && in_span r.span b && nat_le r.cut s) rs
 
--- a bucket was cut: it lies in the span of a cut of aggregate n whose number is at most s. Where an image has a last
--- refresh, it was cut at or before that one
+-- a bucket was cut: it lies in the span of a cut of aggregate n whose number is at most s. If an image has a
+-- last refresh, it was cut at or before that one
 abbrev pub was_cut : ℕ → History → ℤ → ℕ → Bool
 was_cut n start b s = false
 was_cut n (resumed i) b s = is_by s (saved_last n i b) || waits_over n b s i.waiting
@@ -112,7 +112,7 @@ top_in fold span (row ∷ rows) =
 abbrev pub top_at : ViewDef → History → ℕ → Span → Option ℤ
 top_at def h s span = top_in def.fold span (rows_at def.table h s)
 
--- that end, where there is a span
+-- that end, if there is a span
 abbrev pub top_of : ViewDef → History → ℕ → Option Span → Option ℤ
 top_of def h s None = None
 top_of def h s (Some span) = top_at def h s span
@@ -133,7 +133,7 @@ is_invalid n def h b (Some s) = touched n def h b s
 abbrev pub invalid : ℕ → ViewDef → History → ℤ → Bool
 invalid n def h b = is_invalid n def h b (last n h b)
 
--- a bucket is stale where it is below the watermark and has no last refresh or was touched after it
+-- a bucket is stale if it is below the watermark and has no last refresh or was touched after it
 abbrev pub stale : ℕ → ViewDef → History → ℤ → Bool
 stale n def h b = is_below b (watermark n def h) && invalid n def h b
 

@@ -14,7 +14,7 @@ use Rattle.ts_model.specs.History.{History, start, resumed, ◌▸◌}
 abbrev pub no_relations : Roster
 no_relations = record { tables = []; views = [] }
 
--- the list with its item at place i changed, where there is one
+-- the list with its item at place i changed, if there is one
 abbrev pub change_at : {X : Type 0} → List X → ℕ → (X → X) → List X
 change_at [] i f = []
 change_at (x ∷ xs) zero f = f x ∷ xs
@@ -51,11 +51,11 @@ roster (h ▸ e) = roster_after (roster h) e
 abbrev pub table_of : Roster → ℕ → Option TableInfo
 table_of r t = slice_get r.tables t
 
--- what makes table number t a hypertable, where it is one
+-- what makes table number t a hypertable, if it is one
 abbrev pub hyper_of : Roster → ℕ → Option HyperInfo
 hyper_of r t = option_and_then (λ info. info.hyper) (table_of r t)
 
--- the test holds of a table, where it is a hypertable
+-- the test is true of a table, if it is a hypertable
 abbrev pub of_hyper : (TableDef → HyperInfo → Bool) → TableDef → Option HyperInfo → Bool
 of_hyper test def None = false
 of_hyper test def (Some hyper) = test def hyper
@@ -68,7 +68,7 @@ of_table test (Some info) = of_hyper test info.def info.hyper
 abbrev pub view_of : Roster → ℕ → Option ViewDef
 view_of r n = slice_get r.views n
 
--- an aggregate of which nothing but the mode may have changed, where it is there
+-- an aggregate of which nothing but the mode may have changed, if it exists
 abbrev pub IsOf : ViewDef → Option ViewDef → Type 0
 IsOf def None = Unit {0}
 IsOf def (Some found) = (found.table ≡ def.table) × (found.fold ≡ def.fold)

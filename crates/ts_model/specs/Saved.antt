@@ -42,7 +42,7 @@ appended_over t (e ∷ es) = appended_over t es
 
 -- ---- refreshes
 
--- the span of refresh number k, where it is one of these and of aggregate n
+-- the span of refresh number k, if it is one of these and of aggregate n
 abbrev pub span_among : ℕ → List WaitingRefresh → ℕ → Option Span
 span_among n [] k = None
 span_among n (r ∷ rs) k = cond (k == r.cut && r.view == n) (Some r.span) (span_among n rs k)

@@ -47,7 +47,7 @@ is_null_test IsNull = true
 is_null_test NotNull = true
 is_null_test cmp = false
 
--- a test on one of the first n columns with a number of 64 bits, which is 0 where the test is on NULL
+-- a test on one of the first n columns with a number of 64 bits, which is 0 if the test is on NULL
 abbrev pub test_fits : ℕ → Test → Bool
 test_fits n t = nat_lt t.col n && is_word t.num && (not (is_null_test t.cmp) || int_eq t.num (pos 0))
 
@@ -64,7 +64,7 @@ abbrev pub fold_fits : ℕ → Fold → Bool
 fold_fits n fold =
     list_all (λ k. nat_lt k n) fold.keys && list_all (agg_fits n) fold.aggs && list_all (test_fits n) fold.tests
 
--- how many columns an aggregate puts out: the bucket, the keys and the aggregates
+-- how many columns an aggregate outputs: the bucket, the keys and the aggregates
 abbrev pub output_count : Fold → ℕ
 output_count fold = suc (length fold.keys + length fold.aggs)
 

@@ -16,7 +16,7 @@ timely_in r (Hyper t hyper) = is_none (hyper_of r t)
 timely_in r (View def) = not (is_taken r def.name) && nat_lt (length r.views) most_relations
 timely_in r e = true
 
--- the same at a history, where a finish names a refresh that waits
+-- the same at a history, if a finish names a refresh that waits
 abbrev pub timely_at : History → Event → Bool
 timely_at h (Built cut snap) = is_waiting (pending h cut)
 timely_at h e = timely_in (roster h) e

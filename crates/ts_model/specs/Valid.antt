@@ -92,7 +92,7 @@ abbrev pub dirty_fits : ViewDef → List SavedLast → List Span → Bool
 dirty_fits def ls ss =
     list_all (λ s. span_fits s (Some def) && has_lasts def.fold.width ls s) ss && spans_rise ss
 
--- there is a least or a greatest value exactly if there are values
+-- there is a least or a greatest value if and only if there are values
 abbrev pub is_told : ℕ → Option ℤ → Bool
 is_told zero o = is_none o
 is_told (suc n) o = is_some o
@@ -117,7 +117,7 @@ abbrev pub mark_fits : Width → Option ℤ → Bool
 mark_fits w None = true
 mark_fits w (Some m) = is_bucket w m && int_lt min_time m && int_le (m -ℤ w.step) max_time
 
--- a row is below the mark, where it passes every test and is of a bucket with a last refresh that isn't dirty
+-- a row is below the mark, if it passes every test and is of a bucket with a last refresh that isn't dirty
 abbrev pub row_marked : Fold → SavedView → Row → Bool
 row_marked fold v row =
     not (passes_all row fold.tests && is_some (pos_in v.lasts (bucket_of fold.width row.at))

@@ -23,7 +23,7 @@ abbrev pub whole_or : Window → Option Span → Window
 whole_or other None = other
 whole_or other (Some span) = Whole span
 
--- a window without a given end goes up to this one, where there is one
+-- a window without a given end goes up to this one, if there is one
 abbrev pub window_up_to : Width → Option ℤ → Option ℤ → Window
 window_up_to w lo None = Nothing
 window_up_to w lo (Some hi) = whole_or Nothing (inscribed w lo hi)

@@ -11,16 +11,16 @@ use partial_agg::{Group, Partial};
 use ts_num::Datum;
 use ts_schema::NoMemory;
 
-/// The result row of a group, none of whose cells is made. Where its keys and its partial aggregates stand is looked up
-/// once, for all of its cells. Contracts see the cells as `group_cells`: at 0 the start of the bucket, then the keys,
-/// and then what is aggregated.
+/// The result row of a group, none of whose cells is made. If its keys and its partial aggregates are is looked
+/// up once, for all of its cells. Contracts see the cells as `group_cells`: at 0 the start of the bucket, then
+/// the keys, and then what is aggregated.
 #[derive(Clone, Copy, Debug)]
 pub struct GroupRow<'a> {
     /// The start of the bucket.
     pub start: i64,
     /// The values of the columns that rows are grouped by; NULL is `None`.
     pub keys: &'a [Option<i64>],
-    /// What is shown of the partial aggregates, one after another.
+    /// What is shown of the partial aggregates, in order.
     pub aggs: &'a [Agg],
     /// The partial aggregates.
     pub parts: &'a [Partial],
@@ -60,7 +60,7 @@ impl<'a> GroupRow<'a> {
         Ok(())
     }
 
-    /// The cell at a place, and NULL where there is none.
+    /// The cell at a place, and NULL if there is none.
     #[inline]
     #[tactic(auto, using(crate::proofs::ResultLaws::cell_of_key, crate::proofs::ResultLaws::cell_behind))]
     pub fn cell(&self, place: usize) -> Datum
@@ -138,7 +138,7 @@ fn put_parts(aggs: &[Agg], parts: &[Partial], cells: &mut Vec<Datum>) -> Result<
     Ok(())
 }
 
-/// What the aggregate at a place shows of its part, and NULL where there is none.
+/// What the aggregate at a place shows of its part, and NULL if there is none.
 #[inline]
 #[tactic(auto, using(crate::proofs::ResultLaws::cell_of_part, crate::proofs::ResultLaws::no_agg_cell, crate::proofs::ResultLaws::no_part_cell))]
 fn part_cell(aggs: &[Agg], parts: &[Partial], at: usize) -> Datum
@@ -164,7 +164,7 @@ pub(crate) fn cell_value(cells: &[Datum], place: usize) -> Option<i128>
     }
 }
 
-/// A number, where it isn't missing.
+/// A number, if it isn't missing.
 #[inline(always)]
 fn number(value: Option<i64>) -> Option<i128>
     ensures { result ≡ value_of (shown_or_null value) }

@@ -9,7 +9,7 @@ pub const NO_NUMBER: u8 = 0;
 /// `E01`: a line has over 65,536 bytes.
 pub const LINE_LONG: u8 = 1;
 
-/// `E02`: a byte of 128 or more stands before the comment.
+/// `E02`: a byte of 128 or more is before the comment.
 pub const NOT_ASCII: u8 = 2;
 
 /// `E03`: a line has no session.
@@ -42,7 +42,7 @@ pub const VALUE_COUNT: u8 = 11;
 /// `E12`: NULL in the time column or in a NOT NULL column, or the column list of an INSERT leaves such a column out.
 pub const NULL_VALUE: u8 = 12;
 
-/// `E13`: the relation is there and isn't a hypertable.
+/// `E13`: the relation exists and isn't a hypertable.
 pub const NOT_HYPERTABLE: u8 = 13;
 
 /// `E14`: a width, an offset or an interval is out of its range, or the buckets of an aggregate don't lie whole in
@@ -52,10 +52,10 @@ pub const BAD_WIDTH: u8 = 14;
 /// `E15`: a window with a given end holds no whole bucket.
 pub const NO_BUCKET: u8 = 15;
 
-/// `E16`: the statement may not stand in a write block.
+/// `E16`: the statement may not be in a write block.
 pub const IN_WRITE_BLOCK: u8 = 16;
 
-/// `E17`: the statement may not stand in a read block.
+/// `E17`: the statement may not be in a read block.
 pub const IN_READ_BLOCK: u8 = 17;
 
 /// `E18`: there is no block to end.
@@ -70,7 +70,7 @@ pub const NO_SNAPSHOT: u8 = 20;
 /// `E21`: there are as many as there may be.
 pub const TOO_MANY: u8 = 21;
 
-/// `E22`: the relation is there and isn't an aggregate.
+/// `E22`: the relation exists and isn't an aggregate.
 pub const NOT_AGGREGATE: u8 = 22;
 
 /// `E23`: the session would be the 65th.

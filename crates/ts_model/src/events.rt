@@ -35,7 +35,7 @@ pub enum Event {
 }
 
 impl Op {
-    /// The same operation again.
+    /// A copy of the operation.
     pub fn copy(&self) -> Result<Op, NoMemory>
         ensures same { IfOk result (λ copy. copy ≡ self.now) }
     {
@@ -53,7 +53,7 @@ impl Op {
 }
 
 impl Event {
-    /// The same event again.
+    /// A copy of the event.
     pub fn copy(&self) -> Result<Event, NoMemory>
         ensures same { IfOk result (λ copy. copy ≡ self.now) }
     {

@@ -9,7 +9,7 @@ use ts_schema::{NoMemory, Seq};
 /// What is kept of a column of the rows of a group.
 #[derive(Clone, Copy, Debug, PartialEq, Eq)]
 pub struct Sums {
-    /// How many rows there are.
+    /// The number of rows.
     pub count: u64,
     /// How many values aren't NULL.
     pub values: u64,
@@ -81,7 +81,7 @@ pub struct Image {
 }
 
 impl SavedGroup {
-    /// The same group again.
+    /// A copy of the group.
     pub fn copy(&self) -> Result<SavedGroup, NoMemory>
         ensures same { IfOk result (λ copy. copy ≡ self.now) }
     {
@@ -108,7 +108,7 @@ impl SavedView {
 }
 
 impl Image {
-    /// The same image again.
+    /// A copy of the image.
     pub fn copy(&self) -> Result<Image, NoMemory>
         ensures same { IfOk result (λ copy. copy ≡ self.now) }
     {

@@ -45,7 +45,7 @@ pub fn sound_events_stay_sound()
     ensures { SoundStays }
 {}
 
-/// Each call of a store makes allowed events only, where what it is given is sound.
+/// Each call of a store makes allowed events only, if what it is given is sound.
 pub fn calls_make_allowed_events()
     ensures { CallsMakeAllowed }
 {}
@@ -60,13 +60,13 @@ pub fn answers_of_snapshots_stay()
     ensures { AnswersStay }
 {}
 
-/// The ranges of an answer's stale list are maximal, rise and don't touch, and hold exactly the buckets
-/// that are asked for and stale.
+/// The ranges of an answer's stale list are maximal, rise and don't touch, and hold exactly the buckets that
+/// are requested and stale.
 pub fn stale_ranges_are_maximal()
     ensures { RangesAreMaximal }
 {}
 
-/// The rows of a table stand in row order.
+/// The rows of a table are in row order.
 pub fn rows_stand_in_order()
     ensures { RowsStandInOrder }
 {}
@@ -166,7 +166,7 @@ pub fn modes_play_no_part()
     ensures { ModePlaysNoPart }
 {}
 
-/// Rows put in their places come in as often as they are given, and none is lost.
+/// Rows inserted in their places come in as often as they are given, and none is lost.
 pub fn inserts_keep_all_rows()
     ensures { InsertsKeepAll }
 {}

@@ -6,7 +6,7 @@ use ts_bucket::Span;
 pub struct Refusal {
     /// The number of the refusal, as 7 for `E07`.
     pub code: u8,
-    /// The position looked at.
+    /// The read position.
     pub pos: u64,
     /// The place, count or finish that the reply prints, or 0.
     pub mark: u64,

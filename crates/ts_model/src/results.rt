@@ -15,22 +15,22 @@ use std::marker::Model;
 use ts_num::Datum;
 use ts_schema::{NoMemory, Seq};
 
-/// The rows of an answer, as lists of cells: rows whose cells are made, and behind them those of groups,
-/// whose cells are made as they are read. So an answer of many groups takes no memory for its cells, nor
-/// for groups that a store keeps, which it shares. Nor does it where only some of their cells are shown.
+/// The rows of an answer, as lists of cells: rows whose cells are made, and after them those of groups, whose
+/// cells are made as they are read. So an answer of many groups takes no memory for its cells, nor for groups
+/// that a store keeps, which it shares. Nor does it if only some of their cells are shown.
 #[derive(Drop, Debug)]
 pub struct ResultRows {
     /// Rows whose cells are made.
     cells: CellRows<Datum>,
     /// What the groups show.
     aggs: Seq<Agg>,
-    /// Which cells of a group's row are shown, by their places, where not all are.
+    /// Which cells of a group's row are shown, by their places, if not all are.
     places: Option<Seq<u32>>,
     /// Groups that a store keeps.
     kept: Slice<Group>,
-    /// Groups behind them.
+    /// Groups after them.
     live: Seq<Group>,
-    /// How many rows there are.
+    /// The number of rows.
     len: usize,
 }
 
@@ -91,8 +91,8 @@ impl ResultRows {
     }
 
     /// The same rows with the cells at these places, in the order of the places: 0 is the start of the bucket,
-    /// then come the keys, and then what is aggregated. Where there is no cell it is NULL. It takes no memory
-    /// and looks at no row. As an error the rows themselves, where their cells are made or chosen already.
+    /// then come the keys, and then what is aggregated. If there is no cell it is NULL. It takes no memory and
+    /// reads no row. As an error the rows themselves, if their cells are made or chosen already.
     pub fn choose(self, places: Seq<u32>) -> Result<ResultRows, ResultRows>
         ensures chosen { IfOk result (λ rows. rows ≡ map (chosen_cells places) self) }
         ensures same { IfErr result (λ rows. rows ≡ self) }
@@ -110,7 +110,7 @@ impl ResultRows {
         })
     }
 
-    /// How many rows there are.
+    /// The number of rows.
     pub fn len(&self) -> usize
         ensures len { result ≡ length self.now }
     {
@@ -124,7 +124,7 @@ impl ResultRows {
         self.len() == 0
     }
 
-    /// The rows, one after another.
+    /// The rows, in order.
     pub fn iter(&self) -> ResultIter<'_>
         ensures rows { result ≡ self.now }
     {
@@ -167,8 +167,8 @@ impl<'a> ResultRow<'a> {
         }
     }
 
-    /// The value of the cell at a place: the whole number that it shows, and none for NULL, for a mean and
-    /// where there is no cell.
+    /// The value of the cell at a place: the whole number that it shows, and none for NULL, for a mean and if
+    /// there is no cell.
     #[inline(always)]
     pub fn value_at(&self, place: usize) -> Option<i128>
         ensures value { result ≡ cell_at (row_cells self.now) place }

@@ -16,7 +16,7 @@ pub struct Roster {
 }
 
 impl Roster {
-    /// The same roster again.
+    /// A copy of the roster.
     pub fn copy(&self) -> Result<Roster, NoMemory>
         ensures same { IfOk result (λ copy. copy ≡ self.now) }
     {

@@ -26,12 +26,12 @@ pub struct Hyper {
 pub struct TableInfo {
     /// How it was made.
     pub def: TableDef,
-    /// What makes it a hypertable, where it is one.
+    /// What makes it a hypertable, if it is one.
     pub hyper: Option<Hyper>,
 }
 
 impl TableDef {
-    /// The same definition again.
+    /// A copy of the definition.
     pub fn copy(&self) -> Result<TableDef, NoMemory>
         ensures same { IfOk result (λ copy. copy ≡ self.now) }
     {

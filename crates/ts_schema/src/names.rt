@@ -29,7 +29,7 @@ impl Model for Name {
 }
 
 impl Name {
-    /// The name that this text is, and `None` exactly where the text is no name in lower case.
+    /// The name that this text is, and `None` if and only if the text is no name in lower case.
     pub fn read(alloc: Global, text: &[u8]) -> Result<Option<Name>, NoMemory>
         ensures read { IfOk result (IsNameOf text.now) }
     {
@@ -49,7 +49,7 @@ impl Name {
         self.bytes.as_slice()
     }
 
-    /// The same name again.
+    /// A copy of the name.
     pub fn copy(&self) -> Result<Name, NoMemory>
         ensures same { IfOk result (λ copy. copy ≡ self.now) }
     {

@@ -66,7 +66,7 @@ impl<T: Drop> SharedSlice<T> {
         SharedSlice::part(&self.block, first + from, first + to)
     }
 
-    /// How many items there are.
+    /// The number of items.
     #[inline]
     pub fn len(&self) -> usize
         ensures len { result ≡ length self.now }
@@ -82,7 +82,7 @@ impl<T: Drop> SharedSlice<T> {
         &self.block.items()[self.from as usize..self.to as usize]
     }
 
-    /// The same items again.
+    /// A copy of the items.
     pub fn copy(&self) -> Result<SharedSlice<T>, NoMemory>
         ensures same { IfOk result (λ copy. copy ≡ self.now) }
     {
@@ -94,7 +94,7 @@ impl<T: Drop> SharedSlice<T> {
     }
 }
 
-/// A place in a block, where 32 bits hold it.
+/// A place in a block, if 32 bits hold it.
 #[inline]
 pub(crate) fn place(i: usize) -> Result<u32, NoMemory>
     ensures place { IfOk result (λ place. place ≡ i) }

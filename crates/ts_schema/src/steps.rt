@@ -28,8 +28,8 @@ impl<L> Steps<L> {
         Steps { name, count: 0 }
     }
 
-    /// The count. To read it tells that it has 64 bits, so calls that hand steps on begin with `let _so_far = ..`,
-    /// whose value they don't need.
+    /// The count. Reading it tells the prover that it has 64 bits. So calls that pass steps on begin with `let
+    /// _so_far = ..` and ignore the value.
     pub fn count(&self) -> u64
         ensures count { result ≡ self.now }
     {

@@ -1,4 +1,5 @@
-//! The values of rows, whose marks of NULL stand apart from the numbers. Contracts see them as a plain list.
+//! The values of rows, whose marks of NULL are separate apart from the numbers. Contracts see them as a plain
+//! list.
 ghost use Rattle.std.specs.Prelude.{◌≡◌, ◌==◌, ◌-◌, ◌≤◌, ◌<◌, ◌^◌, [], ◌∷◌, ◌++◌, None, Some, false, length, take, drop, slice_index_or, IfOk, OnErr};
 ghost use Rattle.std.specs.Arc.{arc_value};
 ghost use Rattle.std.specs.Ordering.{int_eq};
@@ -12,13 +13,13 @@ use std::alloc::{AllocError, Global};
 use std::marker::Model;
 use std::sync::Arc;
 
-/// Values one after another, where NULL is `None`. One takes 8 bytes, and those up to the last NULL a byte more
-/// each: nearly no table has a NULL. Contracts see the list of them.
+/// Values in order, where NULL is `None`. One takes 8 bytes, and those up to the last NULL a byte more each:
+/// nearly no table has a NULL. Contracts see the list of them.
 #[derive(Drop, Debug)]
 pub struct ValueBlock {
     /// The numbers, with 0 in the place of a NULL.
     numbers: Vec<i64>,
-    /// For each place up to the last NULL whether NULL stands there.
+    /// For each place up to the last NULL whether NULL is there.
     nulls: Vec<bool>,
 }
 
@@ -34,7 +35,7 @@ impl Model for ValueBlock {
 }
 
 impl ValueBlock {
-    /// No value. It takes no memory.
+    /// No values. It takes no memory.
     pub fn new(alloc: Global) -> ValueBlock
         ensures items { result ≡ [] }
     {
@@ -44,7 +45,7 @@ impl ValueBlock {
         }
     }
 
-    /// No value, with room for so many.
+    /// No values, with room for `room` of them.
     pub fn with_capacity(alloc: Global, room: usize) -> Result<ValueBlock, NoMemory>
         ensures items { IfOk result (λ block. block ≡ []) }
     {
@@ -54,7 +55,7 @@ impl ValueBlock {
         })
     }
 
-    /// How many values there are.
+    /// The number of values.
     #[inline(always)]
     pub fn len(&self) -> usize
         ensures len { result ≡ length self.now }
@@ -78,7 +79,7 @@ impl ValueBlock {
         value_at(self.numbers.as_slice(), self.nulls.as_slice(), i)
     }
 
-    /// Puts a value at the end.
+    /// Appends a value.
     #[inline(always)]
     pub fn push(&mut self, value: Option<i64>) -> Result<(), NoMemory>
         ensures pushed { IfOk result (λ _. self.new ≡ self.old ++ value ∷ []) }
@@ -90,7 +91,7 @@ impl ValueBlock {
         }
     }
 
-    /// Puts a number at the end.
+    /// Appends a number.
     #[inline(always)]
     fn push_number(&mut self, number: i64) -> Result<(), NoMemory>
         ensures pushed { IfOk result (λ _. self.new ≡ self.old ++ Some number ∷ []) }
@@ -100,7 +101,7 @@ impl ValueBlock {
         Ok(())
     }
 
-    /// Puts NULL at the end. Marks are made up to its place.
+    /// Appends NULL. Marks are made up to its place.
     fn push_null(&mut self) -> Result<(), NoMemory>
         ensures pushed { IfOk result (λ _. self.new ≡ self.old ++ None ∷ []) }
         ensures kept { OnErr result (self.new ≡ self.old) }
@@ -130,7 +131,7 @@ fn is_marked(nulls: &[bool], i: usize) -> bool
     if i < nulls.len() { nulls[i] } else { false }
 }
 
-/// A number, or NULL where it is marked.
+/// A number, or NULL if it is marked.
 #[inline(always)]
 fn unless_marked(null: bool, number: i64) -> Option<i64>
     ensures { result ≡ unless_marked null number }
@@ -187,7 +188,7 @@ impl Values {
         })
     }
 
-    /// How many values there are.
+    /// The number of values.
     #[inline(always)]
     pub fn len(&self) -> usize
         ensures len { result ≡ length self.now }
@@ -211,7 +212,7 @@ impl Values {
         self.block.get(self.from as usize + i)
     }
 
-    /// The same values again.
+    /// A copy of the values.
     pub fn copy(&self) -> Result<Values, NoMemory>
         ensures same { IfOk result (λ copy. copy ≡ self.now) }
     {

@@ -1,4 +1,4 @@
--- A payload that is put behind a journal after its header.
+-- A payload that is appended to a journal after its header.
 use Rattle.std.proofs.Common.{◌≡◌, ℕ, Bool, true, sym, ◌∙◌, subst}
 use Rattle.ts_schema.specs.Faults.{Rose}
 use Rattle.txn_journal.specs.Calls.{Ends, IsCounted, IfDone, IfStopped}
@@ -11,7 +11,7 @@ use Rattle.ts_store.specs.Arming.{armed_after}
 ready_apart : Ready ≡ Still → ⊥
 ready_apart is = cc is
 
--- after a header that is there, an answer is that of the payload alone
+-- after a header that is there, an answer is that of the payload only
 pub ends_on : (answer : Append) (before mid now : JournalState) → Ends Done before mid → Ends answer mid now → Ends answer before now
 ends_on Done before mid now first second = (first.0, second.1)
 ends_on DiskFault before mid now first second = (first.0, second.1)

@@ -132,6 +132,6 @@ module _ {D : Type 0} (bytes : D → Option (List ℕ)) (may_leave : D → List 
   pub does_refuse : {A : Type 0} (act : History → Act A) (old new : StoreValue D) (r q : Refusal) → Kept old → act (history_seen old) ≡ refuses r → q ≡ r → Same faults old new → StoreDoes faults moment act old (Refused q) new
   does_refuse act old new r q kept is told same_state = does_by act (refuses r) old new (Refused q) kept is (told, keeps_state old new same_state)
 
-  -- what is looked at where nothing changed
+  -- what is read if nothing changed
   pub looks : (Tells : History → Type 0) (old new : StoreValue D) → Kept old → Same faults old new → Tells (history_seen old) → Looked true (state old) Tells (state new)
   looks Tells old new kept is told = record { found = state old; finds = finds_itself (state old) kept.counted kept.fell; keeps = keeps_state old new is; tells = told }

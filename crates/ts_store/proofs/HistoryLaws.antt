@@ -84,7 +84,7 @@ base_is_image (h ▸ e) payload sound is none = base_is_image h payload (sound_b
 pub sound_resumed : (i : Image) → IsFormedImage i → valid i ≡ true → IsSound (resumed i)
 sound_resumed i formed is = record { allowed = is; formed = formed }
 
--- a payload is the bytes of one event, so where that one may not come next, no other may
+-- a payload is the bytes of one event, so if that one may not come next, no other may
 pub no_other : (h : History) (e : Event) → IsFormed e → (allowed h e ≡ true → ⊥) → IsNoEvent h (spelling.event e)
 no_other h e formed refused d next = refused (subst (λ (x : Event). allowed h x ≡ true) (sym (spelled_once e d formed next.formed next.spelled)) next.fits)
 

@@ -57,7 +57,7 @@ ready_headed s ready bare = ready_apart (sym ready ∙ bare)
 pub still_headed : (s : JournalState) → s ≡ Still → s ≢ Bare
 still_headed s still bare = still_apart (sym still ∙ bare)
 
--- a store failed exactly where its journal stopped
+-- a store failed if and only if its journal stopped
 pub none_of_going : (failed : Option Event) (s : JournalState) → is_some failed ≡ is_still s → s ≢ Still → failed ≡ None
 none_of_going None s is going = refl
 none_of_going (Some e) s is going = absurd (true≢false (is ∙ sym (not_still s going)))
@@ -200,7 +200,7 @@ module _ {D : Type 0} (bytes : D → Option (List ℕ)) (may_leave : D → List 
       let tells = kept.tells some going in
       some_is (bytes s.journal.disk) tells.file HasHeader tells.told (holds_header tells.file (content_of (history_seen s)) (lies_ready s.journal.standing s.journal.version tells.file s.journal.end (content_of (history_seen s)) (kept.headed armed) tells.lies).holds)
 
-  -- all that they give is on the disk, where it was at the start and the disk didn't fail
+  -- all that they give is on the disk, if it was at the start and the disk didn't fail
   pub durable_still : (s : StoreValue D) → Kept s → s.failed ≡ None → IsDurable bytes may_leave s.begun → IsDurable bytes may_leave s.journal.disk
   durable_still s kept going durable =
       let rests = kept.rests durable going in

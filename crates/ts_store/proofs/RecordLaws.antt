@@ -1,4 +1,4 @@
--- How an event is put onto the disk and counts from then on.
+-- How an event is written to the disk and counts from then on.
 use Rattle.std.proofs.Common.{◌≡◌, ◌≢◌, Bool, inl, ℕ, ◌≤◌, ◌<◌, ◌^◌, List, Option, Some, None, IsSomeAnd, suc, refl, sym, ◌∙◌, ap, subst, arith}
 use Rattle.std.specs.Prelude.{IsTrue, is_some}
 use Rattle.std.proofs.lemmas.Bool.{true≢false}
@@ -219,7 +219,7 @@ own_draft h e draft is = record {
   prepared = is.prepared;
 }
 
--- a store whose header was asked for after it had stopped is as it was
+-- a store whose header was requested after it had stopped is as it was
 pub stopped_same : {D : Type 0} (answer : Append) (old new : Recorder D) (begun : D) (opened : ℕ) (before now : Bool) → now ≡ armed_after before answer → IfStopped answer (new ≡ old) → IfStopped answer (store_of new begun opened now ≡ store_of old begun opened before)
 stopped_same Done old new begun opened before now armed same_recorder = tt
 stopped_same DiskFault old new begun opened before now armed same_recorder = tt

@@ -71,7 +71,7 @@ no_beyond version g h w sg sh (inr no_event) beyond =
 
 -- ---- a file that contains a history is damaged nowhere
 
--- a payload stands behind nine bytes
+-- a payload is after nine bytes
 long_before : (file : List ℕ) (version : Version) (content : Content) (payload : List ℕ) (at : ℕ) → Follows file version content payload at → length file ≤ 9 → ⊥
 long_before file version content payload at follows short =
     absurd (omega (arith, short, ap length (follows.split ∙ front-push follows.mark follows.before payload (follows.gate ∷ follows.rest)), length-append (frames follows.before) (1 ∷ (body payload ++ follows.gate ∷ follows.rest)), length-append (body payload) (follows.gate ∷ follows.rest)))
@@ -91,7 +91,7 @@ journals_stand_or_are_damaged file g at a damaged =
 
 -- ---- a file is damaged at one place
 
--- a file that breaks off behind the events of one history is wrong behind those of none
+-- a file that breaks off after the events of one history is wrong after those of none
 apart_broken : (file : List ℕ) (g h : History) (p q : ℕ) → IsSound g → IsSound h → IsDamaged file (content_of g) p → IsWrong file h q → ⊥
 apart_broken file g h p q sg sh damaged wrong = ⊎_elim
     (λ foreign. foreign.begins (begins_magic file wrong.follows.mark (wrong.follows.before ++ wrong.payload ∷ []) (wrong.follows.gate ∷ wrong.follows.rest) wrong.follows.split))

@@ -22,7 +22,7 @@ use Rattle.ts_store.specs.declared.image_writes.SaveOutcome.TheVariants as saved
 
 -- ---- the image
 
--- the image of a history has so many bytes, capped at the greatest number of 64 bits
+-- the image of a history has a given number of bytes, capped at the greatest number of 64 bits
 pub record HasImage (h : History) (n : ℕ) : Type 0 where
   pub image : Image
   pub is : IsImage h image
@@ -52,8 +52,8 @@ Saves saved.NoMemory h most = ⊤
 abbrev pub Goes : Past → Option Event → Type 0
 Goes past failed = (failed ≡ None) × (past.events ≢ [])
 
--- when each answer comes: `Stopped` exactly if the store had stopped, otherwise `Nothing` exactly if no event follows
--- the base, otherwise `TooLong` if the image has more bytes than were allowed
+-- when each answer comes: `Stopped` if and only if the store had stopped, otherwise `Nothing` if and only if no
+-- event follows the base, otherwise `TooLong` if the image has more bytes than were allowed
 abbrev pub EndsAs : CheckEnd → Past → Option Event → ℕ → Type 0
 EndsAs (Done p n) past failed most =
     Goes past failed × (p ≡ position (history_of past)) × HasImage (history_of past) n × (n ≤ most)

@@ -51,7 +51,8 @@ pub(crate) fn save(alloc: Global, engine: &Engine, most: u64) -> SaveOutcome
     }
 }
 
-/// The frame of the image of an engine's history, of so many bytes. It is filled in place: no payload is copied.
+/// The frame of the image of an engine's history, of a given number of bytes. It is filled in place: no payload
+/// is copied.
 fn image_frame(
     alloc: Global,
     engine: &Engine,

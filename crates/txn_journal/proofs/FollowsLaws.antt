@@ -25,7 +25,7 @@ pub gate_behind : (more : List (List ℕ)) (gate : ℕ) (rest : List ℕ) → (g
 gate_behind [] gate rest = (gate, (rest, refl))
 gate_behind (p ∷ more) gate rest = (1, ((body p ++ frames more) ++ gate ∷ rest, refl))
 
--- where frames end behind these payloads and others of which none is a base, no base stands behind these
+-- where frames end after these payloads and others of which none is a base, no base is after these
 pub none_there : (file : List ℕ) (mark : ℕ) (some behind : List (List ℕ)) (gate : ℕ) (rest : List ℕ) → AllFit (some ++ behind) → (gate ≢ 1) ⊎ IsShort rest
     → file ≡ front mark (some ++ behind) ++ gate ∷ rest → has_base (version_of mark) behind ≡ false → NoBaseBehind file mark some
 none_there file mark some behind gate rest fit stops is none more g r fit_more is_more =

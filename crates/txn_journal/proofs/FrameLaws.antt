@@ -84,7 +84,7 @@ module _ (mark : ℕ) (payloads : List (List ℕ)) (end : ℕ) (place : end ≡ 
   one_more version content payload of_version counts =
       (λ k. with_payload (sym of_version k) (counts k) payload) ∙ sym (payloads_push (version_of mark) nothing payloads payload)
 
-  -- the frame stands whole in each outcome of the second write
+  -- the frame is whole in each outcome of the second write
   pub torn_gate : (version : Version) (content : Content) (gate : ℕ) (payload rest c : List ℕ) → version_of mark ≡ version → content ≡ content_from (version_of mark) payloads
       → Fits payload → AllFit payloads → Torn end 1 (staged gate payload rest) c → WithOrWithout version content payload c
   torn_gate version content gate payload rest c of_version counts fits all torn =
@@ -155,12 +155,12 @@ header_holds = record {
 version_written : (mark other : ℕ) (rest : List ℕ) → file_after_write (magic ++ mark ∷ rest) 7 (other ∷ []) ≡ magic ++ other ∷ rest
 version_written mark other rest = refl
 
--- each outcome of that write differs in this byte alone
+-- each outcome of that write differs in this byte only
 torn_version : (mark : ℕ) (rest c : List ℕ) → Torn 7 1 (magic ++ mark ∷ rest) c → c ≡ magic ++ get_or c 7 0 ∷ rest
 torn_version mark rest c torn =
     split_at_gate c 7 magic torn.before (omega (arith, torn.no_shorter)) ∙ ap (λ (l : List ℕ). magic ++ get_or c 7 0 ∷ l) torn.after
 
--- what counts with this byte of a version, where this counts in version 1
+-- what counts with this byte of a version, if this counts in version 1
 counts_with : (mark other : ℕ) (content : Content) (all : List (List ℕ)) → version_of mark ≡ One → content ≡ content_from (version_of mark) all
     → (version_of other ≡ One → content ≡ content_from (version_of other) all) × (version_of other ≡ Two → content_of_version_2 content ≡ content_from (version_of other) all)
 counts_with mark other content all is_one counts = (

@@ -49,7 +49,7 @@ module _ {D : Type 0} (bytes : D → Option (List ℕ)) (may_leave : D → List 
       → old.standing ≢ Bare → (content : Content) → IsAtRest bytes may_leave old content → LeavesOnly moment left_since old.disk new (P content)
   run_from old new P run armed content rest = run content (rests_from old content armed rest)
 
-  -- what reads of a disk give after a call, where they gave this before it
+  -- what reads of a disk give after a call, if they gave this before it
   pub shown_from : (old : Logged D) (P : Content → Type 0) → ((content : Content) → Tells bytes old.disk old.version old.end content → P content)
       → old.standing ≢ Bare → (content : Content) → IsTold bytes old content → P content
   shown_from old P shown armed content tells = shown content (tells_from old content armed tells)
@@ -89,7 +89,7 @@ module _ {D : Type 0} (bytes : D → Option (List ℕ)) (may_leave : D → List 
         durable = wrote.durable;
       }
 
-  -- and what reads give where it may be torn
+  -- and what reads give if it may be torn
   pub armed_shows : (old : Logged D) (new : D) → ((file : List ℕ) → bytes old.disk ≡ Some file → IsSomeAnd (bytes new) (Torn 0 9 file))
       → old.standing ≡ Bare → (content : Content) → IsTold bytes old content → IsSomeAnd (bytes new) (λ file. StandsFor file content)
   armed_shows old new shown is content tells =

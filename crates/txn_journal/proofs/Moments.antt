@@ -28,7 +28,7 @@ module _ {D : Type 0} (moment : D → ℕ) (left_since : D → ℕ → List ℕ 
     keeps = λ t c le left. second.keeps t c (omega (arith, le, first.later)) (first.keeps t c le left);
   }
 
-  -- what holds of each outcome may be said otherwise
+  -- what is true of each outcome may be said otherwise
   pub weaker : (old new : D) (P Q : List ℕ → Type 0) → LeavesOnly moment left_since old new P → ((c : List ℕ) → P c → Q c) → LeavesOnly moment left_since old new Q
   weaker old new P Q run from = record {
     later = run.later;

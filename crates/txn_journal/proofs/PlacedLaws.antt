@@ -33,7 +33,7 @@ pub record ListedTo (file : List ℕ) (payloads : List Payload) (content : Conte
   pub upto : at ≡ first + length (frames (payloads_of payloads))
   pub begins : (payloads ≡ []) ⊎ BeginsIn file content.base first
 
--- where nothing counts there is no base
+-- if nothing counts there is no base
 no_base : (file : List ℕ) (content : Content) (first : ℕ) → payload_list content ≡ [] → (content.base ≡ None → first ≡ 8) → BeginsIn file content.base first
 no_base file content first none eight = by_base content.base refl
   where

@@ -67,7 +67,7 @@ behind_gate file mark at payloads payload rest read within is =
     append_cancel_left (front mark payloads) (get_or file at 0 ∷ drop (at + 1) file) (1 ∷ (body payload ++ rest)) both in
     (ap (λ (l : List ℕ). get_or l 0 0) there, ap (drop 1) there)
 
--- no base follows behind one payload more
+-- no base follows after one payload more
 none_behind_next : (file : List ℕ) (mark : ℕ) (payloads : List (List ℕ)) (payload : List ℕ) → NoBaseBehind file mark payloads → NoBaseBehind file mark (payloads ++ payload ∷ [])
 none_behind_next file mark payloads payload none more gate rest fit is =
     let joined = append_assoc payloads (payload ∷ []) more in

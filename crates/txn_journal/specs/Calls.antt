@@ -43,8 +43,8 @@ pub record IsAtRest {D : Type 0} (bytes : D → Option (List ℕ)) (may_leave : 
 abbrev pub BeginSince : {D : Type 0} → (D → ℕ → List ℕ → Type 0) → D → ℕ → Content → Type 0
 BeginSince left_since disk t content = (c : List ℕ) → left_since disk t c → StandsForMore content c
 
--- an answer, and the state of the journal before and after it: it is `Stopped` exactly if the journal had stopped
--- before, and a fault stops it
+-- an answer, and the state of the journal before and after it: it is `Stopped` if and only if the journal had
+-- stopped before, and a fault stops it
 abbrev pub Ends : Append → JournalState → JournalState → Type 0
 Ends Done before now = (before ≢ Still) × (now ≡ Ready)
 Ends DiskFault before now = (before ≢ Still) × (now ≡ Still)

@@ -167,7 +167,7 @@ CountsNext NoMemory before now = now ≡ before
 
 -- ---- parts of it
 
--- how a file of so many bytes begins, by its first nine
+-- how a file of a given number of bytes begins, by its first nine
 abbrev pub IsStart : Start → List ℕ → ℕ → Type 0
 IsStart StartsBare head size = (size ≤ 9) × (head ≢ header)
 IsStart (StartsJournal version) head size =
@@ -180,7 +180,7 @@ IsSized StartsBare size = ⊤
 IsSized (StartsJournal version) size = 9 ≤ size
 IsSized StartsForeign size = ⊤
 
--- what a commit byte and the five bytes after it say, if the file has so many bytes from it on
+-- what a commit byte and the five bytes after it say, if the file has a given number of bytes from it on
 abbrev pub JudgesHead : Head → List ℕ → ℕ → Type 0
 JudgesHead Closed head left = slice_index head 0 ≢ 1
 JudgesHead (Frame n first) head left =
