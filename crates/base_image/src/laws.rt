@@ -1,4 +1,4 @@
-//! Laws of the bytes of images. Each is the clause of a function that does nothing.
+//! Laws of the bytes of images. Each law is the clause of a function that does nothing.
 ghost use Rattle.base_image.specs.Laws.{BytesAreCounted};
 
 /// An image has as many bytes as are counted.

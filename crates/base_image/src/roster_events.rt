@@ -51,7 +51,7 @@ fn push_views(events: &mut Seq<Event>, views: &[ViewDef]) -> Result<(), NoMemory
     Ok(())
 }
 
-/// Returns the events that make a roster.
+/// Returns the events that create a roster.
 pub fn roster_events(alloc: Global, roster: &Roster) -> Result<Seq<Event>, NoMemory>
     requires few { length roster.now.tables ≤ 64 }
     ensures made { IfOk result (λ events. events ≡ roster_events roster.now) }

@@ -33,7 +33,7 @@ module _ {X : Type 0} where
   AreParts n [] = Unit {0}
   AreParts n (p ∷ ps) = (p.start ≡ n) × AreParts (n + length p.items) ps
 
-  -- parts, and how many items they have: not more than can be counted
+  -- parts, and how many items they have, which is at most what can be counted
   abbrev pub AreCounted : ℕ → List (PartValue X) → Type 0
   AreCounted n ps = AreParts 0 ps × (n ≡ length (items_of ps)) × (n ≤ most_items)
 

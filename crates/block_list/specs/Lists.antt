@@ -3,7 +3,7 @@ use Rattle.std.specs.Prelude.{ℕ, ◌-◌, min, List, ◌++◌, take, drop, ref
 use Rattle.block_list.specs.Blocks.{block_len}
 use Rattle.std.specs.Coded.{Coded, code_by, coded×, coded_ℕ, coded_list}
 
--- its items in order, and for how many more there is room
+-- its items in order, and how many more fit
 pub record ListValue (X : Type 0) : Type 0 where
   pub items : List X
   pub room : ℕ

@@ -72,7 +72,7 @@ impl<T: Drop> NodeBuilder<T> {
         self.shelves.push(shelf)
     }
 
-    /// The blocks, shared from here on.
+    /// Shares the blocks.
     pub(crate) fn share(self) -> Result<Blocks<T>, NoMemory>
         ensures { IfOk result (λ blocks. blocks ≡ self) }
     {
@@ -149,7 +149,7 @@ impl<T> Blocks<T> {
         }
     }
 
-    /// A copy of the blocks. It is a count.
+    /// A copy of the blocks, which only counts one more sharer.
     pub(crate) fn copy(&self) -> Result<Blocks<T>, NoMemory>
         ensures { IfOk result (λ copy. copy ≡ self.now) }
     {

@@ -5,7 +5,7 @@ ghost use Rattle.std.specs.Iterator.{YieldsFirstRef, item_count};
 use crate::lists::BlockList;
 use std::marker::Model;
 
-/// The items of a list that are left. Contracts see it as the list of them.
+/// The remaining items of a list. Contracts see it as the list of them.
 #[derive(Drop)]
 pub struct Iter<'a, T> {
     list: &'a BlockList<T>,

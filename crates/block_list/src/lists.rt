@@ -16,11 +16,10 @@ use std::marker::Model;
 use std::sync::Arc;
 use ts_schema::NoMemory;
 
-/// A list of items in blocks of at most 64, which are in inner nodes of at most 64 blocks. Contracts see it
-/// as the list of its items, and how many more there is room for.
+/// A list of items in blocks of at most 64, which are in inner nodes of at most 64 blocks. Contracts see it as
+/// the list of its items, and how many more fit.
 ///
-/// Copies share its inner nodes. They don't share the items pushed since the last `share`: a copy copies
-/// those.
+/// Copies share its inner nodes. They don't share the items pushed since the last `share`: a copy copies those.
 #[derive(Drop, Debug)]
 pub struct BlockList<T> {
     alloc: Global,
@@ -74,7 +73,7 @@ impl<T> BlockList<T> {
         self.len() == 0
     }
 
-    /// The allocator that the list was made with.
+    /// The allocator that the list was created with.
     pub fn allocator(&self) -> Global {
         self.alloc
     }
@@ -125,7 +124,7 @@ impl<T> BlockList<T> {
 
 impl<T: Clone + Drop> BlockList<T> {
     /// A copy of the list. Counts one more sharer, and copies only the items pushed since the last `share`. The
-    /// room of the copy may differ.
+    /// copy may have a different capacity.
     pub fn copy(&self) -> Result<BlockList<T>, NoMemory>
         requires faithful { (x y : T) → T.is_clone x y → x ≡ y }
         ensures items { IfOk result (λ copy. copy.items ≡ self.now.items) }

@@ -42,7 +42,7 @@ impl<T> Slice<T> {
         requires within { to ≤ length list.items }
         ensures items { result ≡ take (to - from) (drop from list.items) }
     {
-        // A length that is read has 64 bits.
+        // Reading the length tells the prover that it has 64 bits.
         let _most = list.len();
         Slice { list, from, to }
     }

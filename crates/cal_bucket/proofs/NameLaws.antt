@@ -21,7 +21,7 @@ names_its_times unit n p b some start end t time low high =
     let held : Holds (start_at unit n) t p = record { at_or_below = subst (λ s. s ≤ℤ t) start low; end_above = end t time high } in
     sym (name_is unit n t p some held) ∙ sym start
 
--- places up to one that holds a time
+-- places up to that of a bucket that holds a time
 not_above : (start : ℤ → ℤ) → Rises start → (p q : ℤ) → p ≤ℤ q → start p ≤ℤ start q
 not_above start rises p q h =
     by_lt_z p q

@@ -145,7 +145,7 @@ module _ (plan : CalPlan) where
   rows_stand [] h = tt
   rows_stand (cells ∷ lower) h = (row_stands cells h.0, rows_stand lower h.1)
 
-  -- what is gathered by name shows what the plan does
+  -- the groups gathered by name show what the plan shows
   pub gathered_by_name : (lower : List (List Datum)) → AllByRecursion (ShowARow plan.at) lower → rows_shown shape (with_rows (cells_pass tests) (named_group plan shape) lower []) ≡ plan_rows plan lower
   gathered_by_name lower h =
       gathered_show (moved_fold plan.fold) shape (moved_fold-wide plan.fold) (cells_pass tests) (named_group plan shape) moved_row lower

@@ -1,4 +1,4 @@
-//! What a query by buckets of the calendar shows.
+//! The answer of a query by buckets of the calendar.
 ghost use Rattle.std.specs.Prelude.{◌≡◌, [], IfOk, IsTrue};
 ghost use Rattle.std.specs.List.{AllByRecursion};
 ghost use Rattle.cal_bucket.specs.Answers.{plan_rows};
@@ -30,7 +30,7 @@ pub fn cal_answer(alloc: Global, plan: &CalPlan, lower: &Answer) -> Result<Answe
     })
 }
 
-/// The result rows, from the rows that an answer shows.
+/// The result rows, computed from the rows of an answer.
 fn answer_rows(alloc: Global, plan: &CalPlan, lower: &ResultRows) -> Result<ResultRows, NoMemory>
     requires number { IsNumber plan.now.number }
     requires shown { AllByRecursion (ShowARow plan.now.at) lower.now }

@@ -1,9 +1,9 @@
-//! Laws of the calendar. Each is the clause of a function that does nothing.
+//! Laws of the calendar. Each law is the clause of a function that does nothing.
 ghost use Rattle.cal_bucket.specs.Laws.{DaysHaveAWidth, EachHasAMonth, EachHasOneBucket, EachHasOneMonth, FittingRowsAreShown, FourHundredYears};
 ghost use Rattle.cal_bucket.specs.Laws.{January2000, MonthBucketsAreGreatest, MonthsFollow, MonthsStartWithFirstDates};
 ghost use Rattle.cal_bucket.specs.Laws.{ColumnsShowRows, NamesAreOfBuckets, WeeksHaveAWidth, WeeksStartOnMondays};
 
-/// Months follow one another, both ways from January 2000.
+/// Months follow one another, in both directions from January 2000.
 pub fn months_follow()
     ensures first { January2000 }
     ensures next { MonthsFollow }
@@ -30,7 +30,7 @@ pub fn each_has_one_bucket()
     ensures { EachHasOneBucket }
 {}
 
-/// The name of a bucket of some months is the greatest possible start that isn't above the time.
+/// The name of a bucket of months is its start: the greatest possible one at or below the time.
 pub fn month_buckets_are_greatest()
     ensures { MonthBucketsAreGreatest }
 {}

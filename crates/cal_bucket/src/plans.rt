@@ -14,7 +14,7 @@ pub enum CalUnit {
 /// A grouping by buckets of the calendar.
 #[derive(Drop, Debug)]
 pub struct CalPlan {
-    /// How many units a bucket has, from 1 to 1,200.
+    /// The number of units of a bucket, from 1 to 1,200.
     pub number: u32,
     /// The unit.
     pub unit: CalUnit,

@@ -1,4 +1,4 @@
--- Groups that come in order: one more after the last, or a row more in it.
+-- Groups in order: one more after the last, or one more row in the last.
 use Rattle.std.proofs.Common.{◌≡◌, ◌∙◌, ℕ, ℤ, List, [], ◌∷◌, ◌++◌, map, Option, Some, None, append-nil, refl, sym, ap, subst, arith}
 use Rattle.std.specs.Option.{option_to_list}
 use Rattle.std.specs.List.Sorted.{IsStrictlySortedBy}
@@ -31,7 +31,7 @@ behind_last (x ∷ front) h g up less =
     let before : group_cmp x g ≡ Less = less_trans x h g (all_last (λ y. group_cmp x y ≡ Less) front h up.0).1 less in
     at_greater g x (front ++ h ∷ []) (less_back x g before) ∙ ap (λ zs. x ∷ zs) (behind_last front h g up.1 less)
 
--- one of the place of the last
+-- a group with the place of the last one
 into_last : (front : List Group) (h g : Group) → AreInOrder (front ++ h ∷ []) → group_cmp h g ≡ Equal → with_group g (front ++ h ∷ []) ≡ front ++ merge_of g h ∷ []
 unfolding IsStrictlySortedBy
 into_last [] h g up same = at_equal g h [] (equal_back h g same)
@@ -61,7 +61,7 @@ all_written shape groups rows whole (Some g) put w = put ∙ shown_more shape w.
 
 -- ---- where the rows are
 
--- with no place where a row ends there is none
+-- without ends there are no rows
 pub no_rows : (ends : List ℕ) (cells : List Datum) → ends ≡ [] → parts 0 ends cells ≡ []
 no_rows ends cells none = ap (λ es. parts 0 es cells) none
 

@@ -1,4 +1,4 @@
-//! What the cells of a column add up to.
+//! Totals of the cells of a column.
 ghost use Rattle.std.specs.Prelude.{◌≡◌, ◌+◌, ◌<◌, pos, IfSome, IsOk, IsSome, OnOk, length, unwrap_or};
 ghost use Rattle.std.specs.List.{AllByRecursion};
 ghost use Rattle.ts_num.specs.Aggregates.{greater, lesser};
@@ -14,7 +14,7 @@ use ts_model::Agg;
 use ts_num::{Datum, Fun, lowest};
 use ts_schema::Seq;
 
-/// What the cells of a column add up to. How they add up rests on the function that is to be shown.
+/// The total of the cells of a column. What it counts depends on the function that is shown.
 #[derive(Clone, Copy, Debug)]
 pub struct Tally {
     /// The number of cells that aren't NULL, or of all if rows are counted.
@@ -78,7 +78,7 @@ fn rows_of_both(a: &Tally, b: &Tally) -> Option<Tally>
     Some(Tally { values, number: 0 })
 }
 
-/// The same if their sum is what counts.
+/// The same if they are summed.
 #[inline(always)]
 fn sum_of_both(a: &Tally, b: &Tally) -> Option<Tally>
     ensures sum { IfSome result (λ t. as_part Sum t ≡ summary_of_both (as_part Sum a.now) (as_part Sum b.now)) }
@@ -89,7 +89,7 @@ fn sum_of_both(a: &Tally, b: &Tally) -> Option<Tally>
     Some(Tally { values, number })
 }
 
-/// The same if the least is what counts.
+/// The same for the least value.
 #[inline(always)]
 fn least_of_both(a: &Tally, b: &Tally) -> Option<Tally>
     ensures sum { IfSome result (λ t. as_part Min t ≡ summary_of_both (as_part Min a.now) (as_part Min b.now)) }
@@ -99,7 +99,7 @@ fn least_of_both(a: &Tally, b: &Tally) -> Option<Tally>
     Some(tally_with(values, lesser_of(bound_of(a), bound_of(b))))
 }
 
-/// The same if the greatest is what counts.
+/// The same for the greatest value.
 #[inline(always)]
 fn most_of_both(a: &Tally, b: &Tally) -> Option<Tally>
     ensures sum { IfSome result (λ t. as_part Max t ≡ summary_of_both (as_part Max a.now) (as_part Max b.now)) }
@@ -120,7 +120,7 @@ fn bound_of(tally: &Tally) -> Option<i128>
     }
 }
 
-/// The tally of a given number of cells with this number.
+/// The tally of `values` cells with this number.
 #[inline(always)]
 fn tally_with(values: u64, number: Option<i128>) -> Tally
     ensures values { result.values ≡ values }

@@ -10,9 +10,9 @@ use ts_schema::NoMemory;
 /// Rows of cells, of any length each. Contracts see them as a list of lists.
 #[derive(Drop, Debug)]
 pub struct CellRows<T> {
-    /// The cells of all rows, one row after another.
+    /// The cells of all rows, in order.
     cells: Vec<T>,
-    /// For each row the place where its cells end.
+    /// The place at which the cells of each row end.
     ends: Vec<usize>,
 }
 
@@ -28,7 +28,7 @@ impl<T> Model for CellRows<T> {
 }
 
 impl<T> CellRows<T> {
-    /// No row. It takes no memory.
+    /// No rows. It takes no memory.
     pub fn new(alloc: Global) -> CellRows<T>
         ensures rows { result ≡ [] }
     {
@@ -38,7 +38,7 @@ impl<T> CellRows<T> {
         }
     }
 
-    /// The rows whose cells are in `cells`, row after row. `ends` is where each row ends.
+    /// The rows whose cells are in `cells`, in order. `ends` is where each row ends.
     pub fn of(cells: Vec<T>, ends: Vec<usize>) -> CellRows<T>
         requires parts { AreParts 0 ends.items cells.items }
         ensures rows { result ≡ parts 0 ends.items cells.items }
@@ -69,7 +69,7 @@ impl<T> CellRows<T> {
 }
 
 impl<T: Copy + Drop> CellRows<T> {
-    /// Makes room for a given number of more rows of a given number of cells in all. It changes no row.
+    /// Makes room for this many more rows and for this many cells in them. Changes no row.
     pub fn reserve(&mut self, rows: usize, cells: usize) -> Result<(), NoMemory>
         ensures same { self.new ≡ self.old }
     {

@@ -16,7 +16,7 @@ use std::marker::Model;
 use ts_bucket::{Hull, Span};
 use ts_schema::{NoMemory, Row, Seq, Steps, Test};
 
-/// The versions of a chunk, of which there is one at least, with its start.
+/// The versions of a chunk, at least one, with its start.
 #[derive(Drop)]
 pub struct Chunk {
     start: i64,
@@ -31,7 +31,7 @@ impl Model for Chunk {
     ghost view = { λ c. record { start = c.start; versions = c.pile.0; levels = c.pile.1 } };
 }
 
-/// What a delete made of a chunk.
+/// A chunk after a delete.
 #[derive(Drop)]
 pub struct KilledChunk {
     pub chunk: Chunk,
@@ -172,7 +172,7 @@ impl Chunk {
         })
     }
 
-    /// The same as `scan` if the start lies in a range, and nothing elsewhere.
+    /// The same as `scan` if the start lies in a range, and otherwise nothing.
     #[tactic(auto, using(crate::proofs::PlaceLaws::reached_in, crate::proofs::PlaceLaws::reached_out, crate::proofs::PlaceLaws::killed_in, crate::proofs::PlaceLaws::killed_out, seg_rows::proofs::VersionLaws::parts))]
     pub fn scan_in<L>(
         &self,
@@ -194,7 +194,7 @@ impl Chunk {
         }
     }
 
-    /// How many versions there are, if the start lies in a range.
+    /// The number of versions if the start lies in a range, and otherwise 0.
     #[tactic(auto, using(crate::proofs::PlaceLaws::reached_in, crate::proofs::PlaceLaws::reached_out, crate::proofs::PlaceLaws::killed_in, crate::proofs::PlaceLaws::killed_out, seg_rows::proofs::VersionLaws::parts))]
     pub fn count_in(&self, reach: TimeRange) -> u64
         ensures held { result ≡ length (versions_in reach (placed_in self.now)) }

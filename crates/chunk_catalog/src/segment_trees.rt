@@ -1,8 +1,8 @@
-//! Segments of a chunk in the order in which they came.
+//! Segments of a chunk in the order of their insertion.
 //!
-//! Small segments are joined as they gather, as in a binary counter: a row is copied about once for
-//! each doubling of the segment that holds it, up to the limit. Beyond it segments hang in a tree
-//! whose right side is no larger than its left, so that a new segment changes one path.
+//! Small segments are joined as they accumulate, as in a binary counter. A row is copied about once for each
+//! doubling of its segment, up to a limit. Larger segments are in a tree whose right side is at most as large
+//! as its left, so that a new segment changes one path.
 ghost use Rattle.std.specs.Prelude.{◌≡◌, ◌<◌, ◌+◌, ◌*◌, ◌^◌, ◌++◌, ℕ, List, [], true, length, map, IfOk, IfSome, OnOk, OnErr};
 ghost use Rattle.std.specs.Arc.{arc_value};
 ghost use Rattle.seg_rows.specs.Hulls.{hull_of};
@@ -21,12 +21,12 @@ use std::sync::Arc;
 use ts_bucket::{Hull, Span};
 use ts_schema::{NoMemory, Row, Seq, Steps, Test};
 
-/// Segments that together have at most a given number of versions are joined in any case.
+/// Segments that together have at most this many versions are always joined.
 const FEW: u64 = 16;
 
-/// No joined segment has more versions. With this many, a scan spends little on a segment beside its rows. To
-/// join larger segments would copy each row, although they share it with the list that came in, and store where
-/// each was inserted.
+/// The greatest number of versions of a joined segment. At this size, a scan spends little on a segment
+/// compared with its rows. Joining larger segments would copy each row, which they share with the inserted
+/// list, and store where each was inserted.
 const MANY: u64 = 64;
 
 /// Segments in order. Contracts see their versions, and the number of levels.
@@ -64,7 +64,7 @@ impl Model for SegmentTree {
     ghost size_decreases = { λ a h. Prim.grind arith };
 }
 
-/// What a delete left of a segment tree.
+/// A segment tree after a delete.
 #[derive(Drop)]
 pub struct KilledSegmentTree {
     pub pile: SegmentTree,
@@ -127,8 +127,8 @@ impl SegmentTree {
         }
     }
 
-    /// Whether a delete at a position takes nothing if all times that pass its tests lie in a range: no version
-    /// lives there, or none has such a time.
+    /// Whether a delete at a position takes nothing if all times that pass its tests lie in a range: all
+    /// versions are deleted, or none has such a time.
     fn is_spared(&self, times: TimeRange, pos: u64) -> bool
         ensures spared { result ≡ true → (tests : List Test) → HoldsPassing tests times →
             taken_at pos tests self.now.0 ≡ [] }
@@ -176,14 +176,14 @@ impl SegmentTree {
                     return beside(alloc, self.copy()?, SegmentTree::of(segment));
                 }
                 let right = right.append(alloc, segment)?;
-                // A count that is read has 64 bits.
+                // Reading the count tells the prover that it has 64 bits.
                 let _few = right.count();
                 beside(alloc, left.copy()?, right)
             }
         }
     }
 
-    /// The segment of a tree that is a single one, joined with that of another tree, if both are small.
+    /// The segment of a tree with a single one, joined with that of another such tree, if both are small.
     fn join_segments(&self, other: &SegmentTree) -> Result<Option<Segment>, NoMemory>
         ensures joined { IfOk result (λ joined. IfSome joined (λ s. s ≡ self.now.0 ++ other.now.0)) }
     {
@@ -193,7 +193,7 @@ impl SegmentTree {
         }
     }
 
-    /// A segment joined with that of a tree that is a single one, if both are small.
+    /// A segment joined with that of a tree with a single one, if both are small.
     fn joined_after(&self, first: &Segment) -> Result<Option<Segment>, NoMemory>
         ensures joined { IfOk result (λ joined. IfSome joined (λ s. s ≡ first.now ++ self.now.0)) }
     {
@@ -305,7 +305,7 @@ fn beside(alloc: Global, left: SegmentTree, right: SegmentTree) -> Result<Segmen
     requires countable { length left.0 + length right.0 < 2 ^ 64 }
     ensures versions { IfOk result (λ pile. pile.0 ≡ left.0 ++ right.0) }
 {
-    // A count that is read has 64 bits.
+    // Reading the count tells the prover that it has 64 bits.
     let _some = left.count();
     match left.join_segments(&right)? {
         Some(segment) => Ok(SegmentTree::of(segment)),
@@ -329,7 +329,8 @@ fn fork(alloc: Global, left: SegmentTree, right: SegmentTree) -> Result<SegmentT
     })
 }
 
-/// Two segments as one, if they are few, or if the first isn't much the larger and the limit isn't passed.
+/// Two segments joined into one, if they have few versions, or if the first isn't much larger and the limit
+/// isn't exceeded.
 fn joined_if_small(first: &Segment, second: &Segment) -> Result<Option<Segment>, NoMemory>
     ensures joined { IfOk result (λ joined. IfSome joined (λ s. s ≡ first.now ++ second.now)) }
 {
@@ -340,7 +341,7 @@ fn joined_if_small(first: &Segment, second: &Segment) -> Result<Option<Segment>,
     }
 }
 
-/// Whether segments of such sizes are joined.
+/// Whether segments of these sizes are joined.
 fn is_joined(first: u64, second: u64) -> bool {
     let both = first.saturating_add(second);
     both <= FEW || (both <= MANY && first / 2 <= second)

@@ -12,7 +12,7 @@ ghost use Rattle.chunk_catalog.specs.Places.{NonePassesOutside};
 use ts_bucket::{Hull, Span};
 use ts_schema::{Cmp, Test};
 
-/// The numbers from `first` to `last`, both included. If `first` is above `last`, there is none.
+/// The numbers from `first` to `last`, both included. There are none if `first` is above `last`.
 #[derive(Clone, Copy, Debug)]
 pub struct TimeRange {
     pub first: i64,
@@ -39,7 +39,7 @@ impl TimeRange {
     }
 }
 
-/// A number lowered by another one, or the least number of the type.
+/// A number minus another one, or the least number of the type.
 fn lower_by(t: i64, by: i64) -> i64
     requires { pos 0 ≤ℤ by }
     ensures floor { (s : ℤ) → i64.MIN ≤ℤ s → int_le result s ≡ int_le (t -ℤ by) s }
@@ -86,7 +86,7 @@ pub fn start_reach(interval: i64, times: TimeRange) -> TimeRange
     }
 }
 
-/// Times among which are those of all rows that pass every test.
+/// A range that holds the times of all rows that pass every test.
 pub fn test_times(tests: &[Test]) -> TimeRange
     ensures every { HoldsPassing tests.now result }
 {

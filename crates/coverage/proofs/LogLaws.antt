@@ -36,7 +36,7 @@ rises_below : (q r : ℕ) (p : Option ℕ) → is_before q p ≡ true → nat_lt
 rises_below q r None e f = refl
 rises_below q r (Some p) e f = grind (arith, nat_tests)
 
--- what rises from a position rises from each before it
+-- a log that rises from a position rises from each earlier one
 pub rises_from_before : (p : Option ℕ) (q : ℕ) (log : List Noted) → is_before q p ≡ true → RisesFrom (Some q) log → RisesFrom p log
 rises_from_before p q [] e r = tt
 rises_from_before p q (entry ∷ log) e r = (rises_below q entry.at p e r.0, r.1)
@@ -166,7 +166,7 @@ pub fresh-fed : (w : Width) (b : ℤ) (last p : Option ℕ) (log : List Noted) �
 fresh-fed w b last p [] e = e
 fresh-fed w b last p (entry ∷ log) e = fresh-fed w b last (fed_one w b last entry p) log (fresh_one w b last p entry e)
 
--- and not after what the log reaches
+-- and not after the last position of the log
 pub past-fed : (m : ℕ) (w : Width) (b : ℤ) (last p : Option ℕ) (log : List Noted) → is_above m p ≡ false → is_upto m log ≡ true → is_above m (pending_after w b last log p) ≡ false
 past-fed m w b last p [] past upto = past
 past-fed m w b last p (entry ∷ log) past upto =
@@ -181,11 +181,11 @@ pub above-pending : (s : ℕ) (last p q : Option ℕ) → is_above s last ≡ fa
 above-pending s last p q low =
     above-later s p (above_last last q) ∙ (ap (later (above s p)) (above-above_last s last q low) ∙ sym (above-later s p q))
 
--- with an empty log it is what is pending
+-- with an empty log the pending position is what is pending
 pub pending-alone : (last p : Option ℕ) → later p (above_last last None) ≡ p
 pending-alone last p = ap (later p) (above_last-nothing last) ∙ later-none p
 
--- it is above the last refresh, if what is pending is
+-- the pending position is above the last refresh, if what is pending is
 pub fresh-pending : (last p q : Option ℕ) → above_last last p ≡ p → above_last last (later p (above_last last q)) ≡ later p (above_last last q)
 fresh-pending last p q e =
     above_last-later last p (above_last last q) ∙ (ap (λ x. later x (above_last last (above_last last q))) e ∙ ap (later p) (above_last-twice last q))

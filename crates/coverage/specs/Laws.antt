@@ -1,4 +1,5 @@
--- The laws: each event keeps the notes covering, so those of every consistent history cover, and what that means.
+-- The laws: coverage holds after each event, so it holds for the notes of every consistent history; and what
+-- coverage means.
 use Rattle.std.specs.Prelude.{◌≡◌, ℕ, suc, Bool, true, false, not, ◌&&◌, ◌==◌, length, List, ℤ, ◌+ℤ◌, ◌≤ℤ◌, int_le, Option, Some, None, is_some, is_none, ◌||◌}
 use Rattle.std.specs.Int.{int_max}
 use Rattle.ts_bucket.specs.Bucket.{IsWidth, is_bucket, first_of, min_time, max_time}
@@ -48,7 +49,7 @@ FinishesKeep =
     (n : ℕ) (def : ViewDef) (h : History) (cut snap : ℕ) (notes : Notes) → IsCovered n def h notes
     → IsCovered n def (h ▸ Built cut snap) (notes_after_refresh (span_of_cut n h cut) snap notes)
 
--- an event of which the notes of aggregate n hear nothing: a new table or mode, another aggregate, and a cut of
+-- an event that doesn't change the notes of aggregate n: a new table or mode, another aggregate, and a cut of
 -- another aggregate
 abbrev pub is_quiet : ℕ → History → Event → Bool
 is_quiet n h (View made) = not (length (roster h).views == n)
@@ -63,7 +64,7 @@ QuietKeeps =
     (n : ℕ) (def : ViewDef) (h : History) (e : Event) (notes : Notes) → is_quiet n h e ≡ true
     → IsCovered n def h notes → IsCovered n def (h ▸ e) notes
 
--- the event that makes the aggregate, on any log of its table whose positions are not after the history
+-- the event that creates the aggregate, on any log of its table whose positions are not after the history
 abbrev pub BeginningsCover : Type 0
 BeginningsCover =
     (n : ℕ) (def : ViewDef) (h : History) (made : ViewDef) (notes : Notes) → all_consistent h ≡ true
@@ -95,7 +96,7 @@ ModesKeep =
     (n : ℕ) (def : ViewDef) (only : Bool) (h : History) (notes : Notes) → IsCovered n def h notes
     → IsCovered n (set_only only def) h notes
 
--- ---- what a note may ask for
+-- ---- what notes may assume
 
 -- the hull of a consistent commit goes from a time to a time at or above it
 abbrev pub HullsAreOfTimes : Type 0
@@ -108,7 +109,7 @@ HullsAreOfTimes =
 
 -- what notes that cover say
 pub record Tells (n : ℕ) (def : ViewDef) (h : History) (notes : Notes) : Type 0 where
-  -- what was refreshed is the last refresh
+  -- the noted refresh is the last refresh
   pub refreshed : (b : ℤ) → is_bucket def.fold.width b ≡ true → notes.refreshed b ≡ last n h b
   -- the pending position of a bucket with a last refresh is the last touch above that
   pub touched : (b : ℤ) (s : ℕ) → is_bucket def.fold.width b ≡ true → last n h b ≡ Some s
@@ -172,8 +173,8 @@ FinishesClear =
     → above snap (pending_position def.fold.width (notes_after_refresh (span_of_cut n h cut) snap notes) b) ≡ pending_position
     def.fold.width (notes_after_refresh (span_of_cut n h cut) snap notes) b
 
--- the buckets that are marked when an aggregate is made are those from the first on that end at or below the greatest
--- number
+-- the buckets that are marked when an aggregate is created are those from the first on that end at or below the
+-- greatest number
 abbrev pub AllBucketsAre : Type 0
 AllBucketsAre =
     (w : Width) (b : ℤ) → IsWidth w → is_bucket w b ≡ true

@@ -1,4 +1,4 @@
-//! One law for each kind of event: notes that covered an aggregate cover it after the event. Each is the
+//! One law for each kind of event: notes that covered an aggregate cover it after the event. Each law is the
 //! clause of a function that does nothing.
 ghost use Rattle.coverage.specs.Laws.{BeginningsCover, CommitsKeep, CoveredTells, CoveredTellsFed, CutsKeep, EventsKeep, FeedsKeep, FeedsTell, FinishesClear, FinishesKeep, ModesKeep, QuietKeeps, SameCover};
 
@@ -65,7 +65,7 @@ pub fn feeds_tell_what_is_noted()
     ensures { FeedsTell }
 {}
 
-/// Notes that cover an aggregate say exactly what is out of date after all that is logged was fed.
+/// Notes that cover an aggregate say exactly what is stale after all that is logged was fed.
 pub fn covering_notes_tell_what_is_fed()
     ensures { CoveredTellsFed }
 {}

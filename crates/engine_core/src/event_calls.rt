@@ -143,7 +143,7 @@ pub(crate) fn set_mode(engine: &mut Engine, view: u32, only: bool) -> Outcome<u6
     number_only(make(engine, Event::Mode { view, only }, None))
 }
 
-/// Lets operations take effect, in order.
+/// Applies operations, in order, as one commit.
 pub(crate) fn commit(engine: &mut Engine, ops: Seq<Op>) -> Outcome<Committed>
     requires { IsTrue (sound (history_of engine.old.past) (Commit ops)) }
     ensures { EngineDoes (act_of_commit ops) engine.old.past result engine.new.past }

@@ -249,7 +249,7 @@ mapped_more f xs i x l is = step xs i l is ∙ ap (λ n. map f (take n xs)) (sym
     step (y ∷ ys) zero l is = ap (λ z. f z ∷ []) is
     step (y ∷ ys) (suc i) l is = ap (λ zs. f y ∷ zs) (step ys i (omega arith) is)
 
--- the same of results
+-- the same for results
 pub mapped_ok : {A B E : Type 0} (r : Result (List B) E) (f : A → B) (xs : List A) (P : List B → Type 0) → P (map f xs) → IfOk r (λ ys. ys ≡ map f xs) → IfOk r P
 mapped_ok (Ok ys) f xs P p is = subst P (sym is) p
 mapped_ok (Err e) f xs P p is = tt

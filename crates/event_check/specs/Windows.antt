@@ -1,4 +1,4 @@
--- The buckets that a refresh covers, by what is known of its table and its aggregate.
+-- The buckets that a refresh covers, by its table's rows and its aggregate.
 use Rattle.std.specs.Prelude.{ℤ, ◌+ℤ◌, Option, Some, None}
 use Rattle.std.specs.Option.{option_map}
 use Rattle.ts_num.specs.Aggregates.{greater}

@@ -6,7 +6,7 @@ ghost use Rattle.ts_model.specs.Bytes.{event_bytes, fold_bytes, name_bytes, op_b
 use ts_model::{Event, Fold, Op, TableDef, ViewDef};
 use ts_schema::{Column, Name, Row, Values};
 
-/// A count of items with a given number of bytes each.
+/// The bytes of this many items with `each` bytes each.
 fn bytes_each(count: usize, each: u64) -> u64
     ensures { result ≡ min (count * each) (2 ^ 64 - 1) }
 {

@@ -47,7 +47,7 @@ fn window_end(width: Width, mark: Option<i64>, latest: Option<i64>) -> Option<i6
     greater(mark, end_of(width, latest))
 }
 
-/// The whole buckets of a window, or what becomes of a refresh without one.
+/// The whole buckets of a window, or the outcome of a refresh without one.
 fn window_to(width: Width, lo: Option<i64>, hi: i64, other: Window) -> Window
     requires low { ForSome lo (λ t. IsTrue (is_time t)) }
     requires high { IsNearTimes hi }
@@ -59,9 +59,9 @@ fn window_to(width: Width, lo: Option<i64>, hi: i64, other: Window) -> Window
     }
 }
 
-/// The buckets that a refresh covers whose window is from `lo` on and below `hi`. A missing start is that of
+/// The buckets that a refresh covers with the window from `lo` on and below `hi`. A missing start is that of
 /// the first bucket. A missing end is the greater of the aggregate's watermark and the end of the bucket of the
-/// greatest time of a row, which are `mark` and `latest` if there are such.
+/// table's greatest time. `mark` is that watermark and `latest` that time, if they exist.
 pub fn window(
     width: Width,
     mark: Option<i64>,

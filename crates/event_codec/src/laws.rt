@@ -1,4 +1,4 @@
-//! Laws of the bytes of events. Each is the clause of a function that does nothing.
+//! Laws of the bytes of events. Each law is the clause of a function that does nothing.
 ghost use Rattle.event_codec.specs.Laws.{BytesAreCounted, NoneBeginsAnother, SoundAreFormed};
 
 /// An event has as many bytes as it takes in a journal.

@@ -31,7 +31,7 @@ from_next : (f n : ℕ) → suc f + n ≡ suc (f + n)
 from_next f n = omega arith
 
 module _ {X : Type 0} where
-  -- the list with as many items from a place on replaced
+  -- the list with as many items replaced, from a place on
   abbrev pub replaced : ℕ → ℕ → List X → List X → List X
   replaced f n js xs = take f xs ++ (js ++ drop (f + n) xs)
 
@@ -41,7 +41,7 @@ module _ {X : Type 0} where
   front_stays (suc n) (suc f) [] ys h i = absurd (omega arith)
   front_stays (suc n) (suc f) (x ∷ xs) ys h i = ap (λ zs. x ∷ zs) (front_stays n f xs ys (omega arith) (omega arith))
 
-  -- what is before the replaced part
+  -- the items before the replaced part
   before_replaced : (f n g m : ℕ) (js xs : List X) → g + m ≤ f → f + n ≤ length xs → take m (drop g (replaced f n js xs)) ≡ take m (drop g xs)
   before_replaced f n zero m js xs h i = front_stays m f xs (js ++ drop (f + n) xs) (omega arith) (omega arith)
   before_replaced zero n (suc g) m js xs h i = absurd (omega arith)
@@ -49,7 +49,7 @@ module _ {X : Type 0} where
   before_replaced (suc f) n (suc g) m js (x ∷ xs) h i =
       ap (λ k. take m (drop g (take f xs ++ (js ++ drop k (x ∷ xs))))) (from_next f n) ∙ before_replaced f n g m js xs (omega arith) (omega arith)
 
-  -- what is after it
+  -- the items after it
   behind_items : (k n : ℕ) (js xs : List X) → length js ≡ n → n ≤ k → n ≤ length xs → drop k (js ++ drop n xs) ≡ drop k xs
   behind_items k zero [] xs e h i = refl
   behind_items k zero (j ∷ js) xs e h i = absurd (omega (arith, e))
@@ -65,7 +65,7 @@ module _ {X : Type 0} where
   behind_replaced (suc f) n (suc g) js (x ∷ xs) e h i =
       ap (λ k. drop g (take f xs ++ (js ++ drop k (x ∷ xs)))) (from_next f n) ∙ behind_replaced f n g js xs e (omega arith) (omega arith)
 
-  -- what is apart from it
+  -- the items outside it
   apart_replaced : (f n g : ℕ) (js xs : List X) → length js ≡ n → f + n ≤ length xs → (f < g + n → g < f + n → ⊥) → take n (drop g (replaced f n js xs)) ≡ take n (drop g xs)
   apart_replaced f n g js xs e i apart =
       ⊎_elim
@@ -151,7 +151,7 @@ put_behind old new b block parts p h was is at from =
           omega (arith, has.within, ap length mine, from, low, high);
     }
 
--- blocks to which nothing was appended are kept, and those that grew before that too
+-- blocks to which nothing was appended are kept, and so are those that grew before
 pub put_later : (parts : List Summary) (old mid new : List (List Summary)) (p : PartsPlace) → Keeps old mid → IsPutAt parts mid new p → IsPutAt parts old new p
 put_later parts old mid new p keeps put = record {
   there = put.there;
@@ -230,7 +230,7 @@ length-parts_at n blocks p has =
     let xs = get_or blocks p.block [] in
     omega (arith, has.within, length-take n (drop p.from xs), length-drop p.from xs)
 
--- groups that have a given number of parts each have as many as is noted
+-- groups with this many parts each have the recorded number
 same_number : (n m : ℕ) (blocks : List (List Summary)) (h : Head) (hs : List Head) → StandIn n blocks (h ∷ hs) → HaveParts m (shown_groups n blocks (h ∷ hs)) → m ≡ n
 same_number n m blocks h hs stand alike = sym alike.0 ∙ length-parts_at n blocks h.place stand.within.0
 

@@ -35,7 +35,7 @@ less_trans g h k p q = group_cmp_total.trans g h k p q
 pub greater_trans : (g h k : Group) → group_cmp g h ≡ Greater → group_cmp h k ≡ Greater → group_cmp g k ≡ Greater
 greater_trans g h k p q = less_back k g (less_trans k h g (greater_back h k q) (greater_back g h p))
 
--- a tied group compares alike
+-- equal groups compare alike
 pub alike : (g h k : Group) → group_cmp g h ≡ Equal → group_cmp g k ≡ group_cmp h k
 alike g h k e = group_cmp_total.congr g h k e
 
@@ -114,7 +114,7 @@ with_group-twice g h (x ∷ xs) e =
     let q : group_cmp g x ≡ Greater = alike g h x e ∙ o in
     at_greater (merge_of g h) x xs p ∙ ap (λ zs. x ∷ zs) (with_group-twice g h xs e) ∙ sym (at_greater g x (with_group h xs) q) ∙ ap (with_group g) (sym (at_greater h x xs o)))
 
--- of two groups of different places, the lesser first or the greater first
+-- two groups of different places, inserted in either order
 less_first : (g h : Group) (xs : List Group) → group_cmp g h ≡ Less → with_group g (with_group h xs) ≡ with_group h (with_group g xs)
 less_first g h [] e = at_less g h [] e ∙ sym (at_greater h g [] (less_back g h e))
 less_first g h (x ∷ xs) e =

@@ -1,4 +1,4 @@
--- Laws of the groups of rows: one row more, two lists concatenated, and their order.
+-- Laws of the groups of rows: one more row, two lists concatenated, and their order.
 use Rattle.std.proofs.lemmas.List.{take_more}
 use Rattle.std.proofs.Common.{ℕ, ◌+◌, ◌<◌, length, get_or, take, ◌≡◌, Bool, true, false, cond, ◌&&◌, List, [], ◌∷◌, ◌++◌, map, ℤ, sym, refl, ap, ◌∙◌}
 use Rattle.std.specs.List.{AllByRecursion, list_any, flat_map, filter}

@@ -14,11 +14,11 @@ use Rattle.group_fold.specs.Merging.{joined_parts}
 
 -- ---- what is in blocks
 
--- the partial aggregates at a place, a given number of them
+-- the partial aggregates at a place, this many of them
 abbrev pub parts_at : ℕ → List (List Summary) → PartsPlace → List Summary
 parts_at n blocks p = take n (drop p.from (slice_index_or blocks p.block []))
 
--- there are this many at a place
+-- there are this many partial aggregates at a place
 pub record HasPartsAt (n : ℕ) (blocks : List (List Summary)) (p : PartsPlace) : Type 0 where
   pub block : p.block < length blocks
   pub within : p.from + n ≤ length (slice_index_or blocks p.block [])
@@ -30,7 +30,7 @@ shown_group n blocks h = record { start = h.start; keys = h.keys; parts = parts_
 abbrev pub shown_groups : ℕ → List (List Summary) → List Head → List Group
 shown_groups n blocks heads = map (shown_group n blocks) heads
 
--- ---- what groups in blocks have
+-- ---- properties of groups in blocks
 
 -- the partial aggregates at two places don't meet
 abbrev pub ArePartsApart : ℕ → PartsPlace → PartsPlace → Type 0
@@ -57,7 +57,7 @@ abbrev pub Keeps : List (List Summary) → List (List Summary) → Type 0
 Keeps old new =
     (n : ℕ) (p : PartsPlace) → HasPartsAt n old p → HasPartsAt n new p × (parts_at n new p ≡ parts_at n old p)
 
--- these were inserted at a place where none was before
+-- these were appended at a place where there were none
 pub record IsPutAt (parts : List Summary) (old new : List (List Summary)) (p : PartsPlace) : Type 0 where
   pub there : HasPartsAt (length parts) new p
   pub are : parts_at (length parts) new p ≡ parts
@@ -70,6 +70,6 @@ pub record IsHeadAt (g : Group) (heads : List Head) (at : ℕ) : Type 0 where
   pub within : at < length heads
   pub same : (d : Head) → group_cmp (shown_group 0 [] (slice_index_or heads at d)) g ≡ Equal
 
--- a group that has absorbed a row
+-- a group with one more row
 abbrev pub group_with_row : Fold → Row → Group → Group
 group_with_row fold row g = record { start = g.start; keys = g.keys; parts = joined_parts g.parts (row_parts fold.aggs row) }

@@ -1,4 +1,4 @@
-//! A fold that takes rows in list after list.
+//! A fold of rows from several lists.
 ghost use Rattle.std.specs.Prelude.{◌≡◌, ◌++◌, [], List, IfOk, OnOk};
 ghost use Rattle.ts_schema.specs.declared.rows.Row.{Row as RowValue};
 ghost use Rattle.ts_model.specs.declared.views.Fold.{Fold as FoldValue};
@@ -41,8 +41,8 @@ impl FoldBuilder {
         }
     }
 
-    /// Adds these rows, by the plan by which it added the others. Fails as out of memory for 2^62 rows or
-    /// more in all. After a failure the fold can't be used.
+    /// Adds these rows, by the same plan as the others. Fails as out of memory for 2^62 rows or more in all.
+    /// After a failure the fold can't be used.
     pub fn take(&mut self, alloc: Global, plan: &Fold, rows: &[Row]) -> Result<(), NoMemory>
         requires times { AreTimes rows.now }
         requires before { (before : List RowValue) × HasTaken plan.now before self.old }

@@ -2,7 +2,7 @@
 
 use partial_agg::Keys;
 
-/// Where the partial aggregates of a group begin.
+/// The place at which the partial aggregates of a group begin.
 #[derive(Drop, Clone, Copy)]
 pub(crate) struct PartsPlace {
     /// The number of the block.

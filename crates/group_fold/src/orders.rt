@@ -10,7 +10,7 @@ use std::alloc::Global;
 use std::cmp::Ordering;
 use ts_schema::{NoMemory, values_order};
 
-/// Groups in order by bucket and keys, where those of the same bucket and keys are merged.
+/// Groups in order by bucket and keys; those of the same bucket and keys are merged.
 pub(crate) fn in_order(alloc: Global, groups: Vec<Group>) -> Result<Vec<Group>, NoMemory>
     requires { CanOrder groups.items }
     ensures { IfOk result (λ sorted. sorted.items ≡ in_group_order groups.items) }
@@ -67,7 +67,7 @@ fn order_of_groups(a: &Group, b: &Group) -> Ordering
     }
 }
 
-/// The same of groups of which some have the same bucket and keys.
+/// The same for groups, some of which have the same bucket and keys.
 fn merge_equal(alloc: Global, groups: Vec<Group>) -> Result<Vec<Group>, NoMemory>
     requires { CanOrder groups.items }
     ensures { IfOk result (λ sorted. sorted.items ≡ in_group_order groups.items) }

@@ -14,9 +14,8 @@ use ts_bucket::Span;
 use ts_model::{Fold, RowsAt};
 use ts_schema::{NoMemory, Seq, Steps};
 
-/// The groups of the rows of a table whose times lie in these spans, of which no two hold the same
-/// number. Each span is scanned once. It counts one step for each stored row in the chunks that meet
-/// the span.
+/// The groups of the rows of a table whose times lie in these spans. No two spans may hold the same number.
+/// Scans each span once, and counts one step for each stored row in the chunks that meet the span.
 pub fn fold_spans<R: Threads + Sync, W: RowsAt, L>(
     rt: &R,
     alloc: Global,

@@ -1,4 +1,4 @@
-//! Laws of roll-ups. Each is the clause of a function that does nothing.
+//! Laws of roll-ups. Each law is the clause of a function that does nothing.
 ghost use Rattle.hier_agg.specs.Laws.{AnswersHaveWholeRanges, AnswersShowGroups, BucketsNest, FreshBucketsShowTheComposedFold, GroupingInTwoSteps, RollUpsOfGroupsChooseCells, RollUpsShowTheComposedFold, StaleBucketsAreHeld, UpperAnswersAreRolledUp, WholeRollUpsAreTheLowerAnswer, WholeRollUpsShowTheLowerAnswer, WiderBucketsShowTheComposedFold};
 ghost use Rattle.hier_agg.specs.ReadLaws.{FunctionsAddUp, PlansFit};
 

@@ -112,7 +112,7 @@ fn plan_over(
     })
 }
 
-/// How many output columns the bucket, these keys and these aggregates make up.
+/// The number of output columns: the bucket, these keys and these aggregates.
 fn columns_up_to(keys: usize, aggs: usize) -> u64
     ensures { result ≡ columns_before keys aggs }
 {

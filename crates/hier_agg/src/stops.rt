@@ -28,7 +28,7 @@ impl From<NoMemory> for PlanStop {
     }
 }
 
-/// Refuses with this number and mark if something is wrong.
+/// Refuses with this number and mark if `wrong`.
 pub(crate) fn refuse_marked(pos: u64, code: u8, mark: u64, wrong: bool) -> Result<(), PlanStop>
     ensures { Checks (marked_refusal pos code mark wrong) tt result }
 {

@@ -1,4 +1,4 @@
--- What the image of a history keeps of an aggregate is valid: its groups.
+-- The saved groups of an aggregate in the image of a history are valid.
 use Rattle.std.proofs.Common.{◌≡◌, ℕ, zero, suc, ◌+◌, ◌*◌, ◌-◌, ◌^◌, ◌<◌, ◌≤◌, Bool, true, false, ◌&&◌, ◌||◌, not, cond, nat_lt, nat_le, ◌==◌, List, [], ◌∷◌, map, filter, length, ℤ, pos, ◌+ℤ◌, ◌≤ℤ◌, int_le, Option, Some, None, sym, refl, ap, ◌∙◌, subst, arith}
 use Rattle.std.specs.Prelude.{is_some, is_none, neg_ℤ, slice_index_or}
 use Rattle.std.specs.List.{list_all, AllByRecursion}

@@ -20,8 +20,8 @@ use Rattle.ts_model.specs.Windows.{window}
 use Rattle.ts_model.specs.Allowed.{all_allowed}
 use Rattle.ts_model.specs.Calls.{making_table, making_hyper, making_view, setting_mode, act_of_commit, act_of_cut, act_of_finish}
 
--- two histories agree on an aggregate: its watermark, the last refresh of each bucket, whether the bucket was touched
--- after it, and what it has left in a bucket that was
+-- two histories agree on an aggregate: its watermark, the last refresh of each bucket, whether the bucket was
+-- touched after it, and what it stored in a touched bucket
 pub record AlikeView (n : ℕ) (def : ViewDef) (g h : History) : Type 0 where
   pub marks : watermark n def g ≡ watermark n def h
   pub lasts : (b : ℤ) → is_bucket def.fold.width b ≡ true → last n g b ≡ last n h b
@@ -49,9 +49,8 @@ abbrev pub are_from : ℕ → List Event → Bool
 are_from p [] = true
 are_from p (e ∷ es) = is_from p e && are_from p es
 
--- a history that is alike to one that begins with an image and has no event after it stays alike to it under
--- the same events, and these are allowed after the one if and only if they are allowed after the other and no
--- snapshot is below the image
+-- a history that is alike to one that consists of an image stays alike to it under the same events. These are
+-- allowed after the image if and only if they are allowed after the history and no snapshot is below the image
 pub record AlikeStays : Type 0 where
   pub allowed :
       (h : History) (i : Image) (es : List Event) → all_allowed h ≡ true → all_allowed (resumed i) ≡ true

@@ -3,8 +3,8 @@ use Rattle.std.specs.Prelude.{ℕ, Bool, cond, ◌-◌, ℤ, int_lt, List, [], �
 use Rattle.ts_bucket.specs.Spans.{HullValue}
 use Rattle.inval_log.specs.declared.entries.Entry.{Entry}
 
--- the value of an `InvalLog` in contracts: its threshold, its entries in the order in which they were noted, and for
--- how many more there is room
+-- the value of an `InvalLog` in contracts: its threshold, its entries in the order in which they were noted,
+-- and how many more fit
 pub record LogValue : Type 0 where
   pub threshold : ℤ
   pub entries : List Entry

@@ -91,7 +91,7 @@ before_step : (x : ℤ) (s : SpanValue) (p : Piece) (ps : List Piece) (touching 
 before_step x s p ps true l rest = rest (record { lo = s.lo; hi = p.span.hi }) l
 before_step x s p ps false l rest = l
 
--- what is below the open range is below all of them
+-- a number below the open range is below all ranges
 before-joined : (x : ℤ) (s : SpanValue) (ps : List Piece) → x <ℤ s.lo → IsBeforeRanges x (ranges_joined (Some s) ps)
 before-joined x s [] l = l
 before-joined x s (p ∷ ps) l = before_step x s p ps (int_eq s.hi p.span.lo) l (λ o g. before-joined x o ps g)
@@ -113,7 +113,7 @@ apart-joined (Some s) lo hi (p ∷ ps) a f =
 
 -- ---- whole buckets
 
--- no number below the first range, or at its end before the next, is in a range
+-- no number below the first range is in a range, nor is the end of a range before the next
 pub before_none : (x t : ℤ) (ss : List SpanValue) → IsBeforeRanges x ss → AreApart ss → t ≤ℤ x → lies_in ss t ≡ false
 before_none x t [] b a l = refl
 before_none x t (s ∷ ss) b a l =
@@ -221,7 +221,7 @@ dirty_ranges w p r s pieces h whole end values rising =
         let inside : in_span (whole_span w) b ≡ true = in_span-from_ends (whole_span w) b (omega (arith, ints)) (omega (arith, ints)) in
         pending_is (p b) (r b) (h.marked b inside)
 
--- the same as if entries had been fed, if the pieces are those of what is pending then near a span
+-- the same as if entries had been fed, given the pieces of what is then pending near a span
 pub dirty_with_as : {E : Type 0} (log : LogValue) (es : List Entry) (s : SpanValue) (f : ℤ → Option ℕ) (pieces : List Piece) (found : Result (List SpanValue) E) → IsInStep log.width (pending_at log) (last_at log) → IsWholeSpan log.width s → s.hi ≤ℤ greatest → ((t : ℤ) → f t ≡ cond (in_span s t) (pending_or_fresh log (filter (λ e. overlaps e.hull s) es) t) None) → ((t : ℤ) → piece_at pieces t ≡ cond (in_span s t) (f t) None) → ArePieces s.lo s.hi pieces → IfOk found (λ ranges. ranges ≡ ranges_joined None pieces) → IfOk found (AreRanges log.width s (is_dirty_with log es))
 dirty_with_as log es s f pieces found h whole end is values rising =
     IfOk-weaker found _ _ (λ ranges e. subst (AreRanges w s (is_dirty_with log es)) (sym e)
@@ -244,7 +244,7 @@ dirty_with_as log es s f pieces found h whole end is values rising =
     same : (b : ℤ) → is_bucket w b ≡ true → (is_asked w s b && (is_none (last_at log b) || is_some (p b))) ≡ (is_asked w s b && is_dirty_with log es b)
     same b q = ap (λ c. c && (is_none (last_at log b) || is_some (p b))) (asked w s b whole q) ∙ by b (in_span s b) q refl ∙ ap (λ c. c && is_dirty_with log es b) (sym (asked w s b whole q))
 
--- the same of results
+-- the same for results
 pub dirty_as : {E : Type 0} (w : WidthValue) (p r : ℤ → Option ℕ) (s : SpanValue) (pieces : List Piece) (found : Result (List SpanValue) E) → IsInStep w p r → IsWholeSpan w s → s.hi ≤ℤ greatest → ((t : ℤ) → piece_at pieces t ≡ cond (in_span s t) (p t) None) → ArePieces s.lo s.hi pieces → IfOk found (λ ranges. ranges ≡ ranges_joined None pieces) → IfOk found (AreRanges w s (λ b. is_none (r b) || is_some (p b)))
 dirty_as w p r s pieces found h whole end values rising = IfOk-weaker found _ _ (λ ranges e. subst (AreRanges w s (λ b. is_none (r b) || is_some (p b))) (sym e) (dirty_ranges w p r s pieces h whole end values rising))
 
@@ -278,8 +278,8 @@ stale_same w s starts mark test b bucket exact = by_lt_z b (first_of w)
         ∙ ap (λ x. (in_span t b && (x && true)) && z) bucket
         ∙ ap (λ x. x && z) (and-true (in_span t b))
 
--- the ranges of the buckets with a last refresh and something pending, if the pieces are those of what is
--- pending then near a span
+-- the ranges of the buckets with a last refresh and something pending, given the pieces of what is then pending
+-- near a span
 pub changed_with_as : {E : Type 0} (log : LogValue) (es : List Entry) (s : SpanValue) (f q r : ℤ → Option ℕ) (pieces : List Piece) (found : Result (List SpanValue) E) → IsInStep log.width (pending_at log) (last_at log) → IsWholeSpan log.width s → ((t : ℤ) → q t ≡ cond (in_span s t) (pending_or_fresh log (filter (λ e. overlaps e.hull s) es) t) None) → ((t : ℤ) → r t ≡ cond (in_span s t) (last_at log t) None) → ((t : ℤ) → f t ≡ combined_by Where (r t) (q t)) → ((t : ℤ) → piece_at pieces t ≡ cond (in_span s t) (f t) None) → ArePieces s.lo s.hi pieces → IfOk found (λ ranges. ranges ≡ ranges_joined None pieces) → IfOk found (AreRanges log.width s (is_changed_with log es))
 changed_with_as log es s f q r pieces found h whole qs rs fs values rising =
     IfOk-weaker found _ _ (λ ranges e. subst (AreRanges w s (is_changed_with log es)) (sym e)
@@ -331,7 +331,7 @@ some_not_below snap (Some p) = by (nat_le p snap) (nat_lt snap p) refl refl
     by false true e f = refl
     by false false e f = absurd (grind (arith, nat_tests))
 
--- ranges of whole buckets have the whole of a bucket or nothing of it
+-- ranges of whole buckets hold a whole bucket or none of it
 lies_in-bucket : (w : WidthValue) (ranges : List SpanValue) (t : ℤ) → IsWidth w → AllByRecursion (IsWholeRange w) ranges → lies_in ranges t ≡ lies_in ranges (bucket_of w t)
 lies_in-bucket w [] t h whole = refl
 lies_in-bucket w (s ∷ ss) t h whole =
@@ -363,7 +363,7 @@ renewed_as log s ranges snap f pieces found h whole parts is values rising =
     inside true v u = refl
     inside false v u = refl
 
--- what is left within a span of a value above a snapshot
+-- the values above a snapshot that remain within a span
 pub cut_above : (i : Bool) (snap : ℕ) (v : Option ℕ) → cond i (above snap (cond i v None)) (cond i v None) ≡ cond i (above snap v) None
 cut_above true snap v = refl
 cut_above false snap v = refl

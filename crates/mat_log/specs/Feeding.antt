@@ -50,7 +50,7 @@ is_changed_with log entries b = is_some (last_at log b) && is_some (pending_with
 abbrev pub is_redone_with : LogValue → List Entry → ℕ → ℤ → Bool
 is_redone_with log entries snap b = is_dirty_with log entries b || is_refreshed_after log snap b
 
--- an entry as what it notes
+-- an entry as a noted hull
 abbrev pub note_of : Entry → Noted
 note_of e = record { hull = e.hull; at = e.pos }
 

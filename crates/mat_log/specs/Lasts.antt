@@ -36,7 +36,7 @@ goes_on p q = int_eq p.span.hi q.span.lo && p.pos == q.pos
 abbrev pub longer : Piece → Piece → Piece
 longer p q = record { span = record { lo = p.span.lo; hi = q.span.hi }; pos = p.pos }
 
--- a piece and those after it, where adjacent pieces with the same position are merged
+-- a piece and those after it, with adjacent pieces of the same position merged
 abbrev pub pieces_merged : Piece → List Piece → List Piece
 pieces_merged p [] = p ∷ []
 pieces_merged p (q ∷ qs) = cond (goes_on p q) (pieces_merged (longer p q) qs) (p ∷ pieces_merged q qs)

@@ -1,4 +1,4 @@
--- What entries touched last, number by number.
+-- The last touches of entries, number by number.
 use Rattle.std.specs.Prelude.{ℕ, cond, List, [], ◌∷◌, ℤ, Option, Some, None}
 use Rattle.ts_bucket.specs.Bucket.{WidthValue}
 use Rattle.ts_bucket.specs.Positions.{later}

@@ -29,7 +29,7 @@ use std::marker::Model;
 use ts_bucket::{Span, Width, all_buckets, span_touched};
 use ts_schema::{NoMemory, Seq};
 
-/// Feeding one entry costs about as much as this many edges in a sweep over all.
+/// Feeding one entry costs about as much as this many edges in a sweep over all edges.
 const EDGES_AN_ENTRY: usize = 128;
 
 /// For each bucket of an aggregate, the position that is pending there, if there is one, and the
@@ -177,14 +177,14 @@ impl MatLog {
         requires { IsWholeSpan self.now.width span }
         ensures ranges { IfOk result (AreRanges self.now.width span (is_dirty self.now)) }
     {
-        // Reading the end tells the prover that it is a number of 64 bits.
+        // Reading the end tells the prover that it has 64 bits.
         let _end = span.hi;
         join_pieces(self.pending.ranges(span)?)
     }
 
     /// The dirty buckets below the mark that start in a span, as maximal ranges. The mark is the end of a
     /// bucket that holds a time; without a mark there are none. The log must have been fed all entries. The
-    /// engine calls `stale_with`, which needs no such log.
+    /// engine calls `stale_with`, which doesn't need that.
     pub fn stale(&self, starts: Span, mark: Option<i64>) -> Result<Seq<Span>, NoMemory>
         requires { ForSome mark (IsMark self.now.width) }
         ensures ranges { IfOk result (AreRanges self.now.width starts (is_stale self.now mark)) }
@@ -206,13 +206,13 @@ impl MatLog {
         }
     }
 
-    /// Whether one sweep over all pieces costs less than feeding a given number of entries in order.
+    /// Whether one sweep over all pieces costs less than feeding `entries` entries in order.
     fn is_swept(&self, entries: usize) -> bool {
         let edges = self.pending.size().saturating_add(self.refreshed.size());
         entries > edges / EDGES_AN_ENTRY
     }
 
-    /// The same of entries whose positions rise, in one sweep over the pieces.
+    /// The same for entries whose positions rise, in one sweep over the pieces.
     fn fed_at_once(&self, entries: &[Entry]) -> Result<MatLog, NoMemory>
         requires within { AreWithin entries.now self.now }
         requires rising { are_rising 0 entries.now ≡ true }
@@ -241,8 +241,8 @@ impl MatLog {
         Ok(fed)
     }
 
-    /// What is pending in a span of whole buckets, as if the entries had been fed: a map with just
-    /// the values there.
+    /// What is pending in a span of whole buckets, as if the entries had been fed: a map with only the values
+    /// there.
     fn pending_near(&self, entries: &BlockList<Entry>, span: Span) -> Result<SpanMap, NoMemory>
         requires within { AreWithin entries.now.items self.now }
         ensures values { let near = filter (λ e. overlaps e.hull span) entries.now.items in
@@ -261,8 +261,8 @@ impl MatLog {
         requires within { AreWithin entries.now.items self.now }
         ensures ranges { IfOk result (AreRanges self.now.width span (is_dirty_with self.now entries.now.items)) }
     {
-        // Reading the end tells the prover that it is a number of 64 bits, and reading the width that the two
-        // maps are in step.
+        // Reading the end tells the prover that it has 64 bits, and reading the width that the two maps are in
+        // step.
         let _end = span.hi;
         let _width = self.width;
         let pending = self.pending_near(entries, span)?;
@@ -303,8 +303,8 @@ impl MatLog {
     }
 
     /// The buckets in a span of whole buckets that are in these ranges of whole buckets and have no last
-    /// refresh above a snapshot, as maximal ranges. A refresh of the span that recomputes the ranges with
-    /// this snapshot renews them.
+    /// refresh above a snapshot, as maximal ranges. A refresh of the span that recomputes the ranges with this
+    /// snapshot updates them.
     pub fn to_renew(&self, span: Span, ranges: &[Span], snap: u64) -> Result<Seq<Span>, NoMemory>
         requires whole { IsWholeSpan self.now.width span }
         requires ranges { AllByRecursion (IsWholeRange self.now.width) ranges.now }
@@ -332,8 +332,8 @@ impl MatLog {
         requires within { AreWithin entries.now.items self.now }
         ensures ranges { IfOk result (AreRanges self.now.width span (is_redone_with self.now entries.now.items snap)) }
     {
-        // Reading the end tells the prover that it is a number of 64 bits, and reading the width that the two
-        // maps are in step.
+        // Reading the end tells the prover that it has 64 bits, and reading the width that the two maps are in
+        // step.
         let _end = span.hi;
         let _width = self.width;
         let pending = self.pending_near(entries, span)?;

@@ -16,7 +16,7 @@ use ts_schema::{NoMemory, Seq};
 
 /// Groups in order: by bucket, and then by keys. Contracts see them as a list.
 ///
-/// They are kept in blocks of at most 64, which copies share.
+/// They are stored in blocks of at most 64, which copies share.
 #[derive(Drop, Debug)]
 pub struct MatRows {
     groups: BlockList<Group>,
@@ -35,7 +35,7 @@ impl Model for MatRows {
 }
 
 impl MatRows {
-    /// No group. It allocates no memory.
+    /// No groups. It allocates no memory.
     pub fn new(alloc: Global) -> MatRows
         ensures groups { result ≡ [] }
     {
@@ -68,7 +68,7 @@ impl MatRows {
         self.groups.is_empty()
     }
 
-    /// States that the groups are in order. It does nothing.
+    /// States that the groups are in order. Does nothing.
     pub fn order(&self)
         ensures order { AreInOrder self.now }
     {

@@ -35,11 +35,11 @@ summary_of_both a b = record {
   most = greater a.most b.most;
 }
 
--- what was the summary of a column is that of the column with one more value
+-- a summary of a column becomes that of the column with one more value
 abbrev pub TakesIn : Option ℤ → Summary → Summary → Type 0
 TakesIn v old new = (column : List (Option ℤ)) → old ≡ summary column → new ≡ summary (column ++ v ∷ [])
 
--- what was the summary of a column is that of it and of a column after it, of which there is a summary too
+-- a summary of a column, joined with that of a second column, becomes that of both in order
 abbrev pub TakesInAll : Summary → Summary → Summary → Type 0
 TakesInAll other old new =
     (mine theirs : List (Option ℤ)) → old ≡ summary mine → other ≡ summary theirs → new ≡ summary (mine ++ theirs)
@@ -69,7 +69,8 @@ value_of Null = None
 value_of (Int v) = Some v
 value_of (Ratio q) = None
 
--- there are no more values than rows and fewer than 2^62 rows, and the sum is one of that many 64-bit values
+-- there are at most as many values as rows and fewer than 2^62 rows, and that many 64-bit values can have the
+-- sum
 pub record IsBounded (count values : ℕ) (sum : ℤ) : Type 0 where
   pub counted : values ≤ count
   pub fewer : count < 2 ^ 62

@@ -14,7 +14,7 @@ pub struct Group {
     pub start: i64,
     /// The values of the columns that the rows are grouped by; NULL is `None`.
     pub keys: Keys,
-    /// One partial aggregate for each aggregate that is requested. Groups may share a block of them.
+    /// One partial aggregate for each requested aggregate. Groups may share a block of them.
     pub parts: SharedSlice<Partial>,
 }
 

@@ -180,7 +180,7 @@ impl Partial {
         self.most = most;
     }
 
-    /// What an aggregate function shows of the rows.
+    /// The value of an aggregate function for the rows.
     #[inline]
     pub fn finish(&self, fun: Fun) -> Datum
         ensures shown { result ≡ datum_of fun self.now }
@@ -196,7 +196,7 @@ impl Partial {
         }
     }
 
-    /// The whole number that an aggregate function shows of the rows: none if it shows NULL or a mean.
+    /// The whole number that an aggregate function returns for the rows, or none for NULL and for a mean.
     #[inline(always)]
     pub fn number(&self, fun: Fun) -> Option<i128>
         ensures number { result ≡ value_of (datum_of fun self.now) }

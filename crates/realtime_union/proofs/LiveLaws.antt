@@ -108,6 +108,6 @@ pub all_shown : (fold : Fold) → IsWidth fold.width → (rows : List Row) (grou
 all_shown fold wide rows groups times made =
     ap (map (cells_of fold)) (made ∙ (ap (groups_of fold) (all_inside rows times) ∙ groups_as_in_order fold wide rows)) ∙ (groups_show_scratch fold wide (in_order rows)).of_all
 
--- what a scan of all times finds
+-- the rows that a scan of all times finds
 pub all_scanned : (rows : List Row) → HaveTimes rows → filter (λ row. in_span all_times row.at) rows ≡ rows
 all_scanned rows times = filter_same (λ row. in_span all_times row.at) (λ row. lies_in (all_times ∷ []) row.at) rows (λ row. sym (or-false (in_span all_times row.at))) ∙ all_inside rows times

@@ -21,6 +21,6 @@ more_cells-append [] b = refl
 more_cells-append (d ∷ a) b =
     ap (λ t. codes "|" ++ datum_text d ++ t) (more_cells-append a b) ∙ sym (append_assoc (codes "|" ++ datum_text d) (more_cells a) (more_cells b))
 
--- the first cell, and then some and others
+-- the first cell, then the cells of two lists
 pub cells_in_two : (text first : List ℕ) (a b : List Datum) → text ++ first ++ more_cells a ++ more_cells b ≡ text ++ (first ++ more_cells (a ++ b))
 cells_in_two text first a b = three_pieces text first (more_cells a) (more_cells b) ∙ ap (λ t. text ++ t) (append_assoc first (more_cells a) (more_cells b) ∙ ap (λ t. first ++ t) (sym (more_cells-append a b)))

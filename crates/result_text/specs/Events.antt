@@ -65,7 +65,7 @@ cut_text span (Some def) = (codes "CUT " ++ def.name) ++ (codes " " ++ span_text
 abbrev pub built_text : ℕ → ℕ → List ℕ
 built_text cut snap = codes "BUILT " ++ decimal cut ++ codes " snap " ++ decimal snap
 
--- what an event is, by the names of a roster
+-- an event in words, with the names of a roster
 abbrev pub event_text : Roster → Event → List ℕ
 event_text roster (Table def) = table_text def
 event_text roster (Hyper t hyper) = hyper_text hyper (table_of roster t)

@@ -1,4 +1,4 @@
--- Tables beside histories: how they begin, what events make of them, and what they say.
+-- Tables beside histories: how they begin, what events do to them, and what they say.
 use Rattle.std.proofs.Common.{◌≡◌, ℕ, suc, ◌+◌, ◌<◌, ◌≤◌, Bool, true, false, not, ◌++◌, cond, nat_lt, Option, Some, None, List, [], ◌∷◌, ℤ, ◌+ℤ◌, ◌≤ℤ◌, refl, sym, ◌∙◌, ap, subst, arith}
 use Rattle.std.specs.List.{filter, list_any, count_by}
 use Rattle.std.specs.Option.{option_map}

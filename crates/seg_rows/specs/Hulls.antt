@@ -4,7 +4,7 @@ use Rattle.std.specs.Int.{int_min, int_max}
 use Rattle.ts_bucket.specs.Spans.{HullValue, SpanValue, overlaps}
 use Rattle.ts_schema.specs.declared.rows.Row.{Row}
 
--- the least hull that holds what either holds
+-- the least hull that holds both
 abbrev pub joined_hull : Option HullValue → Option HullValue → Option HullValue
 joined_hull None b = b
 joined_hull (Some g) None = Some g

@@ -45,7 +45,7 @@ fn is_missed(span: Span, hull: Option<Hull>) -> bool
     }
 }
 
-/// Ticks a given number of times.
+/// Ticks this many times.
 fn tick_times<L>(times: usize, count: &mut Steps<L>)
     ensures { count.new ≡ raised_by times count.old }
 {
@@ -73,7 +73,7 @@ fn scan_rows<L>(
     let _so_far = steps.count();
     for (i, row) in rows.iter().enumerate() {
         steps.tick();
-        // The time comes first, since it alone rules out most rows that aren't shown.
+        // The time is tested first, since it rules out most rows that aren't shown.
         if span_holds(span, row) {
             push_if(lives.at(i, rows.len()).is_visible(pos), row, out)?;
         }

@@ -18,8 +18,8 @@ use ts_schema::{NoMemory, Row, Seq, SharedSlice, Steps, Test};
 
 /// Rows that never change, with their positions. Contracts see it as the list of its versions.
 ///
-/// Segments share rows and positions: a copy takes no memory but the count of its sharers. The rows are a part
-/// of a list that others may share too.
+/// Segments share rows and positions: a copy takes no memory except one more count of sharers. The rows are a
+/// part of a list that others may share too.
 #[derive(Drop)]
 pub struct Segment {
     alloc: Global,
@@ -44,12 +44,12 @@ impl Model for Segment {
     ghost invariant = { λ s. IsSealed s.rows s.lives.value s.hull s.dead };
 }
 
-/// What a delete left of a segment.
+/// A segment after a delete.
 #[derive(Drop)]
 pub struct Killed {
     /// The segment after it.
     pub segment: Segment,
-    /// How many versions were deleted.
+    /// The number of versions deleted.
     pub removed: u64,
     /// The hull of their times.
     pub hull: Option<Hull>,
@@ -113,8 +113,8 @@ impl Segment {
         })
     }
 
-    /// A delete at a position, which is at least those of the earlier changes: the versions that are
-    /// visible there and pass every test die there. Every version stays.
+    /// A delete at a position, which is at least those of the earlier changes: the versions that are visible
+    /// there and pass every test are deleted there. Every version stays stored.
     pub fn kill(&self, tests: &Seq<Test>, pos: u64) -> Result<Killed, NoMemory>
         ensures after { IfOk result (λ k. k.segment ≡ map (after_kill pos tests.now) self.now) }
         ensures removed { IfOk result (λ k. k.removed ≡ length (taken_at pos tests.now self.now)) }
@@ -128,7 +128,7 @@ impl Segment {
         })
     }
 
-    /// The segment after a delete at a position that takes a given number of versions.
+    /// The segment after a delete at a position that takes `removed` versions.
     fn after(&self, removed: u64, tests: &Seq<Test>, pos: u64) -> Result<Segment, NoMemory>
         requires counted { removed ≡ length (taken_at pos tests.now self.now) }
         ensures after { IfOk result (λ s. s ≡ map (after_kill pos tests.now) self.now) }

@@ -1,4 +1,4 @@
--- What a binary search over rising edges finds.
+-- The place that a binary search over rising edges finds.
 use Rattle.std.proofs.Common.{◌≡◌, ℕ, zero, suc, ◌<◌, ◌≤◌, Bool, true, false, cond, ℤ, ◌<ℤ◌, int_lt, int_le, List, [], ◌∷◌, length, get_or, ◌⊎◌, inl, inr, refl, sym, ap, ◌∙◌, subst, arith}
 use Rattle.std.specs.List.Sorted.{IsPartitionPoint, IsPartitionedBy}
 use Rattle.std.proofs.lemmas.Int.{ints}
@@ -34,7 +34,7 @@ abbrev pub place_where : (Edge → Bool) → List Edge → ℕ
 place_where p [] = 0
 place_where p (e ∷ es) = cond (p e) (suc (place_where p es)) 0
 
--- the place that splits the edges is how many pass the test
+-- the place that splits the edges is the number of edges that pass the test
 pub place_from_point : (p : Edge → Bool) (es : List Edge) (i : ℕ) → i ≤ length es → IsPartitionPoint (λ y. p y ≡ true) (λ y. p y ≡ false) es i → i ≡ place_where p es
 place_from_point p [] i l h = omega arith
 place_from_point p (e ∷ es) zero l h =
@@ -45,7 +45,7 @@ place_from_point p (e ∷ es) (suc i) l h =
     let rest : i ≡ place_where p es = place_from_point p es i (omega arith) ((λ k d a b. h.0 (suc k) d (omega arith) (omega arith)), (λ k d a b. h.1 (suc k) d (omega arith) (omega arith))) in
     ap suc rest ∙ sym (ap (λ b. cond b (suc (place_where p es)) 0) passes)
 
--- the same of the two tests that are searched by
+-- the same for the two tests of the searches
 pub place_where-upto : (t : ℤ) (es : List Edge) → place_where (λ e. int_le e.from t) es ≡ place_upto t es
 place_where-upto t [] = refl
 place_where-upto t (e ∷ es) = ap (λ n. cond (int_le e.from t) (suc n) 0) (place_where-upto t es)

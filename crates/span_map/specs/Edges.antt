@@ -12,7 +12,7 @@ value_from v (e ∷ es) t = cond (int_lt t e.from) v (value_from e.value es t)
 abbrev pub HaveSameValues : List Edge → List Edge → Type 0
 HaveSameValues old new = (t : ℤ) → value_from None new t ≡ value_from None old t
 
--- each new value is what is made of the old one at its number
+-- each new value is the image of the old one at its number
 abbrev pub MakesValues : (Option ℕ → ℤ → Option ℕ) → List Edge → List Edge → Type 0
 MakesValues made_of old new = (t : ℤ) → value_from None new t ≡ made_of (value_from None old t) t
 
@@ -61,6 +61,6 @@ value_on lo es = last_value None (take (place_upto lo es) es)
 abbrev pub between : ℤ → ℤ → List Edge → List Edge
 between lo hi es = take (place_below hi (drop (place_upto lo es) es)) (drop (place_upto lo es) es)
 
--- edges of which the first, at lo, begins the value v, and the last, at hi, begins none
+-- edges; the first, at lo, begins the value v, and the last, at hi, begins none
 abbrev pub edges_between : ℤ → ℤ → Option ℕ → List Edge → List Edge
 edges_between lo hi v es = record { from = lo; value = v } ∷ es ++ record { from = hi; value = None } ∷ []

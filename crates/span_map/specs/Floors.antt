@@ -1,4 +1,4 @@
--- Assigning where a floor has nothing or less, one edge of the floor at a time.
+-- Assigning where a floor has no value or a lower one, one edge of the floor at a time.
 use Rattle.std.specs.Prelude.{ℕ, cond, ◌&&◌, ℤ, int_lt, int_le, List, [], ◌∷◌, Option, Some, None}
 use Rattle.std.specs.Int.{int_max, int_min}
 use Rattle.ts_bucket.specs.Positions.{is_before}

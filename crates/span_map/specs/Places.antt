@@ -1,4 +1,4 @@
--- Places among edges: how many are before one.
+-- Places among edges: the number of edges before one.
 use Rattle.std.specs.Prelude.{ℕ, Bool, int_lt, int_le, List}
 use Rattle.span_map.specs.Edges.{place_below, place_upto}
 use Rattle.span_map.specs.declared.edges.Edge.{Edge}
@@ -10,7 +10,7 @@ abbrev pub stands_before : Before → Edge → Bool
 stands_before (Upto t) e = int_le e.from t
 stands_before (Below t) e = int_lt e.from t
 
--- how many edges do, if they rise
+-- the number of edges before a place, if they rise
 abbrev pub place_before : Before → List Edge → ℕ
 place_before (Upto t) es = place_upto t es
 place_before (Below t) es = place_below t es

@@ -1,4 +1,4 @@
--- What is found by a name is in the roster at its number, and if nothing is found the name is free.
+-- What a name finds is in the roster at its number, and if it finds nothing the name is free.
 use Rattle.std.proofs.Common.{◌≡◌, ◌∙◌, refl, sym, subst, ap, ℕ, suc, ◌+◌, Bool, true, false, cond, List, [], ◌∷◌, Option, Some, None, is_some, arith}
 use Rattle.std.specs.Prelude.{slice_get, position as place}
 use Rattle.std.specs.List.{position_from}
@@ -108,7 +108,7 @@ either_at r (found.Plain n) b t v = stands r.tables n (IsHyper false) t
 either_at r (found.Hyper n) b t v = stands r.tables n (IsHyper true) t
 either_at r (found.View n) b t v = absurd t
 
--- what is found is there
+-- what is found exists
 pub relation_at : (r : Roster) (name : List ℕ) → RelationAt r (found_in r name)
 relation_at r name = either_at r (table_from name 0 r.tables) (view_from name 0 r.views) (table_at name 0 r.tables) (view_at name 0 r.views)
 

@@ -23,7 +23,7 @@ use Rattle.stmt_check.proofs.PassedLaws.{neither, has_to_be}
 
 -- ---- starts
 
--- a start between the bounds of a test passes it, and the other way round
+-- a start passes a test if and only if it is between its bounds
 one_test : (c : Cmp) (n b : ℤ) → bounds_start c ≡ true → least ≤ℤ b → b <ℤ greatest → (int_le (from_of c n) b && int_lt b (below_of c n)) ≡ compares c (Some b) n
 one_test Eq n b e low high = same_from_decides {P = b ≡ n} (int_le n b && int_lt b (next n)) (int_eq b n) ((λ t. let l : n ≤ℤ b = grind (arith, ints) in let u : b <ℤ next n = grind (arith, ints) in omega (arith, ints, clamps)), (λ s. let l : n ≤ℤ b = omega (arith, ints) in let u : b <ℤ next n = omega (arith, ints, clamps) in grind (arith, ints))) ((λ t. grind (arith, ints)), (λ s. grind (arith, ints)))
 one_test Ne n b e low high = absurd cc
@@ -66,7 +66,7 @@ between p def lo hi (t ∷ tests) b e low high =
     ∙ ap (λ x. x && list_all (start_passes b) tests) (regroup (int_le lo b) (int_le from b) (int_lt b hi) (int_lt b below) (start_passes b t) (one_test t.cmp t.num b bounds low high))
     ∙ and_assoc (int_le lo b && int_lt b hi) (start_passes b t) (list_all (start_passes b) tests)
 
--- an end that isn't below the start leaves out nothing
+-- an end that isn't below the start excludes nothing
 ends : (lo hi b : ℤ) → (int_le lo b && int_lt b (int_max lo hi)) ≡ (int_le lo b && int_lt b hi)
 ends lo hi b = same_from_decides {P = (lo ≤ℤ b) × (b <ℤ hi)} (int_le lo b && int_lt b (int_max lo hi)) (int_le lo b && int_lt b hi) ((λ t. let l : lo ≤ℤ b = grind (arith, ints) in let u : b <ℤ int_max lo hi = grind (arith, ints) in (l, omega (arith, ints, clamps))), (λ s. let l : lo ≤ℤ b = s.0 in let u : b <ℤ hi = s.1 in let m : b <ℤ int_max lo hi = omega (arith, ints, clamps) in grind (arith, ints))) ((λ t. (grind (arith, ints), grind (arith, ints))), (λ s. let l : lo ≤ℤ b = s.0 in let u : b <ℤ hi = s.1 in grind (arith, ints)))
 

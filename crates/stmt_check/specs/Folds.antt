@@ -72,20 +72,20 @@ abbrev pub argument_refusal : ℕ → TableInfo → Option (List ℕ) → Option
 argument_refusal pos info None = None
 argument_refusal pos info (Some col) = refusal_if_none pos no_column (column_of info col)
 
--- how many output columns the bucket, these keys and these aggregates make up, as a count of 64 bits
+-- the number of output columns: the bucket, these keys and these aggregates, as a count of 64 bits
 abbrev pub columns_before : ℕ → ℕ → ℕ
 columns_before keys aggs = raised_by aggs (raised_by keys 1)
 
--- one aggregate after a given number of columns, whose name is taken if it has to differ: its function's word,
--- which names it without AS, its argument, the word after AS
+-- one aggregate after this many columns, whose name is taken if it must differ. The checks are: its function's
+-- word, which names it without AS; its argument; the word after AS
 abbrev pub aggregate_refusal : ℕ → ℕ → TableInfo → ℕ → Bool → NamedAgg → Option Refusal
 aggregate_refusal pos count info others repeats a =
     refusal_if pos name_taken (is_none a.name && repeats) ⊳ marked_refusal pos too_many count (nat_le most_columns others)
     ⊳ argument_refusal pos info a.col
     ⊳ refusal_if pos name_taken (is_some a.name && repeats)
 
--- the aggregates from left to right, after a bucket, keys and the aggregates before; `distinct` if names have
--- to differ
+-- the aggregates from left to right, after a bucket, keys and the aggregates before; `distinct` if names must
+-- differ
 abbrev pub aggregates_refusal :
     ℕ → Bool → ℕ → TableInfo → List ℕ → List (List ℕ) → List NamedAgg → List NamedAgg → Option Refusal
 aggregates_refusal pos distinct count info bucket keys before [] = None
@@ -94,7 +94,7 @@ aggregates_refusal pos distinct count info bucket keys before (a ∷ left) =
     (distinct && is_taken bucket keys before (aggregate_name a)) a
     ⊳ aggregates_refusal pos distinct count info bucket keys (before ++ a ∷ []) left
 
--- one key after a given number of columns, whose name is taken if it has to differ
+-- one key after this many columns, whose name is taken if it must differ
 abbrev pub key_refusal : ℕ → ℕ → TableInfo → ℕ → Bool → List ℕ → Option Refusal
 key_refusal pos count info others repeats key =
     refusal_if pos name_taken repeats ⊳ refusal_if_none pos no_column (column_of info key)
@@ -115,7 +115,7 @@ is_step n = int_lt (nonneg 0) n && int_le n max_step
 abbrev pub is_shift : ℤ → ℤ → Bool
 is_shift step n = int_le (nonneg 0) n && int_lt n step
 
--- the name of the head's column: the one after AS, or the head's own word
+-- the name of the head's column: the one after AS, or the head's default name
 abbrev pub head_name : List ℕ → NamedFold → List ℕ
 head_name word f = unwrap_or f.name word
 
@@ -123,11 +123,11 @@ head_name word f = unwrap_or f.name word
 abbrev pub bucket_column : NamedFold → List ℕ
 bucket_column f = head_name bucket_word f
 
--- the names of the output columns, of which the head's is the first
+-- the names of the output columns; the head's is the first
 abbrev pub names_after : List ℕ → NamedFold → List (List ℕ)
 names_after head f = (head ∷ f.keys) ++ map aggregate_name f.aggs
 
--- the names of the output columns of a fold, of which the bucket's is the first
+-- the names of the output columns of a fold; the bucket's is the first
 abbrev pub output_names : NamedFold → List (List ℕ)
 output_names f = names_after (bucket_column f) f
 
@@ -152,7 +152,7 @@ abbrev pub width_of : NamedFold → Width
 width_of f = record { step = f.step; shift = f.shift }
 
 -- the rest of a fold after its head, whose column has this name, from left to right; `distinct` if output names
--- have to differ
+-- must differ
 abbrev pub rest_refusal : ℕ → Bool → List ℕ → TableInfo → NamedFold → Option Refusal
 rest_refusal pos distinct head info f =
     keys_refusal pos distinct (output_count f) info head [] f.keys
@@ -230,7 +230,7 @@ abbrev pub ChecksKeys : ℕ → Bool → List ℕ → TableInfo → NamedFold �
 ChecksKeys pos distinct head info f result =
     Checks (keys_refusal pos distinct (output_count f) info head [] f.keys) (map (number_or_zero info) f.keys) result
 
--- one aggregate after a given number of columns with the number of its column, or its refusal
+-- one aggregate after this many columns, with the number of its column, or its refusal
 abbrev pub ChecksAggregate : ℕ → ℕ → TableInfo → ℕ → Bool → NamedAgg → Result Agg ResolveStop → Type 0
 ChecksAggregate pos count info others repeats a result =
     Checks (aggregate_refusal pos count info others repeats a) (aggregate_of info a) result

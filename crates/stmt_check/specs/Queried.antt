@@ -1,4 +1,4 @@
--- What a name refers to, if a statement needs a relation of a kind.
+-- The relation that a name refers to, if a statement needs one of a certain kind.
 use Rattle.std.specs.Prelude.{◌≡◌, ℕ, ◌<◌, length, Some, Result, Ok, Err, ⊤}
 use Rattle.ts_model.specs.declared.rosters.Roster.{Roster}
 use Rattle.ts_catalog.specs.declared.relations.Found.{Found}

@@ -22,7 +22,7 @@ marked_refusal pos code mark wrong = if wrong then Some (record { code = code; p
 abbrev pub refusal_if : ℕ → ℕ → Bool → Option Refusal
 refusal_if pos code wrong = marked_refusal pos code 0 wrong
 
--- something that must exist and doesn't
+-- something that must exist but doesn't
 abbrev pub refusal_if_none : {T : Type 0} → ℕ → ℕ → Option T → Option Refusal
 refusal_if_none pos code o = refusal_if pos code (is_none o)
 
@@ -33,7 +33,7 @@ finds_nothing (found.Plain n) = false
 finds_nothing (found.Hyper n) = false
 finds_nothing (found.View n) = false
 
--- a relation to be made has a new name, and of its kind there are fewer than there may be
+-- a relation to be created has a new name, and its kind hasn't reached its limit
 abbrev pub name_refusal : ℕ → Roster → List ℕ → ℕ → Option Refusal
 name_refusal pos roster name there =
     refusal_if pos name_taken (not (finds_nothing (found_in roster name)))

@@ -46,7 +46,7 @@ pub(crate) fn check_tests(
     Ok(numbered)
 }
 
-/// What is after the head of a fold, with the numbers of its columns.
+/// The part of a fold after its head, with the numbers of its columns.
 #[derive(Drop)]
 pub(crate) struct FoldTail {
     keys: Seq<u32>,
@@ -54,7 +54,7 @@ pub(crate) struct FoldTail {
     tests: Seq<Test>,
 }
 
-/// The fold with the numbers of its columns; `distinct` if its output names have to differ.
+/// The fold with the numbers of its columns; `distinct` if its output names must differ.
 pub(crate) fn check_fold(
     alloc: Global,
     pos: u64,
@@ -82,7 +82,7 @@ pub(crate) fn check_fold(
     })
 }
 
-/// The fold by buckets of the calendar with the numbers of its columns, and how many units a bucket has.
+/// The fold by buckets of the calendar with the numbers of its columns, and the number of units of a bucket.
 pub(crate) fn check_calendar(
     alloc: Global,
     pos: u64,
@@ -113,7 +113,7 @@ pub(crate) fn check_calendar(
     Ok((number, fold))
 }
 
-/// How many units a bucket of the calendar has, if the unit is one and the column is the time column.
+/// The number of units of a bucket of the calendar, if the unit is valid and the column is the time column.
 fn check_units(
     pos: u64,
     info: &TableInfo,
@@ -130,7 +130,7 @@ fn check_units(
     Ok(count)
 }
 
-/// How many units a bucket of the calendar has, if that is in range.
+/// The number of units of a bucket of the calendar, if it is in range.
 fn unit_count(number: i64) -> Option<u32>
     ensures { result ≡ unit_count number }
 {
@@ -234,7 +234,8 @@ fn check_keys(
     Ok(numbers)
 }
 
-/// The number of a key's column, after a given number of columns; whether its name is taken and has to differ.
+/// The number of a key's column, after `others` columns. `repeats` is whether its name must differ and is
+/// taken.
 fn check_key(
     pos: u64,
     repeats: bool,
@@ -277,8 +278,8 @@ fn check_aggregates(
     Ok(numbered)
 }
 
-/// An aggregate with the number of its column, after a given number of columns; whether its name is taken and
-/// has to differ.
+/// An aggregate with the number of its column, after `others` columns. `repeats` is whether its name must
+/// differ and is taken.
 fn check_aggregate(
     pos: u64,
     repeats: bool,
@@ -308,7 +309,7 @@ fn check_argument(pos: u64, info: &TableInfo, col: &Option<Name>) -> Result<u32,
     }
 }
 
-/// How many output columns the bucket, these keys and these aggregates make up.
+/// The number of output columns: the bucket, these keys and these aggregates.
 fn columns_up_to(keys: usize, aggs: usize) -> u64
     ensures { result ≡ columns_before keys aggs }
 {
@@ -322,7 +323,7 @@ fn count_columns(fold: &NamedFold) -> u64
     columns_up_to(fold.keys.len(), fold.aggs.len())
 }
 
-/// The name of the head's column: the one after AS, or the head's own word.
+/// The name of the head's column: the one after AS, or the head's default name.
 fn name_of_head<'a>(word: &'a [u8], fold: &'a NamedFold) -> &'a [u8]
     ensures { result.now ≡ head_name word.now fold.now }
 {
@@ -426,7 +427,7 @@ fn output_name(alloc: Global, given: &Option<Name>, word: &[u8]) -> Result<Name,
     }
 }
 
-/// The name that a word is.
+/// The name with this text.
 fn read_word(alloc: Global, word: &[u8]) -> Result<Name, NoMemory>
     requires { IsTrue (is_name word.now) }
     ensures { IfOk result (λ name. name ≡ word.now) }

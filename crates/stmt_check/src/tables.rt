@@ -1,4 +1,4 @@
-//! Tables and hypertables to be made.
+//! Tables and hypertables to be created.
 ghost use Rattle.std.specs.Prelude.{◌≡◌, ◌<◌, ◌^◌, [], length};
 ghost use Rattle.stmt_check.specs.Results.{Passes};
 ghost use Rattle.stmt_check.specs.Tables.{columns_refusal, is_column, is_interval, ChecksHyper};

@@ -30,7 +30,7 @@ heads_by test s t seen_token e = ap (passes test) (sym seen_token) ∙ e
 abbrev done : Option ℤ → Stream → Result (Option ℤ × Stream) Fault
 done v s = Ok (v, s)
 
--- the value in front of these tokens, from the token that comes next
+-- the value in front of these tokens, from the next token
 abbrev answer : Stream → Option Seen → Result (Option ℤ × Stream) Fault
 answer s o = cond (passes (is_keyword kw.Null) o) (done None (tail s)) (go_on (fitting_number s (option_and_then number_of o)) (λ z. gives (Some z)))
 
@@ -94,7 +94,7 @@ row_closes front v s m r read e r-is =
     ∙ ap (λ (x : Result (List (Option ℤ) × Stream) Fault). go_on x closes) (more_ends (parts separators.Comma) value (front ++ v ∷ []) m (closed m e))
     ∙ last
 
--- the same, if the end of the row was looked for
+-- the same, after a search for the end of the row
 pub row_may_close : (text : List ℕ) (found : Option ℕ) (front vs : List (Option ℤ)) (v : Option ℤ) (s m : Stream) (total : Result (List (Option ℤ) × Stream) Fault) → vs ≡ front ++ v ∷ [] → value s ≡ Ok (v, m) → IfSome found (λ _. heads (is_mark marks.Close) m ≡ true) → IfSome found (λ end. stream text end ≡ tail m)
     → total ≡ from_value front s → IfSome found (λ end. total ≡ Ok (vs, stream text end))
 row_may_close text None front vs v s m total vs-is read e r-is so_far = tt

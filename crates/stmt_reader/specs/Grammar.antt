@@ -1,4 +1,4 @@
--- The grammar: which tokens are which statement. A rule relates some tokens to what they mean.
+-- The grammar: the statement that tokens mean. A rule relates some tokens to their meaning.
 use Rattle.std.specs.Prelude.{◌≡◌, ℕ, suc, ℤ, pos, Bool, true, false, ◌⊎◌, List, [], ◌∷◌, ◌++◌, Option, Some, None}
 use Rattle.stmt_tokens.specs.Tokens.{Token, number as number_token}
 use Rattle.stmt_tokens.specs.Scan.{Seen, seen_token}
@@ -41,7 +41,7 @@ abbrev pub ◌>>=◌ : {A B : Type 0} → Rule A → (A → Rule B) → Rule B
 L >>= M = sequence L M
 
 infixr 10 ◌>>◌
--- one rule and then another, of which the first one means nothing
+-- one rule and then another; the first one has no value
 abbrev pub ◌>>◌ : {A B : Type 0} → Rule A → Rule B → Rule B
 L >> M = sequence L (λ _. M)
 
@@ -53,12 +53,12 @@ either L M ts a = L ts a ⊎ M ts a
 abbrev pub optional : {A : Type 0} → Rule A → A → Rule A
 optional L d = either L (means d)
 
--- a rule from zero times on
+-- a rule, zero or more times
 unfoldable pub many : {A : Type 0} → Rule A → Rule (List A)
 many L ts [] = ts ≡ []
 many L ts (a ∷ items) = (us : List Token) × (vs : List Token) × (ts ≡ us ++ vs) × L us a × many L vs items
 
--- a rule once or more, parted by another
+-- a rule once or more, separated by another
 abbrev pub list_rule : {A B : Type 0} → Rule B → Rule A → Rule (List A)
 list_rule separator L = do
   first ← L
@@ -67,7 +67,7 @@ list_rule separator L = do
 
 -- ---- one token
 
--- a token that means something
+-- a token with a meaning
 unfoldable pub one : {A : Type 0} → (Seen → Option A) → Rule A
 one f ts a = (t : Token) × (ts ≡ t ∷ []) × (f (seen_token t) ≡ Some a)
 
@@ -91,7 +91,7 @@ name = one word_of
 abbrev pub quoted_name : Rule (List ℕ)
 quoted_name = one quoted_of
 
--- num: any number, also if it isn't an i64
+-- num: any number, even if it isn't an i64
 unfoldable pub number : Rule ℤ
 number ts z = ts ≡ number_token z ∷ []
 
@@ -196,7 +196,7 @@ abbrev pub items_from : ℕ → List (List ℕ) → Rule (Unit {0})
 items_from i [] = means tt
 items_from i (n ∷ names) = mark marks.Comma >> token_rule (is_item i n) >> items_from (suc i) names
 
--- GROUP BY item { , item }, if the items are as many as the head, which has this name, and the keys together
+-- GROUP BY item { , item }: one item for the head, which has this name, and one for each key
 abbrev pub group_by : List ℕ → List (List ℕ) → Rule (Unit {0})
 group_by first keys = do
   keyword kw.Group
@@ -204,7 +204,7 @@ group_by first keys = do
   token_rule (is_item 0 first)
   items_from 1 keys
 
--- the rest of a fold after its head, whose own word this is: { , c } , agg { , agg } FROM n [WHERE tests] GROUP
+-- the rest of a fold after its head, with this default name: { , c } , agg { , agg } FROM n [WHERE tests] GROUP
 -- BY item { , item }
 abbrev pub fold_behind : List ℕ → Head → Rule NamedFold
 fold_behind own h = do

@@ -17,8 +17,8 @@ OfStatement P (reads.Syntax p) = Unit {0}
 OfStatement P (reads.BadNumber p) = Unit {0}
 OfStatement P reads.NoMemory = Unit {0}
 
--- each statement that the grammar has of a text is whole, and no longer than the text; and it is proper if
--- reading gives it
+-- each statement that the grammar finds in a text is whole, and no longer than the text; it is proper if
+-- reading returns it
 pub record StatementsAreWritten : Type 0 where
   pub shaped : (text : List ℕ) (skip : ℕ) (s : Stmt) → skip ≤ length text → IsSaid statement (stream text skip) s
       → IsShaped (length text) s

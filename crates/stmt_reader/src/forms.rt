@@ -21,7 +21,7 @@ struct Window {
 }
 
 impl Reader<'_> {
-    /// A whole statement, with one `;` or none at its end.
+    /// A whole statement, with an optional `;` at its end.
     #[tactic(auto, unfolding(crate::specs::Reading::statement, crate::specs::Reading::bind))]
     pub fn statement(&mut self) -> Result<Stmt, ReadError>
         ensures { Gives result (spec.statement (ahead self.old)) (ahead self.new) }

@@ -1,4 +1,4 @@
--- What a text holds of a statement: the statement is whole, and the text has at least a given number of bytes.
+-- Statements as texts have them: a statement is whole, and its text has at least a certain number of bytes.
 use Rattle.std.specs.Prelude.{◌≡◌, ℕ, ◌+◌, ◌*◌, ◌<◌, ◌≤◌, ℤ, pos, Bool, true, false, List, length, sum_by, Option, Some, None, is_some}
 use Rattle.std.specs.List.{AllByRecursion}
 use Rattle.ts_num.specs.declared.values.Fun.{Fun}
@@ -71,7 +71,7 @@ IsWhole (stmt.Buckets fold) = IsWholeFold fold
 IsWhole (stmt.Calendar number unit fold) = IsWholeFold fold
 IsWhole (stmt.Rows table tests) = AllByRecursion IsWholeTest tests
 
--- ---- bytes that a text of a statement has at least
+-- ---- the least number of bytes of a statement's text
 
 -- a name and the comma or parenthesis beside it
 abbrev pub name_size : List ℕ → ℕ
@@ -114,7 +114,7 @@ abbrev pub list_size : Option (List (List ℕ)) → ℕ
 list_size None = 0
 list_size (Some cols) = 1 + sum_by name_size cols
 
--- at least a given number of bytes are written of a statement
+-- the least number of bytes that a statement's text has
 abbrev pub size_of : Stmt → ℕ
 size_of (stmt.Table name cols) = 12 + length name + sum_by column_size cols
 size_of (stmt.Hyper table col interval) = length table + length col
@@ -140,7 +140,7 @@ pub record IsShaped (bytes : ℕ) (s : Stmt) : Type 0 where
   pub whole : IsWhole s
   pub size : size_of s ≤ bytes
 
--- a statement as a text of a given number of bytes has it, in which nothing is wrong
+-- a statement that a correct text of this many bytes may have
 pub record IsWritten (bytes : ℕ) (s : Stmt) : Type 0 where
   pub whole : IsWhole s
   pub size : size_of s ≤ bytes

@@ -11,8 +11,8 @@ pub enum Stmt {
         name: Name,
         cols: Seq<Column>,
     },
-    /// `SELECT create_hypertable`: `col` is to be the time column, and `interval` is how much time a chunk spans, in
-    /// the unit of that column.
+    /// `SELECT create_hypertable`: `col` will be the time column, and `interval` is how much time a chunk
+    /// spans, in the unit of that column.
     Hyper {
         table: Name,
         col: Name,
@@ -23,7 +23,7 @@ pub enum Stmt {
         name: Name,
         /// Whether the aggregate shows materialized buckets only.
         only: bool,
-        /// Whether it is refreshed after it was made: not so exactly for `WITH NO DATA`.
+        /// Whether the aggregate is refreshed after its creation: false for `WITH NO DATA` only.
         filled: bool,
         fold: NamedFold,
     },
@@ -82,7 +82,7 @@ pub enum Stmt {
     Buckets(NamedFold),
     /// `SELECT calendar_bucket`
     Calendar {
-        /// How many units a bucket has.
+        /// The number of units of a bucket.
         number: i64,
         /// The unit.
         unit: Name,
@@ -121,7 +121,7 @@ pub struct NamedFold {
 #[derive(Debug, Drop, PartialEq, Eq)]
 pub struct NamedAgg {
     pub fun: Fun,
-    /// Its argument: `None` exactly for `count(*)`.
+    /// Its argument: `None` for `count(*)` only.
     pub col: Option<Name>,
     /// Its name after AS.
     pub name: Option<Name>,

@@ -5,7 +5,7 @@ use Rattle.stmt_tokens.specs.Tokens.{Next, token, ended, nothing, next, next_her
 use Rattle.stmt_tokens.specs.Streams.{Stream, ends, stops, ◌then◌, scan as scan_from, stream}
 use Rattle.stmt_tokens.proofs.Lexemes.{NextFits, next_fits}
 
--- what comes next, and then what `after` gives after it
+-- what comes next, and then what `after` returns after it
 abbrev pub flow : ℕ → Next → (ℕ → Stream) → Stream
 flow skip (token t begin end) after = (record { at = begin + 1; token = t }) then (after end)
 flow skip ended after = ends (skip + 1)

@@ -42,7 +42,7 @@ blank_len-le-length bs =
     (λ e. omega (arith, return_is_one (drop n bs) e, length-drop n bs, prefix_len-le-length is_space bs))
     (λ e. prefix_len-le-length is_space bs)
 
--- what takes at least one byte, and none past the end
+-- a token takes at least one byte, and none past the end
 abbrev pub Fits : ℕ → Option Lexeme → Type 0
 Fits most None = Unit {0}
 Fits most (Some l) = (0 < l.len) × (l.len ≤ most)

@@ -72,7 +72,7 @@ number_is_numeral (b ∷ bs) s n s-is n-is some =
 
 -- ---- digits that are in front, read in order
 
--- a given number of digits are in front at least, 18 at most, and this is the number that they write
+-- at least this many digits are in front, at most 18, and this is the number that they write
 pub record IsFront (bs : List ℕ) (n v : ℕ) : Type 0 where
   pub within : n ≤ length bs
   pub few : n ≤ 18

@@ -12,7 +12,7 @@ use Rattle.stmt_tokens.specs.Tokens.{blank_len, lexeme_at, sign_len}
 use Rattle.stmt_tokens.proofs.Lexemes.{Finds, finds_lexeme, no_blank, number_first}
 use Rattle.stmt_tokens.proofs.Numerals.{short_number}
 
--- how many digits are in front, after a minus if one does
+-- how many digits are in front, after a minus if there is one
 abbrev digits_at : List ℕ → ℕ
 digits_at bs = prefix_len is_ascii_digit (drop (sign_len bs) bs)
 

@@ -1,4 +1,4 @@
--- A space in front changes nothing of what comes next.
+-- A space in front doesn't change what comes next.
 use Rattle.std.proofs.Common.{◌≡◌, ℕ, suc, ◌+◌, ◌<◌, Bool, true, false, cond, List, ◌∷◌, length, drop, get_or, ap, ◌∙◌, arith}
 use Rattle.std.proofs.lemmas.List.{drop_more}
 use Rattle.std.proofs.Math.Numerals.{one-add}

@@ -24,7 +24,7 @@ pub data Seen : Type 0 where
 abbrev pub i64_of : ℤ → Option ℤ
 i64_of z = if is_i64 z then Some z else None
 
--- the number that a sign of a given number of bytes, a minus or none, and the value of the digits after it mean
+-- the number with a sign of this many bytes, a minus or none, and this value of the digits after it
 abbrev pub signed_number : ℕ → ℕ → ℤ
 signed_number sign value = if sign == 0 then pos value else neg_ℤ (pos value)
 
@@ -75,7 +75,7 @@ view_ahead (heads.Token t begin end) = token (view t) begin end
 view_ahead heads.End = ended
 view_ahead (heads.Nothing begin) = nothing begin
 
--- what `next_token` answers of a token
+-- what `next_token` returns for a token
 abbrev pub shown_token : Seen → ℕ → ℕ → TokenAt
 shown_token (word w) begin end = at.Token kinds.Word begin end
 shown_token (number None) begin end = at.BadNumber (begin + 1)
@@ -96,7 +96,7 @@ IsNamedToken (number z) = Unit {0}
 IsNamedToken (quoted w) = IsTrue (is_name w) × (length w ≤ 63)
 IsNamedToken (mark m) = Unit {0}
 
--- a token that is there is a name if it is a word or quoted
+-- a token, if there is one, is a name if it is a word or quoted
 abbrev pub IsNamed : Option Token → Type 0
 IsNamed None = Unit {0}
 IsNamed (Some t) = IsNamedToken (view t)

@@ -50,7 +50,7 @@ seen_ahead (ends p) = None
 seen_ahead (stops p) = None
 seen_ahead (t then s) = Some (seen_token t.token)
 
--- a token is there and passes a test
+-- there is a token, and it passes a test
 abbrev pub passes : (Seen → Bool) → Option Seen → Bool
 passes f None = false
 passes f (Some t) = f t

@@ -24,7 +24,7 @@ pub record Lexeme : Type 0 where
 
 -- ---- a token at the front of bytes that aren't blank
 
--- as many bytes as go on with a word, 1 to 63 of them
+-- as many bytes as continue a word, 1 to 63 of them
 abbrev pub word_at : List ℕ → Option Lexeme
 word_at bytes =
     let n = prefix_len continues_word bytes in
@@ -39,7 +39,7 @@ begins_with b (c ∷ bytes) = c == b
 abbrev pub sign_len : List ℕ → ℕ
 sign_len bytes = if begins_with 45 bytes then 1 else 0
 
--- as many digits as there are, and a minus directly before them if one is there
+-- all digits that follow, and a minus directly before them if there is one
 abbrev pub number_at : List ℕ → Option Lexeme
 number_at bytes =
     let sign = sign_len bytes in
@@ -80,12 +80,12 @@ short_mark a =
     else if a == 62 then Some Greater
     else None
 
--- a mark of a given number of bytes
+-- a mark of this many bytes
 abbrev pub mark_of_len : ℕ → Option Mark → Option Lexeme
 mark_of_len n None = None
 mark_of_len n (Some m) = Some (record { token = mark m; len = n })
 
--- one token, or the other if the first is none
+-- one token, or the other if there isn't a first
 abbrev pub or_else : Option Lexeme → Option Lexeme → Option Lexeme
 or_else (Some l) other = Some l
 or_else None other = other
@@ -107,7 +107,7 @@ lexeme_at (b ∷ bytes) =
 
 -- ---- the next token of a text
 
--- one byte CR and no more
+-- exactly one byte, CR
 abbrev pub is_return : List ℕ → Bool
 is_return [] = false
 is_return (b ∷ []) = b == 13
@@ -139,7 +139,7 @@ next_here begin (b ∷ bytes) = of_lexeme begin (lexeme_at (b ∷ bytes))
 abbrev pub next : List ℕ → ℕ → Next
 next text skip = let begin = skip + blank_len (drop skip text) in next_here begin (drop begin text)
 
--- ---- what `next_token` answers
+-- ---- what `next_token` returns
 
 -- places count from 1
 abbrev pub token_at_of : ℕ → Next → TokenAt

@@ -162,7 +162,7 @@ abbrev pub function_of : Seen → Option Fun
 function_of (word w) = function_of_word w
 function_of other = None
 
--- the output column with i before it, by its number, which counts from 1, or by its name
+-- the output column with i others before it, by its number, counted from 1, or by its name
 abbrev pub is_item : ℕ → List ℕ → Seen → Bool
 is_item i name (word w) = bytes_eq w name
 is_item i name (number None) = false

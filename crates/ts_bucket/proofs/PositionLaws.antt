@@ -96,7 +96,7 @@ is_before-above q s (Some p) e = elim (nat_lt s p) as (λ t. is_before q (cond t
 pub at_or_below : (s q : ℕ) → nat_lt s q ≡ false → q ≤ s
 at_or_below s q e = grind (arith, nat_tests)
 
--- above a position that no last refresh is above, it makes no difference what was left out at that
+-- above a position that no last refresh is above, what was left out there makes no difference
 pub above-above_last : (s : ℕ) (last p : Option ℕ) → is_above s last ≡ false → above s (above_last last p) ≡ above s p
 above-above_last s None p e = refl
 above-above_last s (Some q) p e = above-lesser s q p (at_or_below s q e)

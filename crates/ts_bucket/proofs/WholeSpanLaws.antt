@@ -107,7 +107,7 @@ starts_whole w from to h low =
       from_first = omega (arith, ints);
     }
 
--- no buckets are a span of whole buckets
+-- an empty span is a span of whole buckets
 pub none_whole : (w : WidthValue) → IsWidth w → IsWholeSpan w (record { lo = first_of w; hi = first_of w })
 none_whole w h = record { starts = is_bucket-first w h; ends = is_bucket-first w h; from_first = omega (arith, ints) }
 
@@ -143,7 +143,7 @@ in_both s t from to b e f =
           grind (arith, ints)),
     )
 
--- an empty span has no number, and as many has one whose end is at or below its start
+-- an empty span has no number, like a span whose end is at or below its start
 pub none_between : (from to x b : ℤ) → to ≤ℤ from → in_span (record { lo = x; hi = x }) b ≡ in_span (record { lo = from; hi = to }) b
 none_between from to x b le =
     same_from_decides {P = ⊥} (in_span (record { lo = x; hi = x }) b) (in_span (record { lo = from; hi = to }) b)

@@ -1,4 +1,4 @@
--- The span that a window is given is the greatest span of whole buckets in it.
+-- The span computed for a window is the greatest span of whole buckets in it.
 use Rattle.std.proofs.Common.{◌≡◌, Bool, true, false, cond, ℤ, pos, ◌+ℤ◌, ◌-ℤ◌, ◌≤ℤ◌, ◌<ℤ◌, int_lt, Option, Some, None, MatchOption, sym, refl, subst, arith}
 use Rattle.std.specs.Int.{int_max}
 use Rattle.std.proofs.lemmas.Int.{ints, clamps}
@@ -75,7 +75,7 @@ inscribed_exact w lo hi b h p =
       (λ ends. whole_from_parts w lo hi b h p ends.0 (ends_by w b hi h p ends.1)),
     )
 
--- what a window is given: the span of its whole buckets, and none only if it has none
+-- the span computed for a window: its whole buckets, and none only if it has none
 pub inscribed_meets : (w : WidthValue) (lo : Option ℤ) (hi : ℤ) → IsWidth w → MatchOption (inscribed w lo hi) (HasNoBucket w lo hi) (IsInscribed w lo hi)
 inscribed_meets w lo hi h = by_cases (int_lt (window_start w lo) (bucket_of w hi)) refl
   where
@@ -96,6 +96,6 @@ inscribed_meets w lo hi h = by_cases (int_lt (window_start w lo) (bucket_of w hi
             let low = parts.1 in
             absurd (let empty : bucket_of w hi ≤ℤ window_start w lo = grind (arith, ints) in omega (arith, ints))
 
--- the same of a result that is what the window is given
+-- the same of a result that equals the window's span
 pub inscribed_as : (w : WidthValue) (lo : Option ℤ) (hi : ℤ) (r : Option SpanValue) → IsWidth w → r ≡ inscribed w lo hi → MatchOption r (HasNoBucket w lo hi) (IsInscribed w lo hi)
 inscribed_as w lo hi r h e = let P : Option SpanValue → Type 0 = λ x. MatchOption x (HasNoBucket w lo hi) (IsInscribed w lo hi) in subst P (sym e) (inscribed_meets w lo hi h)

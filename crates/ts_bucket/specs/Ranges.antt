@@ -8,7 +8,7 @@ use Rattle.ts_bucket.specs.Spans.{SpanValue, in_span}
 abbrev pub lies_in : List SpanValue → ℤ → Bool
 lies_in spans b = list_any (λ span. in_span span b) spans
 
--- a bucket that is requested: one from the first on whose start lies in the span
+-- a requested bucket: it is at or above the first one, and its start lies in the span
 abbrev pub is_asked : WidthValue → SpanValue → ℤ → Bool
 is_asked w starts b = in_span starts b && (is_bucket w b && int_le (first_of w) b)
 

@@ -10,7 +10,7 @@ use crate::widths::Width;
 /// The greatest step of a width.
 pub const MOST_STEP: i64 = 1_099_511_627_776;
 
-/// States that this is the number of the definitions. It does nothing.
+/// States that this is the number of the definitions. Does nothing.
 pub fn step_law()
     ensures step { buckets.MOST_STEP ≡ max_step }
 {}
@@ -27,7 +27,7 @@ pub fn width(step: i64, shift: i64) -> Option<Width>
     }
 }
 
-/// The start of the bucket that holds `t`, which lies at most a little below the range of times.
+/// The start of the bucket that holds `t`, which may lie a little below the range of times.
 pub(crate) fn bucket_start(w: Width, t: i64) -> i64
     requires { IsInReach t }
     ensures bucket { IsBucketOf w t result }

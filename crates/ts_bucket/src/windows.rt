@@ -1,4 +1,4 @@
-//! The whole buckets of a window, and what meets what.
+//! The whole buckets of a window, and whether a hull and a span meet.
 
 ghost use Rattle.std.specs.Prelude.{◌≡◌, ◌↔◌, ◌≤ℤ◌, IsTrue, MatchOption};
 ghost use Rattle.std.specs.Option.{ForSome};
@@ -11,8 +11,8 @@ use crate::buckets::{bucket, bucket_start, first};
 use crate::spans::{Hull, Span};
 use crate::widths::Width;
 
-/// The first start of a bucket at or above `t`, which lies at most a little below the range of
-/// times and at or below the end of the range of buckets.
+/// The first start of a bucket at or above `t`. `t` may lie a little below the range of times, and is at most
+/// the end of the range of buckets.
 pub(crate) fn next_start(w: Width, t: i64) -> i64
     requires low { IsInReach t }
     requires high { t ≤ℤ (whole_span w).hi }

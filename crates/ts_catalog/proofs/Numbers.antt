@@ -1,4 +1,4 @@
--- What is found by a name is at its number.
+-- What a name finds is at its number.
 use Rattle.std.proofs.Common.{◌≡◌, refl, sym, subst, ℕ, suc, ◌+◌, true, false, if◌then◌else◌, List, [], ◌∷◌, is_some, arith}
 use Rattle.std.specs.Cmp.Lexicographic.{same_text}
 use Rattle.ts_model.specs.declared.rosters.Roster.{Roster}
@@ -15,7 +15,7 @@ record IsNumbered {X : Type 0} (k : ℕ) (items : List X) (n : ℕ) (P : X → T
   pub counted : n ≡ k + place
   pub there : HasItem items place P
 
--- the item in front has the number that is counted from
+-- the first item has the number that counting begins with
 in_front : {X : Type 0} (k : ℕ) (x : X) (xs : List X) (P : X → Type 0) → P x → IsNumbered k (x ∷ xs) k P
 in_front k x xs P p = record { place = 0; counted = omega arith; there = record { item = x; at = refl; is = p } }
 
@@ -77,7 +77,7 @@ view_is_there name k (v ∷ vs) = elim (same_name v.name name) as (λ b. same_na
   | false ↦ λ _. view_further name k v vs (view_from name (k + 1) vs) (view_is_there name (k + 1) vs)
 ] refl
 
--- a table found is a table, an aggregate found an aggregate
+-- what is found as a table is a table, and what is found as an aggregate is an aggregate
 abbrev IsTable : Found → Type 0
 IsTable found.None = Unit {0}
 IsTable (found.Plain n) = Unit {0}

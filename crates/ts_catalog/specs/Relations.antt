@@ -7,16 +7,16 @@ use Rattle.ts_catalog.specs.declared.relations.Found.{Found}
 use Rattle.ts_catalog.specs.declared.relations.Found.TheVariants as found
 use Rattle.ts_model.specs.Roster.{same_name}
 
--- a table is plain until it is made a hypertable
+-- a table is plain until it becomes a hypertable
 abbrev pub table_kind : TableInfo → ℕ → Found
 table_kind t number = if is_some t.hyper then found.Hyper number else found.Plain number
 
--- the first table with this name, where the tables are numbered from k
+-- the first table with this name, with tables numbered from k
 abbrev pub table_from : List ℕ → ℕ → List TableInfo → Found
 table_from name k [] = found.None
 table_from name k (t ∷ ts) = if same_name t.def.name name then table_kind t k else table_from name (k + 1) ts
 
--- the first aggregate with this name, where the aggregates are numbered from k
+-- the first aggregate with this name, with aggregates numbered from k
 abbrev pub view_from : List ℕ → ℕ → List ViewDef → Found
 view_from name k [] = found.None
 view_from name k (v ∷ vs) = if same_name v.name name then found.View k else view_from name (k + 1) vs
@@ -32,7 +32,7 @@ or_else (found.View n) b = found.View n
 abbrev pub found_in : Roster → List ℕ → Found
 found_in roster name = or_else (table_from name 0 roster.tables) (view_from name 0 roster.views)
 
--- numbers of 32 bits serve for all relations
+-- 32 bits suffice to number all relations
 pub record CanBeNumbered (roster : Roster) : Type 0 where
   pub tables : length roster.tables < 2 ^ 32
   pub views : length roster.views < 2 ^ 32

@@ -56,7 +56,7 @@ pub fn view_column(def: &ViewDef, name: &Name) -> Option<u32>
     name_place(def.names.items(), name)
 }
 
-/// The place of the first of these names that is this one.
+/// The place of the first of these names that equals this one.
 pub fn name_place(names: &[Name], name: &Name) -> Option<u32>
     requires { length names.now < 2 ^ 32 }
     ensures place { result ≡ place_from name.now 0 names.now }

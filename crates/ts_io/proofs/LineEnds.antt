@@ -39,11 +39,11 @@ first_end_cases false xs h =
 first_end_of : (xs : List ℕ) → MatchOption (position is_end xs) (ended_lines xs ≡ []) (IsFirstEnd xs)
 first_end_of xs = first_end_cases (ltb (position_or_len is_end xs) (length xs)) xs refl
 
--- a place after which none is, among those of a list
+-- a place of a list, with no other after it
 placed : (test : ℕ → Bool) (xs : List ℕ) (n : ℕ) (within : Bool) → position_or_len test xs ≡ n → ltb n (length xs) ≡ within → cond within (Some n) None ≡ position test xs
 placed test xs n within at e = ap (λ b. cond b (Some n) None) (sym e) ∙ ap (λ k. cond (ltb k (length xs)) (Some k) None) (sym at)
 
--- the first byte that passes a test is the one that a list has first
+-- the first byte of a list that passes a test
 pub position_of_first : (test : ℕ → Bool) (xs : List ℕ) (r : Option ℕ) → IsFirstByte test xs r → r ≡ position test xs
 position_of_first test xs None none =
     let n = length xs in
@@ -52,7 +52,7 @@ position_of_first test xs (Some n) first =
     let fails : (k : ℕ) → k < n → test (get_or xs k 0) ≡ false = λ k below. false_from_ne_true (test (get_or xs k 0)) (first.0.before k (omega arith) below) in
     placed test xs n true (position_or_len_is test xs n 0 (omega (arith, first.0.high)) fails (λ _. first.1)) (grind (arith, first.0.high))
 
--- where a search found it, and where it found none
+-- a search that found one, and one that found none
 pub found_end : (xs : List ℕ) (n : ℕ) → Some n ≡ position is_end xs → IsFirstEnd xs n
 found_end xs n e = subst (λ (o : Option ℕ). MatchOption o (ended_lines xs ≡ []) (IsFirstEnd xs)) (sym e) (first_end_of xs)
 

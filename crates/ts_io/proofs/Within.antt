@@ -8,7 +8,7 @@ use Rattle.ts_io.proofs.LineLaws.{lines_of-at, ended_lines-at, lines_of-last}
 pub lines_within-whole : (n : ℕ) (text : List ℕ) → length text ≤ n → lines_within n text ≡ lines_of text
 lines_within-whole n text h = ap (λ (v : Bool). cond v (lines_of text) (ended_lines (take n text))) (le-leb (length text) n h)
 
--- of a longer text those that end before it
+-- a longer text has those that end before the limit
 pub lines_within-cut : (n : ℕ) (text : List ℕ) → n < length text → lines_within n text ≡ ended_lines (take n text)
 lines_within-cut n text h = ap (λ (v : Bool). cond v (lines_of text) (ended_lines (take n text))) (lt-leb (length text) n h)
 

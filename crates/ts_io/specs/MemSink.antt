@@ -14,8 +14,8 @@ pub record Store : Type 0 where
   pub calls : ℕ
   pub faults : ℕ
 
--- a write of a piece: a call that isn't listed takes as much as may be, or finds no memory; one that fails is counted
--- and takes nothing
+-- a write of a piece: a call that isn't listed takes as much as possible, or runs out of memory; one that fails
+-- is counted and takes nothing
 abbrev pub Stores : Store → List ℕ → Put → Store → Type 0
 Stores old piece (Bytes n) new = (is_listed old.fails (one_more old.calls) ≡ false) × (n ≡ min old.most (length piece))
     × (new ≡ record old { written = old.written ++ take n piece; calls = one_more old.calls })

@@ -8,7 +8,7 @@ pub const INPUT_LIMIT: usize = 67_108_864;
 /// The greatest number of bytes of a line before its line end.
 pub const LINE_LIMIT: usize = 65_536;
 
-/// States the limits as numbers. It does nothing.
+/// States the limits as numbers. Does nothing.
 pub fn limits_law()
     ensures input { INPUT_LIMIT ≡ 67108864 }
     ensures line { LINE_LIMIT ≡ 65536 }

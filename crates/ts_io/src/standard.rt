@@ -65,7 +65,7 @@ impl<R: Read> Source for StdinSource<R> {
     }
 }
 
-/// What a read of std gave: as many bytes as it says, or nothing if it erred.
+/// The result of a read of std, which is a fault if the read failed.
 fn got(read: io::Result<usize>) -> Got
     ensures { result ≡ got_of read }
 {
@@ -75,7 +75,7 @@ fn got(read: io::Result<usize>) -> Got
     }
 }
 
-/// Whether a signal interrupted the call that erred so.
+/// Whether a signal interrupted the call that failed with this error.
 fn is_interrupted(error: &io::Error) -> bool
     ensures { OnFalse result (error_kind error.now ≢ ErrorKind.Interrupted) }
 {
@@ -120,7 +120,7 @@ impl<W> Model for StdoutSink<W> {
 }
 
 impl<W: Write> StdoutSink<W> {
-    /// A sink that writes to this writer, which must hold no bytes back.
+    /// A sink that writes to this writer, which must not buffer.
     pub fn new(writer: W) -> StdoutSink<W>
         ensures made { result ≡ record { writer = writer; faults = 0 } }
     {
@@ -147,8 +147,8 @@ impl<W: Write> Sink for StdoutSink<W> {
     }
 }
 
-/// What a write of std took of a piece: as many bytes as it says, or nothing if it erred or took none of a
-/// piece that isn't empty.
+/// The result of a write of std. It is a fault if the write failed, or if it took nothing of a piece that isn't
+/// empty.
 fn put(written: io::Result<usize>, piece: &[u8]) -> Put
     ensures { result ≡ put_of written piece.now }
 {

@@ -95,7 +95,7 @@ pub with_rows-swap : (xs ys zs : List Row) → with_rows xs (with_rows ys zs) �
 with_rows-swap [] ys zs = refl
 with_rows-swap (x ∷ xs) ys zs = ap (with_row x) (with_rows-swap xs ys zs) ∙ sym (with_rows-with_row ys x (with_rows xs zs))
 
--- rows in order are the same, in whichever order two lists of them come
+-- sorting two lists of rows gives the same in either order of the lists
 pub in_order-append : (xs ys : List Row) → in_order (xs ++ ys) ≡ with_rows xs (in_order ys)
 in_order-append xs ys = with_rows-append xs ys []
 
@@ -132,7 +132,7 @@ stands_in_order xs = in_order-with_rows xs [] tt
 
 -- ---- what a test selects of rows in order
 
--- a row not above the first is before all, also after some are left out
+-- a row not above the first is before all rows, even after some are left out
 kept_first : (p : Row → Bool) (row : Row) (xs : List Row) → list_all (λ y. not (is_gt (row_cmp row y))) xs ≡ true → with_row row (filter p xs) ≡ row ∷ filter p xs
 kept_first p row [] e = refl
 kept_first p row (x ∷ xs) e =

@@ -64,7 +64,7 @@ record EndsAmong (fold : Fold) (span : Span) (xs : List Row) (m : ℤ) : Type 0 
   ends : bucket +ℤ fold.width.step ≡ m
 
 module _ (fold : Fold) (span : Span) where
-  -- one row more leaves those that pass
+  -- one more row keeps those that pass
   ends_further : (row : Row) (xs : List Row) (m : ℤ) → EndsAmong fold span xs m → EndsAmong fold span (row ∷ xs) m
   ends_further row xs m e = record {
     bucket = e.bucket;

@@ -1,4 +1,5 @@
--- Ranges that rise apart and hold the same buckets are the same ranges; and what a function gives over all buckets of a span is what it gives over those at which it gives anything.
+-- Ranges that rise apart and hold the same buckets are the same. A function over all buckets of a span returns
+-- what it returns over those buckets for which it returns anything.
 use Rattle.std.proofs.Common.{◌≡◌, Bool, true, false, ◌||◌, List, [], ◌∷◌, ◌++◌, ℤ, pos, ◌+ℤ◌, ◌≤ℤ◌, ◌<ℤ◌, int_lt, sym, refl, ap, ◌∙◌, subst, arith}
 use Rattle.std.specs.List.{AllByRecursion, flat_map}
 use Rattle.std.specs.Ordering.{int_eq}
@@ -124,7 +125,7 @@ one_list_of_ranges w starts test a b p q = same_ranges w a b p.whole q.whole p.r
 -- ---- functions over the buckets of a span
 
 module _ {X : Type 0} (w : Width) (f : ℤ → List X) where
-  -- if a function gives nothing, its buckets have no effect
+  -- buckets for which a function returns nothing have no effect
   nothing_given : (bs : List ℤ) → ((b : ℤ) → among b bs ≡ true → f b ≡ []) → flat_map f bs ≡ []
   nothing_given [] none = refl
   nothing_given (b ∷ bs) none =
@@ -187,7 +188,8 @@ module _ {X : Type 0} (w : Width) (f : ℤ → List X) where
       (λ b e. in_tail x b xs (λ p. true≢false (sym e ∙ subst (λ z. among z (y ∷ ys) ≡ false) p not_x)) (within b e))
       (λ b e n. none b (or_right (int_eq x b) _ e) n)
 
-  -- over all buckets a function gives what it gives over some of them, if it gives nothing over the others
+  -- over all buckets a function returns what it returns over some of them, if it returns nothing over the
+  -- others
   pub flat_map_some : (low : ℤ) (all some : List ℤ) → RisingBuckets w low all → RisingBuckets w low some → ((b : ℤ) → among b some ≡ true → among b all ≡ true) → ((b : ℤ) → among b all ≡ true → among b some ≡ false → f b ≡ []) → flat_map f all ≡ flat_map f some
   flat_map_some low [] [] ra rs within none = refl
   flat_map_some low [] (y ∷ ys) ra rs within none = absurd (true≢false (sym (within y (or_left _ _ ((Decides-int_eq y y).1 refl)))))
@@ -198,8 +200,8 @@ module _ {X : Type 0} (w : Width) (f : ℤ → List X) where
         | false ↦ λ e. other_head x y xs ys (λ q. both_ways (int_eq x y) e ((Decides-int_eq x y).1 q)) ra.2 rs.1 rs.2 within none (λ r i n. flat_map_some (x +ℤ pos 1) xs (y ∷ ys) ra.2 r i n)
       ] refl
 
--- the same over the buckets of a span: it is enough to go over rising buckets that are requested and hold each
--- at which the function gives something
+-- the same over the buckets of a span: it is enough to visit rising requested buckets that include each one for
+-- which the function returns something
 pub flat_map-buckets_in : {X : Type 0} (w : Width) (f : ℤ → List X) (starts : Span) (some : List ℤ) → RisingBuckets w starts.lo some → ((b : ℤ) → among b some ≡ true → is_asked w starts b ≡ true) → ((b : ℤ) → is_asked w starts b ≡ true → among b some ≡ false → f b ≡ []) → flat_map f (buckets_in w starts) ≡ flat_map f some
 flat_map-buckets_in w f starts some r within none =
     flat_map_some w f starts.lo (buckets_in w starts) some (rising-buckets_in w starts) r (λ b e. among-buckets_in w starts b ∙ within b e) (λ b e n. none b (sym (among-buckets_in w starts b) ∙ e) n)

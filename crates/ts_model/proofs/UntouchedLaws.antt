@@ -132,7 +132,7 @@ stood_untouched n def (resumed i) s b e =
     ] e
 stood_untouched n def (g ▸ x) s b e = refl
 
--- what wasn't touched wasn't touched earlier
+-- a bucket that wasn't touched wasn't touched earlier
 pub touched_prefix : (n : ℕ) (def : ViewDef) (h : History) (b : ℤ) (s p : ℕ) → touched n def h b s ≡ false → touched n def (prefix h p) b s ≡ false
 touched_prefix n def start b s p e = e
 touched_prefix n def (resumed i) b s p e = e

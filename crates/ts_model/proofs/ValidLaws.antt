@@ -271,9 +271,9 @@ numbers_upto r p (w ∷ ws) e =
 pub waiting_upto : (i : Image) → valid i ≡ true → AllByRecursion (λ (w : WaitingRefresh). w.cut ≤ i.pos) i.waiting
 waiting_upto i ok = numbers_upto (image_roster i) i.pos i.waiting (and_parts (list_all (λ (w : WaitingRefresh). is_number i.pos w.cut && span_fits w.span (view_of (image_roster i) w.view)) i.waiting) _ (valid_is i ok).waiting).0
 
--- ---- what became of a refresh, by an image
+-- ---- the outcome of a refresh, by an image
 
--- a span that it states is one among those that wait, of a number up to its position
+-- a span that it states is one of a waiting refresh, with a number up to its position
 pub span_within : (i : Image) (n k : ℕ) (span : Span) → span_of_cut n (resumed i) k ≡ Some span → (k ≤ i.pos) × (span_among n i.waiting k ≡ Some span)
 span_within i n k span e =
     elim (nat_le k i.pos) as (λ t. nat_le k i.pos ≡ t → cond t (span_among n i.waiting k) None ≡ Some span → (k ≤ i.pos) × (span_among n i.waiting k ≡ Some span)) [

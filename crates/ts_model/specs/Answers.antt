@@ -45,13 +45,13 @@ numbers_in span = numbers_from span.lo (count_of (span.hi -ℤ span.lo))
 abbrev pub buckets_in : Width → Span → List ℤ
 buckets_in w starts = filter (λ b. is_bucket w b && int_le (first_of w) b) (numbers_in starts)
 
--- what the last refresh of a bucket has left: its aggregation at that refresh's snapshot, or no row
+-- what the last refresh of a bucket stored: its aggregation at that refresh's snapshot, or no row
 abbrev pub left_by : ℕ → ViewDef → History → ℤ → Option ℕ → List (List Datum)
 left_by n def h b None = []
 left_by n def h b (Some s) = scratch_at n def h s b
 
--- what an aggregate shows of a bucket: if it is stale, what its last refresh has left; otherwise the aggregation from
--- scratch, but nothing at or above the watermark if it shows materialized rows only
+-- what an aggregate shows of a bucket: if it is stale, what its last refresh stored; otherwise the aggregation
+-- from scratch. It shows nothing at or above the watermark if it shows materialized rows only
 abbrev pub shown : ℕ → ViewDef → History → ℤ → List (List Datum)
 shown n def h b =
     cond (stale n def h b) (left_by n def h b (last n h b))
@@ -64,7 +64,7 @@ with_bucket w b [] = record { lo = b; hi = b +ℤ w.step } ∷ []
 with_bucket w b (s ∷ ss) =
     cond (int_eq (b +ℤ w.step) s.lo) (record { lo = b; hi = s.hi } ∷ ss) (record { lo = b; hi = b +ℤ w.step } ∷ s ∷ ss)
 
--- the buckets that pass a test, as ranges: buckets that follow one another are in one range
+-- the buckets that pass a test, as ranges: adjacent buckets are in one range
 abbrev pub ranges : Width → (ℤ → Bool) → List ℤ → List Span
 ranges w test [] = []
 ranges w test (b ∷ bs) = cond (test b) (with_bucket w b (ranges w test bs)) (ranges w test bs)

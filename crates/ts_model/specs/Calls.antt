@@ -28,7 +28,7 @@ use Rattle.ts_model.specs.Pending.{pending}
 use Rattle.ts_model.specs.Windows.{window}
 use Rattle.ts_model.specs.States.{State, Found, Keeps, Makes, Fails, stands_still}
 
--- what a call does at a history: it is refused, returns something, or makes one event and returns something
+-- what a call does at a history: it is refused, returns something, or creates one event and returns something
 pub data Act (A : Type 0) : Type 0 where
   refuses : Refusal → Act A
   returns : A → Act A
@@ -40,8 +40,8 @@ pub data Act (A : Type 0) : Type 0 where
 abbrev pub refusal : ℕ → History → ℕ → Refusal
 refusal code h mark = record { code = code; pos = position h; mark = mark }
 
--- an event is made, with what is said of it, unless the history is at its end. Each call makes its event through this
--- word
+-- an event is created, with what is said of it, unless the history is at its end. Each call creates its event
+-- with this definition
 abbrev pub act_of_event : {A : Type 0} → History → Event → A → Act A
 act_of_event h e a = cond (has_room h) (makes e a) (refuses (refusal history_full h 0))
 
@@ -49,7 +49,7 @@ act_of_event h e a = cond (has_room h) (makes e a) (refuses (refusal history_ful
 abbrev pub act_with_number : History → Event → Act ℕ
 act_with_number h e = act_of_event h e (suc (position h))
 
--- a relation is made unless its name is taken, or there are as many of its kind as there may be
+-- a relation is created unless its name is taken or its kind has reached its limit
 abbrev pub new_relation : History → Bool → ℕ → Event → Act ℕ
 new_relation h taken many e =
     cond taken (refuses (refusal name_taken h 0))
@@ -80,7 +80,8 @@ commit_result ops h = record {
 abbrev pub act_of_commit : List Op → History → Act Committed
 act_of_commit ops h = act_of_event h (Commit ops) (commit_result ops h)
 
--- a refresh is cut over the whole buckets of its window; without one it is refused, or there is nothing to do
+-- a refresh is cut over the whole buckets of its window; without a whole bucket it is refused, or there is
+-- nothing to do
 abbrev pub cut_over : ℕ → History → Window → Act CutDone
 cut_over n h (Whole span) = act_of_event h (Cut n span) (CutMade (suc (position h)) span)
 cut_over n h NoBucket = refuses (refusal no_bucket h 0)

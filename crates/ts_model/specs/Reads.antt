@@ -32,7 +32,7 @@ rows_inserted t (h ▸ e) = rows_inserted t h
 abbrev pub spans_meet : Span → Span → Bool
 spans_meet a b = int_lt a.lo b.hi && int_lt b.lo a.hi && int_lt a.lo a.hi && int_lt b.lo b.hi
 
--- what a span has between two bounds
+-- the part of a span between two bounds
 abbrev pub clip : ℤ → ℤ → Span → Span
 clip low high span = record { lo = int_max low span.lo; hi = int_min high span.hi }
 

@@ -42,7 +42,7 @@ pub record LastsAreLast : Type 0 where
   pub refreshed : (n : ℕ) (h : History) (b : ℤ) (s : ℕ) → last n h b ≡ Some s → was_refreshed n h b s ≡ true
   pub latest : (n : ℕ) (h : History) (b : ℤ) (r : ℕ) → was_refreshed n h b r ≡ true → is_before r (last n h b) ≡ false
 
--- the refresh that waits with a number, if one does: its aggregate is what pending says, and its span that of
+-- the waiting refresh with a number, if there is one: its aggregate is what pending says, and its span that of
 -- its cut
 abbrev pub waiting_over : ℕ → ℕ → Option Span → List WaitingRefresh
 waiting_over k n None = []
@@ -59,8 +59,8 @@ has_span h k (Waiting n) = is_some (span_of_cut n h k)
 has_span h k (Finished f) = true
 has_span h k Unknown = true
 
--- the refreshes that wait are, for each number, what pending says of it, they come in rising order of their cuts, and
--- each has a span
+-- for each number, the waiting refreshes are what pending says of it; they are in rising order of their cuts,
+-- and each has a span
 pub record WaitingIsPending : Type 0 where
   pub exact : (h : History) (k : ℕ) → all_consistent h ≡ true
       → filter (λ r. r.cut == k) (waiting h) ≡ waiting_as h k (pending h k)
@@ -75,8 +75,8 @@ FinishesMark =
     → all_consistent h ≡ true → view_of (roster h) n ≡ Some def → Fits n def h cut snap span spans groups top
     → watermark n def (h ▸ Built cut snap) ≡ greater (watermark n def h) top
 
--- m is the end of a bucket that a finished refresh covers and that had a result row at its snapshot: before its
--- finish was this history
+-- m is the end of a bucket that a finished refresh covers and that had a result row at its snapshot; this is
+-- the history before its finish
 pub record EndsARow (n : ℕ) (def : ViewDef) (h : History) (m : ℤ) : Type 0 where
   pub before : History
   pub cut : ℕ

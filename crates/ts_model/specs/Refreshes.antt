@@ -1,5 +1,5 @@
--- Refreshes of an aggregate: what was last refreshed, what commits touched since, how far the watermark has come, and
--- what is stale.
+-- Refreshes of an aggregate: what was last refreshed, what commits touched since, the watermark, and what is
+-- stale.
 use Rattle.std.specs.Prelude.{ℕ, suc, Bool, true, false, ◌&&◌, ◌||◌, cond, nat_le, ◌==◌, List, [], ◌∷◌, ℤ, ◌+ℤ◌, Option, Some, None}
 use Rattle.std.specs.List.{list_any}
 use Rattle.ts_num.specs.Aggregates.{greater}
@@ -26,7 +26,7 @@ use Rattle.ts_model.specs.Roster.{roster, view_of}
 use Rattle.ts_model.specs.Rows.{rows, rows_at}
 use Rattle.ts_model.specs.Effect.{hull_of_ops}
 
--- the span of event k, if it is a cut of aggregate n. An image states it of the refreshes that wait
+-- the span of event k, if it is a cut of aggregate n. For waiting refreshes, an image states it
 abbrev pub span_of_cut : ℕ → History → ℕ → Option Span
 span_of_cut n start k = None
 span_of_cut n (resumed i) k = cond (nat_le k i.pos) (span_among n i.waiting k) None
@@ -83,8 +83,8 @@ is_met w b (Some hull) = meets w b hull
 abbrev pub touches : ViewDef → List Op → History → ℤ → Bool
 touches def ops h b = is_met def.fold.width b (hull_of_ops def.table ops (rows def.table h))
 
--- the last touch of a bucket: the greatest number of a commit that touches it. A bucket that an image names dirty
--- counts as touched at the image's position
+-- the last touch of a bucket: the greatest number of a commit that touches it. A bucket that is dirty in an
+-- image counts as touched at the image's position
 abbrev pub last_touch : ℕ → ViewDef → History → ℤ → Option ℕ
 last_touch n def start b = None
 last_touch n def (resumed i) b = cond (is_dirty n i b) (Some i.pos) None
@@ -153,8 +153,8 @@ abbrev pub waiting_end : ℕ → Roster → List WaitingRefresh → Option ℤ
 waiting_end t r [] = None
 waiting_end t r (w ∷ ws) = greater (cond (is_over t (view_of r w.view)) (Some w.span.hi) None) (waiting_end t r ws)
 
--- the threshold of a table: the greatest end of a cut's span of an aggregate over it. By an image, it is that of all
--- that was last refreshed and of all that waits
+-- the threshold of a table: the greatest end of a cut's span of an aggregate over it. In an image, it is the
+-- greatest end of all that was last refreshed and of all waiting refreshes
 abbrev pub threshold : ℕ → History → Option ℤ
 threshold t start = None
 threshold t (resumed i) = greater (lasts_end t (roster (resumed i)).views i.views) (waiting_end t (roster (resumed i)) i.waiting)

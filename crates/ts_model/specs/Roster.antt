@@ -1,4 +1,4 @@
--- The roster of a history: the tables and aggregates that it has made.
+-- The roster of a history: the tables and aggregates that it has created.
 use Rattle.std.specs.Prelude.{◌≡◌, ℕ, zero, suc, Bool, false, ◌||◌, List, [], ◌∷◌, ◌++◌, Option, Some, None, is_some, unwrap_or, slice_get, position as place, nat_eq, option_and_then}
 use Rattle.std.specs.Cmp.Lexicographic.{pointwise}
 use Rattle.ts_model.specs.declared.events.Event.{Event}
@@ -28,7 +28,7 @@ made_hyper hyper info = record info { hyper = Some (unwrap_or info.hyper hyper) 
 abbrev pub set_only : Bool → ViewDef → ViewDef
 set_only only def = record def { only = only }
 
--- the roster after one more event: a new table or aggregate comes last, and nothing is taken away
+-- the roster after one more event: a new table or aggregate comes last, and nothing is removed
 abbrev pub roster_after : Roster → Event → Roster
 roster_after r (Table def) = record r { tables = r.tables ++ (record { def = def; hyper = None } ∷ []) }
 roster_after r (Hyper t hyper) = record r { tables = change_at r.tables t (made_hyper hyper) }
@@ -68,7 +68,7 @@ of_table test (Some info) = of_hyper test info.def info.hyper
 abbrev pub view_of : Roster → ℕ → Option ViewDef
 view_of r n = slice_get r.views n
 
--- an aggregate of which nothing but the mode may have changed, if it exists
+-- this aggregate, if it exists, in which only the mode may have changed
 abbrev pub IsOf : ViewDef → Option ViewDef → Type 0
 IsOf def None = Unit {0}
 IsOf def (Some found) = (found.table ≡ def.table) × (found.fold ≡ def.fold)

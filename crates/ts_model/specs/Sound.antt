@@ -1,4 +1,5 @@
--- Sound events: what an event names is there, and all that it holds is in range. This stays true as a history grows.
+-- Sound events: what an event names exists, and all that it holds is in range. This stays true as a history
+-- grows.
 use Rattle.std.specs.Prelude.{ℕ, suc, ◌+◌, Bool, true, false, ◌&&◌, ◌||◌, not, nat_lt, nat_le, ◌==◌, List, [], ◌∷◌, map, length, remove, ℤ, pos, int_lt, int_le, Option, Some, None, is_some}
 use Rattle.std.specs.List.{list_all, list_any}
 use Rattle.std.specs.Ordering.{int_eq}
@@ -99,7 +100,7 @@ op_fits r (Delete t tests) = of_table (λ def hyper. list_all (test_fits (length
 abbrev pub columns_fit : List Column → Bool
 columns_fit cols = nat_lt 0 (length cols) && nat_le (length cols) most_columns && are_names (map (λ c. c.name) cols)
 
--- an interval from 1 to 2 ^ 50, and a time column that is there
+-- an interval from 1 to 2 ^ 50, and an existing time column
 abbrev pub hyper_fits : HyperInfo → Option TableInfo → Bool
 hyper_fits hyper None = false
 hyper_fits hyper (Some info) =

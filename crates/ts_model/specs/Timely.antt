@@ -21,7 +21,7 @@ abbrev pub timely_at : History → Event → Bool
 timely_at h (Built cut snap) = is_waiting (pending h cut)
 timely_at h e = timely_in (roster h) e
 
--- there is room for one more event
+-- one more event fits
 abbrev pub has_room : History → Bool
 has_room h = nat_lt (position h) last_position
 

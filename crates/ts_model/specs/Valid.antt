@@ -1,4 +1,4 @@
--- Valid images: what an image must be, by itself, to begin a history.
+-- Valid images: the conditions for an image to begin a history.
 use Rattle.std.specs.Prelude.{ℕ, zero, suc, ◌*◌, ◌-◌, ◌^◌, Bool, true, false, ◌&&◌, ◌||◌, not, cond, nat_lt, nat_le, ◌==◌, List, [], ◌∷◌, map, length, ℤ, pos, neg_ℤ, ◌-ℤ◌, int_lt, int_le, Option, Some, None, is_some, is_none}
 use Rattle.std.specs.List.{list_all, list_any}
 use Rattle.std.specs.Ordering.{is_gt, is_lt, nat_cmp}
@@ -44,7 +44,7 @@ all_stand cmp (x ∷ xs) = list_all (λ y. not (is_gt (cmp x y))) xs && all_stan
 
 -- ---- the roster and the rows
 
--- an event may come after a roster, whatever its bytes
+-- an event may come after a roster, not counting its bytes
 abbrev pub may_follow : Roster → Event → Bool
 may_follow r e = sound_in r e && timely_in r e
 
@@ -161,8 +161,9 @@ done_fits p ws fs =
 abbrev pub image_roster : Image → Roster
 image_roster i = roster_over no_relations i.roster
 
--- an image is valid: its position isn't after the last one; its tables and aggregates can be made in this order; and
--- its rows, what is kept of each aggregate, the refreshes that wait and the finished ones fit them and one another
+-- an image is valid: its position isn't after the last one; its tables and aggregates can be created in this
+-- order; its rows, what is kept of each aggregate, and the waiting and finished refreshes fit them and one
+-- another
 abbrev pub valid : Image → Bool
 valid i =
     nat_le i.pos last_position && make_relations no_relations i.roster && hold_rows (image_roster i) 0 i.rows

@@ -1,4 +1,4 @@
-//! What a group shows: its result row, made or read cell by cell.
+//! The result row of a group, built or read cell by cell.
 ghost use Rattle.std.specs.Prelude.{◌≡◌, ◌++◌, map, IfOk};
 ghost use Rattle.ts_num.specs.Aggregates.{shown_or_null};
 ghost use Rattle.partial_agg.specs.Summaries.{value_of};
@@ -11,9 +11,9 @@ use partial_agg::{Group, Partial};
 use ts_num::Datum;
 use ts_schema::NoMemory;
 
-/// The result row of a group, none of whose cells is made. If its keys and its partial aggregates are is looked
-/// up once, for all of its cells. Contracts see the cells as `group_cells`: at 0 the start of the bucket, then
-/// the keys, and then what is aggregated.
+/// The result row of a group, without stored cells. Its keys and its partial aggregates are looked up once, for
+/// all of its cells. Contracts see the cells as `group_cells`: at 0 the start of the bucket, then the keys, and
+/// then what is aggregated.
 #[derive(Clone, Copy, Debug)]
 pub struct GroupRow<'a> {
     /// The start of the bucket.
@@ -90,7 +90,7 @@ impl<'a> GroupRow<'a> {
         part_value(self.aggs, self.parts, place - 1 - self.keys.len())
     }
 
-    /// The value of the cell at a place among those at these places.
+    /// The value of the chosen cell at a place, by the places of the chosen cells.
     #[inline]
     #[tactic(auto, using(crate::proofs::ResultLaws::value_chosen, crate::proofs::ResultLaws::none_chosen))]
     pub(crate) fn chosen_value(&self, places: &[u32], at: usize) -> Option<i128>

@@ -11,18 +11,18 @@ use ts_schema::{NoMemory, Row, Seq, SharedSlice, Test};
 pub enum Op {
     /// Appends these rows to a hypertable.
     Insert { table: u32, rows: SharedSlice<Row> },
-    /// Takes the rows that pass every test from a hypertable.
+    /// Removes the rows that pass every test from a hypertable.
     Delete { table: u32, tests: Seq<Test> },
 }
 
 /// One step of a history.
 #[derive(Drop, Debug, Clone, PartialEq, Eq)]
 pub enum Event {
-    /// A table was made.
+    /// A table was created.
     Table(TableDef),
-    /// A table was made a hypertable.
+    /// A table became a hypertable.
     Hyper { table: u32, hyper: Hyper },
-    /// An aggregate was made.
+    /// An aggregate was created.
     View(ViewDef),
     /// An aggregate was set to show materialized rows only, or to show new rows too.
     Mode { view: u32, only: bool },

@@ -1,4 +1,4 @@
-//! Checkpoint images: what a later start of a history begins with, instead of its events so far.
+//! Checkpoint images: a later start begins with one instead of the events up to it.
 ghost use Rattle.std.specs.Prelude.{◌≡◌, IfOk};
 
 use crate::events::Event;
@@ -21,7 +21,7 @@ pub struct Sums {
     pub most: Option<i64>,
 }
 
-/// A group that a last refresh has left in a bucket.
+/// A group that the last refresh of a bucket stored.
 #[derive(Drop, Debug, Clone, PartialEq, Eq)]
 pub struct SavedGroup {
     /// The start of the bucket.
@@ -48,7 +48,7 @@ pub struct SavedView {
     pub lasts: Seq<SavedLast>,
     /// The buckets that were touched after their last refresh.
     pub dirty: Seq<Span>,
-    /// What the last refresh of each of these buckets has left.
+    /// The groups that the last refresh of each of these buckets stored.
     pub groups: Seq<SavedGroup>,
     /// The watermark.
     pub mark: Option<i64>,
@@ -63,18 +63,18 @@ pub struct Finished {
     pub built: u64,
 }
 
-/// A history without its events: what a later start begins with.
+/// A history without its events, with which a later start begins.
 #[derive(Drop, Debug, Clone, PartialEq, Eq)]
 pub struct Image {
     /// The position.
     pub pos: u64,
-    /// The events that make the tables, and then the aggregates.
+    /// The events that create the tables, and then the aggregates.
     pub roster: Seq<Event>,
     /// One commit for each table with rows.
     pub rows: Seq<Event>,
     /// What is kept of each aggregate.
     pub views: Seq<SavedView>,
-    /// The refreshes that wait, in rising order of their cuts.
+    /// The waiting refreshes, in rising order of their cuts.
     pub waiting: Seq<Waiting>,
     /// The refreshes that were finished, in rising order of their cuts.
     pub done: Seq<Finished>,
@@ -94,7 +94,7 @@ impl SavedGroup {
 }
 
 impl SavedView {
-    /// The same again.
+    /// A copy of it.
     pub fn copy(&self) -> Result<SavedView, NoMemory>
         ensures same { IfOk result (λ copy. copy ≡ self.now) }
     {

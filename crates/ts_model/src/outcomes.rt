@@ -1,10 +1,10 @@
-//! What calls of a store answer.
+//! What calls of a store return.
 use ts_bucket::Span;
 
 /// Why a statement was refused.
 #[derive(Clone, Copy, Debug, PartialEq, Eq)]
 pub struct Refusal {
-    /// The number of the refusal, as 7 for `E07`.
+    /// The number of the refusal, such as 7 for `E07`.
     pub code: u8,
     /// The read position.
     pub pos: u64,
@@ -12,16 +12,16 @@ pub struct Refusal {
     pub mark: u64,
 }
 
-/// What a call that may make an event answers.
+/// The result of a call that may append an event.
 #[derive(Drop, Debug, PartialEq, Eq)]
 pub enum Outcome<T> {
-    /// It did what it is for.
+    /// The call succeeded.
     Done(T),
     /// It was refused, and nothing changed.
     Refused(Refusal),
     /// The disk failed, and the store is stopped from now on.
     DiskFault,
-    /// There was no memory, and nothing changed.
+    /// It ran out of memory, and nothing changed.
     NoMemory,
 }
 

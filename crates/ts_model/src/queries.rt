@@ -17,9 +17,9 @@ pub enum Query {
     Aggregate { view: u32, starts: Span },
 }
 
-/// What a query shows. Rows of a hypertable come by time and then by their other columns, those of groups by
-/// bucket and then by their keys, and NULL comes last. The stale ranges are of maximal length and leave their
-/// ends out; they rise and don't touch. A query over a hypertable has none.
+/// What a query shows. Rows of a hypertable are ordered by time and then by their other columns, those of
+/// groups by bucket and then by their keys, and NULL comes last. The stale ranges are maximal, rise and don't
+/// touch, and don't include their ends. A query over a hypertable has none.
 #[derive(Drop, Debug)]
 pub struct Answer {
     /// Its rows, in order.

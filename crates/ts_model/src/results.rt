@@ -15,12 +15,12 @@ use std::marker::Model;
 use ts_num::Datum;
 use ts_schema::{NoMemory, Seq};
 
-/// The rows of an answer, as lists of cells: rows whose cells are made, and after them those of groups, whose
-/// cells are made as they are read. So an answer of many groups takes no memory for its cells, nor for groups
-/// that a store keeps, which it shares. Nor does it if only some of their cells are shown.
+/// The rows of an answer, as lists of cells: rows with stored cells, and after them those of groups, whose
+/// cells are computed when they are read. So an answer of many groups takes no memory for its cells, even if
+/// only some of them are shown. It shares groups that a store keeps.
 #[derive(Drop, Debug)]
 pub struct ResultRows {
-    /// Rows whose cells are made.
+    /// Rows with stored cells.
     cells: CellRows<Datum>,
     /// What the groups show.
     aggs: Seq<Agg>,
@@ -47,14 +47,14 @@ impl Model for ResultRows {
 }
 
 impl ResultRows {
-    /// No row. It takes no memory.
+    /// No rows. It takes no memory.
     pub fn none(alloc: Global) -> ResultRows
         ensures rows { result ≡ [] }
     {
         ResultRows::of_cells(alloc, CellRows::new(alloc))
     }
 
-    /// Rows whose cells are made. It takes no memory.
+    /// The answer of rows with stored cells. It takes no memory.
     pub fn of_cells(alloc: Global, cells: CellRows<Datum>) -> ResultRows
         ensures rows { result ≡ cells }
     {
@@ -91,8 +91,8 @@ impl ResultRows {
     }
 
     /// The same rows with the cells at these places, in the order of the places: 0 is the start of the bucket,
-    /// then come the keys, and then what is aggregated. If there is no cell it is NULL. It takes no memory and
-    /// reads no row. As an error the rows themselves, if their cells are made or chosen already.
+    /// then come the keys, and then what is aggregated. A missing cell is NULL. It takes no memory and reads no
+    /// row. Fails with the rows themselves, if their cells are stored or chosen already.
     pub fn choose(self, places: Seq<u32>) -> Result<ResultRows, ResultRows>
         ensures chosen { IfOk result (λ rows. rows ≡ map (chosen_cells places) self) }
         ensures same { IfErr result (λ rows. rows ≡ self) }
@@ -167,8 +167,8 @@ impl<'a> ResultRow<'a> {
         }
     }
 
-    /// The value of the cell at a place: the whole number that it shows, and none for NULL, for a mean and if
-    /// there is no cell.
+    /// The value of the cell at a place: the whole number that it shows, or none for NULL, for a mean and for a
+    /// missing cell.
     #[inline(always)]
     pub fn value_at(&self, place: usize) -> Option<i128>
         ensures value { result ≡ cell_at (row_cells self.now) place }
@@ -196,7 +196,7 @@ fn group_row<'a>(aggs: &'a [Agg], places: &'a Option<Seq<u32>>, group: &'a Group
     }
 }
 
-/// The rows of an answer that are left. Contracts see them as lists of cells.
+/// The remaining rows of an answer. Contracts see them as lists of cells.
 #[derive(Drop)]
 pub struct ResultIter<'a> {
     cells: cell_rows::Iter<'a, Datum>,

@@ -23,7 +23,7 @@ pub struct Fold {
     pub keys: Seq<u32>,
     /// The aggregates, in order.
     pub aggs: Seq<Agg>,
-    /// The tests that a row has to pass.
+    /// The tests that a row must pass.
     pub tests: Seq<Test>,
 }
 

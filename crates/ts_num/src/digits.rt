@@ -1,4 +1,4 @@
-//! The decimal digits of a number, appended to a vector that has room for them.
+//! Appends the decimal digits of a number to a vector with enough room.
 ghost use Rattle.std.specs.Prelude.{◌≡◌, ◌+◌, ◌<◌, ◌≤◌, [], ◌∷◌, ◌++◌, decimal, vec_capacity, vec_len};
 ghost use Rattle.ts_num.specs.Digits.{eight_digits, four_digits, two_digits};
 

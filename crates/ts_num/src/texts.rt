@@ -89,7 +89,7 @@ fn put_null(out: &mut Vec<u8>) -> Result<(), NoMemory>
     Ok(())
 }
 
-/// Appends a ratio whole or not at all, since it makes room for all of it first.
+/// Appends a whole ratio or nothing, since it makes room for all of it first.
 #[inline(never)]
 fn put_ratio(ratio: Frac, out: &mut Vec<u8>) -> Result<(), NoMemory>
     ensures appended { OnOk result (out.new.items ≡ out.old.items ++ ratio_text ratio) }

@@ -13,14 +13,14 @@ pub by_test : {G : Type 0} (t : Bool) → (t ≡ true → G) → (t ≡ false �
 by_test true pass fail = pass refl
 by_test false pass fail = fail refl
 
--- each of two tests passes if both do
+-- if both tests pass, each of them does
 pub and_first : (x y : Bool) → (x && y) ≡ true → x ≡ true
 and_first x y e = (and_parts x y e).0
 
 pub and_second : (x y : Bool) → (x && y) ≡ true → y ≡ true
 and_second x y e = (and_parts x y e).1
 
--- two tests are one if each passes if the other does
+-- two tests are equal if each passes when the other does
 pub same_test : (x y : Bool) → (x ≡ true → y ≡ true) → (y ≡ true → x ≡ true) → x ≡ y
 same_test true y to back = sym (to refl)
 same_test false true to back = back refl

@@ -1,4 +1,4 @@
-//! The one answer when memory runs out.
+//! The error of all crates when memory runs out.
 use std::alloc::{AllocError, AllocFailed};
 
 /// A growth was refused. Everything lent to the call is as before the call, unless the call says otherwise.

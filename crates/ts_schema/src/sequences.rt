@@ -5,7 +5,7 @@ use crate::memory::NoMemory;
 use std::alloc::Global;
 use std::marker::Model;
 
-/// A list of items. It keeps the allocator that it was made with.
+/// A list of items. It keeps the allocator that it was created with.
 #[derive(Drop, Debug)]
 pub struct Seq<T> {
     items: Vec<T>,

@@ -4,8 +4,8 @@ ghost use Rattle.ts_schema.specs.Counts.{one_more};
 
 use std::marker::Model;
 
-/// A count of steps. Making one takes a value of `L`, so code that is generic in `L` can't make one itself, and
-/// counts on the one that it is lent. Contracts see it as the number.
+/// A count of steps. Creating one takes a value of `L`. So code that is generic in `L` can't create one and
+/// must count on the one that it is lent. Contracts see it as the number.
 #[derive(Drop)]
 pub struct Steps<L> {
     name: L,

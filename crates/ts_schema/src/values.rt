@@ -13,13 +13,13 @@ use std::alloc::{AllocError, Global};
 use std::marker::Model;
 use std::sync::Arc;
 
-/// Values in order, where NULL is `None`. One takes 8 bytes, and those up to the last NULL a byte more each:
-/// nearly no table has a NULL. Contracts see the list of them.
+/// Values in order, where NULL is `None`. A value takes 8 bytes. Those up to the last NULL take one more byte
+/// each, since few tables have a NULL. Contracts see the list of values.
 #[derive(Drop, Debug)]
 pub struct ValueBlock {
-    /// The numbers, with 0 in the place of a NULL.
+    /// The numbers, with 0 for each NULL.
     numbers: Vec<i64>,
-    /// For each place up to the last NULL whether NULL is there.
+    /// Whether each value is NULL, up to the last NULL.
     nulls: Vec<bool>,
 }
 
@@ -101,7 +101,7 @@ impl ValueBlock {
         Ok(())
     }
 
-    /// Appends NULL. Marks are made up to its place.
+    /// Appends NULL. Adds marks up to its place.
     fn push_null(&mut self) -> Result<(), NoMemory>
         ensures pushed { IfOk result (λ _. self.new ≡ self.old ++ None ∷ []) }
         ensures kept { OnErr result (self.new ≡ self.old) }
@@ -139,8 +139,8 @@ fn unless_marked(null: bool, number: i64) -> Option<i64>
     if null { None } else { Some(number) }
 }
 
-/// Values that never change: a part of a block, which copies and other parts share. A copy of it takes no
-/// memory but the count of the block's sharers. Contracts see it as the list of its values.
+/// Values that never change: a part of a block, which copies and other parts share. A copy takes no memory
+/// except one more count of the block's sharers. Contracts see it as the list of its values.
 #[derive(Drop, Debug)]
 pub struct Values {
     block: Arc<ValueBlock>,

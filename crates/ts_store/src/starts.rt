@@ -45,7 +45,7 @@ impl<D: Disk> Store<D> {
         ensures counted { CountsStarted result (D.faults disk) (D.faults (disk_of result)) }
     {
         let begun = InitialValue::of(&disk);
-        // A count that is read has 64 bits.
+        // Reading the count tells the prover that it has 64 bits.
         let _faults = disk.faults();
         let Ok(engine) = Engine::new(alloc) else {
             return Started::NoMemory(disk);

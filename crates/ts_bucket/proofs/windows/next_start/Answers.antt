@@ -24,7 +24,7 @@ sum_fits w t b step h le fits-b fits-t is step_is below =
     let positive : pos 0 <ℤ w.step = h.positive in
     omega (arith, ints)
 
--- the code's number, free of its casts
+-- the code's number, without its casts
 sum_is : (b step : ℤ) → FitsSigned w64 b → FitsSigned w64 step → FitsSigned w64 (b +ℤ step) → cast_signed w64 (cast_unsigned w64 (cast_signed w64 (cast_unsigned w64 b) +ℤ cast_signed w64 (cast_unsigned w64 step))) ≡ b +ℤ step
 sum_is b step p q r = omega (arith, ints)
 

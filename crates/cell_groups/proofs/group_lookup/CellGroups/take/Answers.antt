@@ -88,7 +88,7 @@ returns-in_ok-put_last-in-End-clause-few c n rows words =
     subst (λ gs. AreOfRows (n + 1) (as_groups shape gs)) (sym c.in_ok-put_last-in-End.ensures.groups)
     (few-new shape c.args.start c.args.cells c.args.self.now.groups.items n rows words c.group_of.result alone)
 
--- ---- after the others, which aren't in order from here on
+-- ---- after the others, which are no longer in order
 
 pub returns-in_ok-put-in-Unknown-clause-groups : goal.returns-in_ok-put-in-Unknown-clause-groups
 returns-in_ok-put-in-Unknown-clause-groups c =
