@@ -39,7 +39,7 @@ fn answer_rows(alloc: Global, plan: &CalPlan, lower: &ResultRows) -> Result<Resu
     let shape = shape_of(alloc, plan.at, &plan.fold)?;
     let tests = tests_among(alloc, plan.at, plan.fold.tests.items())?;
     let gathered = gather(alloc, plan, &shape, tests.as_slice(), lower)?;
-    // A length that is read has 64 bits, so no count and no sum of rows is too great.
+    // Reading the length tells the prover that it has 64 bits, so no count and no sum of rows is too large.
     let _rows = lower.len();
     match rows_of(alloc, &shape, gathered) {
         Ok(rows) => Ok(ResultRows::of_cells(alloc, rows)),

@@ -36,7 +36,7 @@ pub(crate) fn gather<'a>(
     ensures gathered { IfOk result (λ gathered. AreGathered shape.now gathered) }
     ensures few { IfOk result (λ gathered. AreOfRows (length lower.now) (as_groups shape.now gathered.groups.items)) }
 {
-    // A length that is read has 64 bits, so no count and no sum of rows is too great.
+    // Reading the length tells the prover that it has 64 bits, so no count and no sum of rows is too large.
     let _rows = lower.len();
     let mut gathered = CellGroups::new(alloc);
     let mut bucket = no_bucket();

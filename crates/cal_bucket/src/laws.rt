@@ -42,12 +42,12 @@ pub fn weeks_start_on_mondays()
     ensures mondays { WeeksStartOnMondays }
 {}
 
-/// The name that answers use for the bucket of a time names that bucket.
+/// The name that answers use for the bucket of a time is the name of that bucket.
 pub fn names_are_of_buckets()
     ensures { NamesAreOfBuckets }
 {}
 
-/// What a plan shows over the columns of rows is what it shows over the rows.
+/// A plan shows the same over the columns of rows as over the rows.
 pub fn columns_show_rows()
     ensures { ColumnsShowRows }
 {}

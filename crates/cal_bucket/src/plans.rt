@@ -1,4 +1,4 @@
-//! What a query by buckets of the calendar requests.
+//! Queries by buckets of the calendar.
 use ts_model::Fold;
 
 /// A unit of the calendar, in UTC: a day is 86,400 seconds, a week seven days from a Monday on, and a year twelve

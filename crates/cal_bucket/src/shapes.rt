@@ -1,4 +1,4 @@
-//! A grouping of a table's rows, as one of the cells that show them.
+//! A grouping of a table's rows, as a grouping of their cells.
 ghost use Rattle.std.specs.Prelude.{◌≡◌, IfOk, map};
 ghost use Rattle.cal_bucket.specs.Shapes.{agg_among, place_among, shape_of, test_among};
 

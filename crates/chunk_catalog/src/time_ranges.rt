@@ -113,7 +113,7 @@ fn narrow(times: TimeRange, test: &Test) -> TimeRange
     }
 }
 
-/// What two ranges have in common.
+/// The common part of two ranges.
 fn both(a: TimeRange, b: TimeRange) -> TimeRange
     ensures both { (t : ℤ) → in_reach a t ≡ true → in_reach b t ≡ true → in_reach result t ≡ true }
 {

@@ -80,7 +80,7 @@ module _ (h : History) (ops : List Op) (ok : all_consistent h ≡ true) (fits : 
       by_state (Some hyper) some None s = absurd s
       by_state (Some hyper) some (Some table) s = ap (λ xs. length (all_taken t ops xs)) (rows_are h t table s.rows)
 
--- the sum over lists that go together is the sum over the places
+-- the sum over related lists is the sum over the places
 sums_are : {A B : Type 0} (R : ℕ → A → B → Type 0) (f : ℕ → B → ℕ) (g : ℕ → ℕ) → ((t : ℕ) (a : A) (b : B) → R t a b → f t b ≡ g t) → (i : ℕ) (xs : List A) (ys : List B) → EachFrom R i xs ys → sum_below i g + sum_from f i ys ≡ sum_below (i + length xs) g
 sums_are R f g same i [] [] e = let place : i ≡ i + 0 = omega arith in let sum : sum_below i g + 0 ≡ sum_below i g = omega arith in sum ∙ ap (λ n. sum_below n g) place
 sums_are R f g same i [] (y ∷ ys) e = absurd e

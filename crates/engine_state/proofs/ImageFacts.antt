@@ -86,7 +86,7 @@ no_rows h t s st none = by_hyper (hyper_of (roster h) t) refl
 
 -- ---- last refreshes
 
--- the range of buckets is a span of whole ones
+-- the range of buckets is a span of whole buckets
 pub whole_is : (w : Width) → IsWidth w → IsWholeSpan w (whole_span w)
 whole_is w wide = record { starts = is_bucket-first w wide; ends = is_bucket-range_end w wide; from_first = omega (arith, ints) }
 
@@ -254,6 +254,6 @@ pub mapped_ok : {A B E : Type 0} (r : Result (List B) E) (f : A → B) (xs : Lis
 mapped_ok (Ok ys) f xs P p is = subst P (sym is) p
 mapped_ok (Err e) f xs P p is = tt
 
--- the definition of an aggregate is one
+-- an aggregate has only one definition
 pub one_def : (r : Rattle.ts_model.specs.declared.rosters.Roster.Roster) (n : ℕ) (a b : ViewDef) → view_of r n ≡ Some a → view_of r n ≡ Some b → a ≡ b
 one_def r n a b x y = cc

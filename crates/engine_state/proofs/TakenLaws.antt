@@ -1,4 +1,4 @@
--- Lists that go together place by place, taken item by item.
+-- Lists related place by place, read item by item.
 use Rattle.std.proofs.Common.{◌≡◌, ℕ, zero, suc, ◌+◌, ◌<◌, ◌≤◌, List, [], ◌∷◌, ◌++◌, length, get_or, take, sym, refl, ap, ◌∙◌, subst, arith}
 use Rattle.std.specs.List.{AllByRecursion}
 use Rattle.std.proofs.lemmas.List.{take_more}
@@ -14,7 +14,7 @@ taken_length (x ∷ xs) (suc i) l = ap suc (taken_length xs i (omega arith))
 one_more : {A : Type 0} (xs : List A) (i : ℕ) (x : A) → i < length xs → x ≡ get_or xs i x → take (i + 1) xs ≡ take i xs ++ (x ∷ [])
 one_more xs i x l is = take_more xs i x l ∙ ap (λ y. take i xs ++ (y ∷ [])) (sym is)
 
--- one more item of the first list, and what goes with it
+-- one more item of the first list, and the item related to it
 pub each_taken : {A B : Type 0} (R : ℕ → A → B → Type 0) (xs : List A) (ys : List B) (i : ℕ) (x : A) (y : B) → i < length xs → x ≡ get_or xs i x → Each R (take i xs) ys → R i x y → Each R (take (i + 1) xs) (ys ++ (y ∷ []))
 each_taken R xs ys i x y l is e r =
     let long : length (take i xs) ≡ i = taken_length xs i (omega (arith, l)) in

@@ -26,7 +26,7 @@ use ts_bucket::Span;
 use ts_model::{Image, SavedGroup, SavedLast, SavedView, Sums, ViewDef};
 use ts_schema::{NoMemory, Seq, SharedSlice};
 
-/// What is kept of the columns of a group.
+/// The saved totals of the columns of a group.
 fn partials(alloc: Global, sums: &[Sums]) -> Result<Seq<Partial>, NoMemory>
     requires bounded { list_all sums_fit sums.now ≡ true }
     ensures { IfOk result (λ parts. parts ≡ map summary_of sums.now) }
@@ -127,8 +127,8 @@ fn view_from_image(
     ViewState::of(alloc, def.table, log, groups, saved.mark)
 }
 
-/// The states of the aggregates of the history that begins with an image, if its parts have the states of the
-/// tables, and these are the groups of all rows.
+/// The states of the aggregates of the history that begins with an image, given the states of its tables, and
+/// the groups of all rows.
 pub(crate) fn views_from_image(
     alloc: Global,
     parts: &StateParts,

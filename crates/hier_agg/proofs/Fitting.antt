@@ -1,4 +1,4 @@
--- A roll-up that isn't refused fits, and adds up by the functions that are written.
+-- A roll-up that isn't refused fits, and adds up by the functions in the statement.
 use Rattle.std.proofs.Common.{◌≡◌, ◌∙◌, refl, sym, subst, ap, ap₂, ℕ, zero, suc, ◌-◌, ◌<◌, ◌≤◌, Bool, true, false, cond, not, ◌&&◌, List, [], ◌∷◌, map, length, Option, Some, None, is_some, arith, ℤ, ◌-ℤ◌}
 use Rattle.std.specs.Prelude.{nat_lt, nat_le, unwrap_or}
 use Rattle.std.specs.List.{AllByRecursion}
@@ -38,7 +38,7 @@ use Rattle.ts_schema.specs.Counts.{raised_by}
 
 -- ---- functions
 
--- what fits adds up
+-- functions that fit add up
 fits_adds : (f g : Fun) → fits f g ≡ true → (is_additive g ≡ true) × (f ≡ added_by g)
 fits_adds CountAll g e = absurd (cc e)
 fits_adds Count g e = absurd (cc e)

@@ -1,4 +1,4 @@
--- Grouping groups more coarsely: what one more group makes of it, and that it gives the groups of the rows.
+-- Grouping groups more coarsely: the effect of one more group, and that the result is the groups of the rows.
 use Rattle.std.proofs.Common.{◌≡◌, ℕ, zero, suc, ◌-◌, ◌<◌, Bool, true, false, cond, ◌&&◌, List, [], ◌∷◌, map, length, get_or, Option, None, ℤ, sym, refl, ap, ◌∙◌, arith}
 use Rattle.std.specs.List.{AllByRecursion}
 use Rattle.std.specs.declared.cmp.Ordering.TheVariants.{Equal}
@@ -68,7 +68,7 @@ tied_same g h p q = rw (p, q) (tied_itself group_cmp_total h)
 -- ---- one group more
 
 module _ (lower : Fold) (plan : UpperPlan) where
-  -- groups that have absorbed one more, if its keys pass
+  -- groups with one more added, if its keys pass
   abbrev pub took : Group → List Group → List Group
   took g groups = cond (keys_pass plan.tests g.keys) (with_group (coarse lower plan g) groups) groups
 
@@ -87,7 +87,7 @@ module _ (lower : Fold) (plan : UpperPlan) where
       both false true = refl
       both false false = refl
 
-  -- two groups of one place, coarse and merged or merged and coarse
+  -- two groups of one place: making them coarse and merging them commute
   coarse-merged : (g h : Group) → length g.parts ≡ length h.parts → coarse lower plan (merge_of g h) ≡ merge_of (coarse lower plan g) (coarse lower plan h)
   coarse-merged g h e =
       let made : List Summary → Group = λ ps. record { start = bucket_of plan.width g.start; keys = map (λ k. get_or g.keys k None) plan.keys; parts = ps } in
@@ -104,7 +104,7 @@ module _ (lower : Fold) (plan : UpperPlan) where
       rw (s, t) (ap (λ m. with_group m groups) (coarse-merged g h same) ∙ with_group-twice (coarse lower plan g) (coarse lower plan h) groups tied))
       (λ t. let s : keys_pass plan.tests g.keys ≡ false = tests ∙ t in rw (s, t) refl)
 
-  -- a group inserted into its place among groups, and the groups grouped more coarsely
+  -- a group inserted in its place among groups, and the groups grouped more coarsely
   regroup-with_group : (n : ℕ) (g : Group) (gs : List Group) → length g.parts ≡ n → HaveParts n gs → regroup lower plan (with_group g gs) ≡ took g (regroup lower plan gs)
   regroup-with_group n g [] p h = regroup-more g []
   regroup-with_group n g (x ∷ xs) p h =

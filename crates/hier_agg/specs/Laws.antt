@@ -53,8 +53,8 @@ RollUpsShowTheComposedFold =
     (lower : Fold) (plan : UpperPlan) (rows : List Row) → PlanFits lower plan
     → upper_rows lower plan (fold_rows lower rows) ≡ fold_rows (composed_fold lower plan) rows
 
--- a wider bucket in which an answer shows the rows of the lower fold shows the aggregation from scratch under the
--- composed fold, whatever the answer shows elsewhere
+-- a wider bucket in which an answer shows the rows of the lower fold shows the aggregation from scratch under
+-- the composed fold, for any answer elsewhere
 abbrev pub WiderBucketsShowTheComposedFold : Type 0
 WiderBucketsShowTheComposedFold =
     (lower : Fold) (plan : UpperPlan) (rows : List Row) (found : List (List Datum)) (b : ℤ) → PlanFits lower plan
@@ -62,8 +62,8 @@ WiderBucketsShowTheComposedFold =
     → rows_within plan.width b found ≡ rows_within plan.width b (fold_rows lower rows)
     → rows_within plan.width b (upper_rows lower plan found) ≡ scratch_of (composed_fold lower plan) b rows
 
--- so a roll-up whose composed fold is the lower one itself, which has its width, all its keys and columns and
--- no test, shows of a bucket what the lower answer shows of it, of any rows; and it names the same ranges stale
+-- a roll-up with the lower width, all keys and columns and no test has the lower fold as its composed fold. So
+-- it shows for each bucket what the lower answer shows, for any rows, and names the same ranges stale
 pub record WholeRollUpsShowTheLowerAnswer : Type 0 where
   pub rows :
       (lower : Fold) (plan : UpperPlan) (rows : List Row) (found : List (List Datum)) (b : ℤ) → PlanFits lower plan
@@ -117,13 +117,13 @@ AnswersShowGroups =
     (n : ℕ) (h : History) (starts : Span) (def : ViewDef) → all_consistent h ≡ true → view_of (roster h) n ≡ Some def
     → AreRowsOf def.fold (answer_of_view n h starts (Some def)).rows
 
--- so the roll-up by a plan that takes all of an aggregate is the aggregate's answer
+-- so the roll-up by a plan that takes everything of an aggregate is the aggregate's answer
 abbrev pub WholeRollUpsAreTheLowerAnswer : Type 0
 WholeRollUpsAreTheLowerAnswer =
     (lower : Fold) (plan : UpperPlan) (shown : Answer) → IsWidth lower.width → takes_all lower plan ≡ true
     → AreRowsOf lower shown.rows → AreWholeRanges lower.width shown.stale → upper_answer lower plan shown ≡ shown
 
--- and by a plan that keeps its groups it is that answer with cells chosen
+-- and the roll-up by a plan that keeps its groups is that answer with cells chosen
 abbrev pub RollUpsOfGroupsChooseCells : Type 0
 RollUpsOfGroupsChooseCells =
     (lower : Fold) (plan : UpperPlan) (shown : Answer) → IsWidth lower.width → takes_groups lower plan ≡ true

@@ -72,7 +72,7 @@ fn rolled_rows(
     }
 }
 
-/// For how many result rows to reserve room: if the buckets stay as wide, each row may be one.
+/// The number of result rows to reserve room for: each row may be one if the buckets stay as wide.
 fn room_for(plan: &UpperPlan, lower: &Fold, rows: &ResultRows) -> usize {
     if plan.width.step == lower.width.step {
         return rows.len();
@@ -80,7 +80,7 @@ fn room_for(plan: &UpperPlan, lower: &Fold, rows: &ResultRows) -> usize {
     0
 }
 
-/// The same, however the groups of the rows come.
+/// The same, for groups in any order.
 fn gathered_rows(
     alloc: Global,
     plan: &UpperPlan,
@@ -97,7 +97,7 @@ fn gathered_rows(
     }
 }
 
-/// The function that the lower fold has for a column after its keys.
+/// The function of the lower fold for a column after its keys.
 pub(crate) fn function_at(lower: &Fold, col: u32) -> Fun
     ensures { result ≡ (agg_at lower.now col).fun }
 {

@@ -8,7 +8,7 @@ pub fn buckets_nest()
     ensures { BucketsNest }
 {}
 
-/// Grouping the groups of rows more coarsely gives the groups of the rows under the composed fold.
+/// Grouping the groups of rows more coarsely results in the groups of the rows under the composed fold.
 pub fn grouping_in_two_steps()
     ensures { GroupingInTwoSteps }
 {}
@@ -68,7 +68,7 @@ pub fn plans_fit()
     ensures { PlansFit }
 {}
 
-/// A roll-up that isn't refused adds up by the functions that are written.
+/// A roll-up that isn't refused adds up by the functions in the statement.
 pub fn functions_add_up()
     ensures { FunctionsAddUp }
 {}

@@ -93,7 +93,7 @@ fn assign_runs(edges: &mut Vec<Edge>, span: Span, pos: u64, start: Option<i64>, 
     close_run(edges, run, span.hi, pos);
 }
 
-/// The start of the run that is open at the start of a span, if one is: the floor has this value there.
+/// The start of the run that is open at the start of a span, if one is. `value` is that of the floor there.
 fn run_at_start(value: Option<u64>, span: Span, pos: u64) -> Option<i64>
     ensures { result ≡ run_on span pos value }
 {

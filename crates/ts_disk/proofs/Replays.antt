@@ -50,7 +50,7 @@ module _ (first : List ℕ) (acts : List Act) (i since : ℕ) (synced now : List
         in_acts = omega arith;
       }
 
--- a write that begins after the end is one at the end
+-- a write that begins after the end is like one at the end
 pub written-min : (file : List ℕ) (at : ℕ) (piece : List ℕ) → file_after_write file (min (length file) at) piece ≡ file_after_write file at piece
 written-min file at piece = elim (cases_lt (length file) at) [
   | inl past ↦

@@ -1,4 +1,4 @@
--- What is true of the images of a disk in memory at each moment.
+-- Properties of the images of a disk in memory at each moment.
 use Rattle.std.proofs.Common.{◌≡◌, ◌⊎◌, inl, inr, ℕ, ◌+◌, ◌-◌, ◌<◌, ◌≤◌, Bool, true, false, ◌||◌, min, List, [], ◌∷◌, ◌++◌, length, take, drop, get_or, refl, sym, ◌∙◌, ap, subst, arith, length-append, length-take, length-drop}
 use Rattle.std.proofs.lemmas.Bool.Decides.{nat_tests}
 use Rattle.std.proofs.lemmas.List.{take_all, get_or_append_left, get_or-append_right, get_or-take, get_or-drop}
@@ -21,7 +21,7 @@ length-written file at piece =
 pub length-written-le : (file : List ℕ) (at : ℕ) (piece : List ℕ) → length file ≤ length (file_after_write file at piece)
 length-written-le file at piece = omega (arith, length-written file at piece)
 
--- bytes outside of a write stay
+-- bytes outside a write stay
 pub get_or-written :
     (file : List ℕ) (at : ℕ) (piece : List ℕ) (i : ℕ) → i < length file → (i < at) ⊎ (at + length piece ≤ i)
     → get_or (file_after_write file at piece) i 0 ≡ get_or file i 0

@@ -39,7 +39,7 @@ sound_begins b sound = record { allowed = allowed_begins b sound.allowed; formed
 pub sound_start : IsSound start
 sound_start = record { allowed = refl; formed = tt }
 
--- one event more
+-- one more event
 pub sound_push : (h : History) (e : Event) → IsSound h → IsTrue (allowed h e) → IsFormed e → IsSound (h ▸ e)
 sound_push h e sound fits formed = record { allowed = and_from (all_allowed h) (allowed h e) sound.allowed fits; formed = (sound.formed, formed) }
 

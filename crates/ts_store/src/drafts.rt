@@ -44,7 +44,7 @@ pub(crate) fn spelling_law(engine: &Engine, event: &Event)
     ensures formed { IsFormed event.now }
     ensures few { event_bytes event.now < 2 ^ 32 }
 {
-    // A position that is read has 64 bits.
+    // Reading the position tells the prover that it has 64 bits.
     let _position = engine.length();
     sound_events_are_formed();
 }

@@ -98,7 +98,7 @@ impl<D: Disk> Store<D> {
         ensures any_moment { Rests D.bytes D.may_leave self.old
             → LeavesOnly D.moment D.left_since self.old.journal.disk self.new.journal.disk
             (λ file. Stands file (history_seen self.old)) }
-        // Reads give such a file too, whether or not all of it was on the disk.
+        // Reads also return such a file, whether or not all of it was on the disk.
         ensures shown { Tells D.bytes self.old
             → IsSomeAnd (D.bytes self.new.journal.disk) (λ file. Stands file (history_seen self.old)) }
         // If each image since an earlier moment contains a history that begins with `h`, each still does.

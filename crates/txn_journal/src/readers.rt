@@ -21,10 +21,10 @@ use ts_schema::Seq;
 #[derive(Drop)]
 pub struct Reader<D: Disk> {
     disk: D,
-    /// How the file begins: bare or ready.
+    /// The beginning of the file: bare or ready.
     standing: JournalState,
     version: Version,
-    /// How many bytes the file had when its length was last read.
+    /// The number of bytes of the file when its length was last read.
     size: u64,
     /// The place of the next commit byte.
     at: u64,
@@ -52,11 +52,11 @@ impl<D: Disk> Model for Reader<D> {
     ghost invariant = { λ r. IsReading (D.bytes r.disk) r.standing r.size r.at };
 }
 
-/// What one step of reading found.
+/// The result of one step of reading.
 #[derive(Clone, Copy, Debug, PartialEq, Eq)]
 pub enum Next {
-    /// A base, which `Reader::payload` returns, with the place of its commit byte. What was read before it no
-    /// longer counts.
+    /// A base, which `Reader::payload` returns, with the place of its commit byte. Payloads read before it no
+    /// longer count.
     Base(u64),
     /// Another payload, which `Reader::payload` returns, with the place of its commit byte.
     Payload(u64),
@@ -66,7 +66,7 @@ pub enum Next {
     Damaged(u64),
     /// The disk failed. The next step tries again.
     DiskFault,
-    /// There is no memory for the payload. The next step tries again.
+    /// It ran out of memory for the payload. The next step tries again.
     NoMemory,
 }
 
