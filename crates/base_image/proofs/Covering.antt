@@ -25,7 +25,7 @@ use Rattle.ts_model.proofs.RangeLaws.{among, among-buckets_in}
 use Rattle.base_image.specs.Rising.{are_rising, cover_from, spans_of}
 use Rattle.base_image.proofs.Searching.{rising_head, rising_tail, below_later, lasts_hold}
 
--- ---- what is covered lies in a range
+-- ---- covered numbers lie in a range
 
 ended_before : (until from : ℤ) → int_le until from ≡ false → from <ℤ until
 ended_before until from e = grind (arith, ints)
@@ -53,7 +53,7 @@ covered from until b (s ∷ ss) c low high =
     ) (λ here. or_left (in_span s b) (lies_in ss b) (in_span-from_ends s b (omega (arith, ints)) (ended_before s.hi b here)))
     )
 
--- ---- and if a number isn't covered, a bucket lies in none
+-- ---- and if a number isn't covered, some bucket lies in no range
 
 record Gap (w : Width) (from until : ℤ) (ss : List Span) : Type 0 where
   bucket : ℤ

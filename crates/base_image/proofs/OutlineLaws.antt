@@ -1,4 +1,4 @@
--- The rows of a state, table by table, beside the image that holds them.
+-- The rows of a state, table by table, compared with the image that holds them.
 use Rattle.std.proofs.Common.{◌≡◌, ℕ, zero, suc, ◌+◌, ◌-◌, ◌*◌, ◌^◌, ◌<◌, ◌≤◌, ◌==◌, add-one, Bool, true, false, not, cond, List, [], ◌∷◌, ◌++◌, take, length, length-append, get_or, min, refl, sym, ap, ◌∙◌, append_assoc, subst, arith}
 use Rattle.std.specs.Prelude.{sum_by}
 use Rattle.std.specs.List.{AllByRecursion, count_by, flat_map}
@@ -30,7 +30,7 @@ use Rattle.base_image.proofs.TakingLaws.{one_more_held}
 
 -- ---- spans
 
--- what is made of one item more
+-- the results with one more item
 pub more_made : {X Y : Type 0} (f : X → List Y) (xs : List X) (i : ℕ) (x : X) → i < length xs → x ≡ get_or xs i x → flat_map f (take i xs) ++ f x ≡ flat_map f (take (i + 1) xs)
 more_made f xs i x l is = step xs i l is ∙ ap (λ n. flat_map f (take n xs)) (sym (add-one i))
   where

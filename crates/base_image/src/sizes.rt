@@ -1,4 +1,4 @@
-//! How many bytes an image has, or the greatest number of 64 bits if there are more.
+//! The number of bytes of an image, or the greatest number of 64 bits if there are more.
 ghost use Rattle.std.specs.Prelude.{◌≡◌, ◌-◌, ◌^◌, ◌*◌, length, min, sum_by};
 ghost use Rattle.base_image.specs.Counting.{framed_bytes, group_bytes, image_bytes, saved_bytes, sums_bytes};
 ghost use Rattle.base_image.specs.Spelling as spelling;

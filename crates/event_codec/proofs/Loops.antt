@@ -10,7 +10,7 @@ module _ {A : Type 0} (p : Reads A) where
   abbrev Many : Type 0
   Many = Result (List A × List ℕ) (List ℕ)
 
-  -- what was read before, and what is still read
+  -- the items read before, and those still to be read
   abbrev pub with_front : List A → Many → Many
   with_front front read = go_on read (λ others end. Ok (front ++ others, end))
 

@@ -148,7 +148,7 @@ number_of Ge = any_word_format
 number_of IsNull = between_format (pos 0) (pos 0) (omega (arith, ints)) (omega (arith, ints)) (omega (arith, ints))
 number_of NotNull = between_format (pos 0) (pos 0) (omega (arith, ints)) (omega (arith, ints)) (omega (arith, ints))
 
--- there is such a number
+-- such a number exists
 pub number_range : (c : Cmp) → least_number c ≤ℤ most_number c
 number_range Eq = omega (arith, ints)
 number_range Ne = omega (arith, ints)

@@ -11,7 +11,7 @@ pub fn no_event_begins_another()
     ensures { NoneBeginsAnother }
 {}
 
-/// Each sound event of a consistent history whose position is a number of 64 bits can be encoded.
+/// Each sound event of a consistent history whose position has 64 bits can be encoded.
 pub fn sound_events_are_formed()
     ensures { SoundAreFormed }
 {}

@@ -1,4 +1,4 @@
-//! Whether the groups of an image have few rows, as those of a valid one do.
+//! Checks that the groups of an image have few rows, as in a valid image.
 ghost use Rattle.std.specs.Prelude.{◌≡◌, List, true};
 ghost use Rattle.base_image.specs.Outlines.{with_rows};
 ghost use Rattle.ts_model.specs.declared.events.Event.{Event};

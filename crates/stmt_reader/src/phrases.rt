@@ -23,7 +23,7 @@ pub trait Phrase {
     /// The value of the tokens in front, and the tokens after them.
     ghost phrase: { Parser Self };
 
-    /// Reads it.
+    /// Reads a value.
     fn read(reader: &mut Reader<'_>) -> Result<Self, ReadError>
         ensures { Gives result (phrase (ahead reader.old)) (ahead reader.new) };
 

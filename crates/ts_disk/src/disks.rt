@@ -75,7 +75,7 @@ pub trait Disk {
     /// This moment is one of those since an earlier one.
     ghost counts_now: { (disk : Self) (t : ℕ) (c : List ℕ) → t ≤ moment disk → may_leave disk c → left_since disk t c };
 
-    /// This is the only moment since this one.
+    /// No moment is later than this one.
     ghost only_now: { (disk : Self) (c : List ℕ) → left_since disk (moment disk) c → may_leave disk c };
 
     /// A crash may leave the bytes that a read returns.

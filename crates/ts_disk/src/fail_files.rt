@@ -43,7 +43,7 @@ impl FailFile {
         }
     }
 
-    /// Returns the bytes that a read returns.
+    /// Returns the bytes as reads return them.
     pub fn bytes(&self) -> &[u8]
         ensures { result.now ≡ self.now.bytes }
     {

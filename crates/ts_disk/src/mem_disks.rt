@@ -62,7 +62,7 @@ impl MemDisk {
         }
     }
 
-    /// Returns the bytes that a read returns.
+    /// Returns the bytes as reads return them.
     pub fn bytes(&self) -> &[u8]
         ensures { result.now ≡ content self.now }
     {

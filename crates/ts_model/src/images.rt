@@ -41,7 +41,7 @@ pub struct SavedLast {
     pub pos: u64,
 }
 
-/// What is kept of an aggregate.
+/// The saved parts of an aggregate.
 #[derive(Drop, Debug, Clone, PartialEq, Eq)]
 pub struct SavedView {
     /// The last refreshes, in rising order of their buckets.
@@ -72,7 +72,7 @@ pub struct Image {
     pub roster: Seq<Event>,
     /// One commit for each table with rows.
     pub rows: Seq<Event>,
-    /// What is kept of each aggregate.
+    /// The saved parts of each aggregate.
     pub views: Seq<SavedView>,
     /// The waiting refreshes, in rising order of their cuts.
     pub waiting: Seq<Waiting>,

@@ -1,4 +1,4 @@
--- What the calls of a store leave on its disk, whenever a crash comes.
+-- The effect of a store's calls on its disk, for a crash at any moment.
 use Rattle.std.specs.Prelude.{◌≡◌, ℕ, ◌≤◌, List, Option, None, IsSome}
 use Rattle.ts_disk.specs.CrashImage.{LeavesOnly}
 use Rattle.ts_model.specs.declared.events.Event.{Event}
@@ -8,7 +8,7 @@ use Rattle.txn_journal.specs.declared.journals.Append.TheVariants.{Done, DiskFau
 use Rattle.ts_store.specs.Images.{BeginSince, StandsForEither, latest}
 use Rattle.ts_store.specs.Stores.{StoreValue, Rests, Tells, history_seen}
 
--- what a call that makes at most one event leaves
+-- the effect of a call that appends at most one event
 pub record IsSafe {D : Type 0} (bytes : D → Option (List ℕ)) (may_leave : D → List ℕ → Type 0) (moment : D → ℕ)
     (left_since : D → ℕ → List ℕ → Type 0) (old new : StoreValue D) : Type 0 where
   -- a crash at any moment leaves a file that contains the history at entry, or that with the one event

@@ -82,7 +82,7 @@ is_still Bare = false
 is_still Ready = false
 is_still Still = true
 
--- its journal didn't stop, and reads of it give the events of the history
+-- its journal didn't stop, and reads of it return the events of the history
 abbrev pub Tells : {D : Type 0} → (D → Option (List ℕ)) → StoreValue D → Type 0
 Tells bytes s = IsTold bytes s.journal (content_of (history_seen s))
 

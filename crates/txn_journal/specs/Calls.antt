@@ -56,7 +56,7 @@ IsCounted Done before now = now ≡ before
 IsCounted DiskFault before now = Rose before now
 IsCounted Stopped before now = now ≡ before
 
--- P if all was done, and Q if the journal had stopped
+-- P if all was done; the second one is P if the journal had stopped
 abbrev pub IfDone : Append → Type 0 → Type 0
 IfDone Done P = P
 IfDone DiskFault P = ⊤

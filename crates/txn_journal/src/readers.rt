@@ -93,9 +93,10 @@ impl<D: Disk> Reader<D> {
         }
     }
 
-    /// Reads the next payload. After `Base` and `Payload` others may follow. After each other answer the reader
+    /// Reads the next payload. After `Base` and `Payload` others may follow. After any other result the reader
     /// stays at the same commit byte, and the next step begins there. Meanwhile another process may write the
-    /// first base of the file, which raises the journal to version 2. Contracts over known bytes don't show that.
+    /// first base of the file, which raises the journal to version 2. Contracts about known bytes don't cover
+    /// that.
     pub fn next(&mut self) -> Next
         ensures steps { (file : List ℕ) (content : Content) → HasRead D.bytes self.old file content
             → Steps D.bytes result file content self.old self.new }
@@ -144,7 +145,7 @@ impl<D: Disk> Reader<D> {
         }
     }
 
-    /// Returns the payload of the last step, if that answered `Base` or `Payload` and `take_out` wasn't called
+    /// Returns the payload of the last step, if that returned `Base` or `Payload` and `take_out` wasn't called
     /// since. After `DiskFault` and `NoMemory` it may be any bytes.
     pub fn payload(&self) -> &[u8]
         ensures payload { result.now ≡ self.now.payload }
@@ -152,7 +153,7 @@ impl<D: Disk> Reader<D> {
         &self.payload
     }
 
-    /// Takes the same payload out of the reader, which no longer holds it.
+    /// Removes the same payload from the reader and returns it.
     pub fn take_out(&mut self, alloc: Global) -> Seq<u8>
         ensures payload { result ≡ self.old.payload }
         ensures disk { self.new.disk ≡ self.old.disk }
@@ -211,7 +212,7 @@ fn read_payload<D: Disk>(disk: &mut D, at: u64, count: u64, payload: &mut Vec<u8
     }
 }
 
-/// Returns the version of a journal of which this payload was read. No event begins as a base does. If the
+/// Returns the version of a journal from which this payload was read. No event begins like a base. If the
 /// payload of a journal of version 1 does, another process may have raised the version since it was read, so
 /// this function reads it again.
 fn version_now<D: Disk>(disk: &mut D, version: Version, payload: &[u8]) -> Result<Version, Failed>
