@@ -62,7 +62,7 @@ pub record IsFormed (i : Image) : Type 0 where
   pub waiting : Many IsWaiting i.waiting
   pub done : Many IsFinished i.done
 
--- ---- images that can be written; the numbers of a value of the code are in range, so only counts and events need conditions
+-- ---- images that can be written: conditions on counts and events, since all numbers of the code are in range
 
 -- the counts of the saved parts of an aggregate fit their fields
 pub record HasCounts (v : SavedView) : Type 0 where

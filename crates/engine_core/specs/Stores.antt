@@ -1,4 +1,4 @@
--- The state of a store in memory with a single user.
+-- The state of a store in memory that only its owner changes.
 use Rattle.std.specs.Prelude.{ℕ, suc, true, List, [], ◌∷◌, ◌++◌, None}
 use Rattle.ts_model.specs.declared.outcomes.Outcome.{Outcome}
 use Rattle.ts_model.specs.History.{History, start, resumed, ◌▸◌, position}
@@ -21,6 +21,6 @@ numbers_of (h ▸ e) = numbers_of h ++ (suc (position h) ∷ [])
 abbrev pub state_of : History → State
 state_of h = record { history = h; failed = None; faults = 0; made = numbers_of h; origin = nothing_before }
 
--- a call that does this, on an engine in memory with a single user
+-- a call that does this, on an engine in memory that only the caller changes
 abbrev pub EngineDoes : {A : Type 0} → (History → Act A) → Past → Outcome A → Past → Type 0
 EngineDoes act old outcome new = Called true (state_of (history_of old)) act outcome (state_of (history_of new))

@@ -1,4 +1,4 @@
-//! Calls that append one event to an engine with a single user.
+//! Calls that append one event to an engine that only the caller changes.
 ghost use Rattle.std.specs.Prelude.{◌≡◌, IsSome, IsTrue};
 ghost use Rattle.std.specs.Option.{ForSome};
 ghost use Rattle.ts_bucket.specs.Bucket.{is_time};

@@ -118,7 +118,7 @@ module _ {D : Type 0} (bytes : D → Option (List ℕ)) (may_leave : D → List 
       stands_at_rest : (s : StoreValue D) (sound : IsSound (history_seen s)) (rest : Rests bytes may_leave s) → Stands rest.tells.file (history_seen s)
       stands_at_rest s sound rest = record { holds = lies_stands s.journal.standing s.journal.version rest.tells.file s.journal.end (content_of (history_seen s)) rest.tells.lies; sound = sound }
 
-  -- ---- the invariant of a store is kept by a call whose images are those of the history at entry, or of that history with its event
+  -- ---- a safe call keeps the invariant of a store
 
   pub kept_after : (old new : StoreValue D) → Kept old → old.failed ≡ None
       → (Rests bytes may_leave old → LeavesOnly moment left_since old.journal.disk new.journal.disk (StandsForEither (history_seen old) (latest (history_seen new) new.failed)))
