@@ -84,7 +84,7 @@ fn read_kind(reader: &mut Reader<'_>) -> Result<u8, ReadError>
     Ok(*byte)
 }
 
-/// Reads the events that create a roster, and makes it.
+/// Reads the events that create a roster, and builds the roster.
 #[tactic(auto, unfolding(crate::specs::Reading::roster_at))]
 fn read_roster(reader: &mut Reader<'_>) -> Result<(Seq<Event>, Roster), ReadError>
     ensures { Gives result (roster_at reader.old) reader.new }

@@ -13,7 +13,7 @@ list_value_code {X} x =
     code_by (List X × ℕ) (coded× (coded_list x) coded_ℕ) (λ v. (v.items, v.room))
     (λ p. record { items = p.0; room = p.1 }) (λ _. refl)
 
--- how many more items fit after a given number of in a vector of this capacity, up to a whole block
+-- how many more items fit after this many in a vector of this capacity, up to a whole block
 abbrev pub room_of : ℕ → ℕ → ℕ
 room_of len capacity = min capacity block_len - len
 

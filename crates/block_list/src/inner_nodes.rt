@@ -20,7 +20,7 @@ pub(crate) type InnerNode<T> = Parts<Block<T>>;
 /// Inner nodes, in order.
 type Shelves<T> = Parts<InnerNode<T>>;
 
-/// Blocks in inner nodes that grow: all inner nodes but the last are closed, and the last is open.
+/// Blocks in inner nodes that grow: all inner nodes except the last are closed, and the last is open.
 #[derive(Drop, Debug)]
 pub(crate) struct NodeBuilder<T> {
     alloc: Global,

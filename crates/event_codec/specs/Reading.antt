@@ -40,7 +40,7 @@ Gives (Ok a) read left = read ≡ Ok (a, left)
 Gives (Err errors.Memory) read left = Unit {0}
 Gives (Err errors.Bad) read left = read ≡ Err left
 
--- the result of a function of the code, mapped, is what reading gives
+-- the result of a function of the code, mapped, is that of reading
 abbrev pub Matches :
     {X Y A : Type 0} → (X → A × List ℕ) → (Y → List ℕ) → Result X Y → Result (A × List ℕ) (List ℕ) → Type 0
 Matches view end (Ok x) read = read ≡ Ok (view x)

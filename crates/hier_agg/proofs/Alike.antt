@@ -19,7 +19,7 @@ use Rattle.hier_agg.specs.Plans.{added_by, is_additive}
 
 -- ---- one part
 
--- if there are no values the sum is 0
+-- if there are no values, the sum is 0
 abbrev pub NoneIsZero : Summary → Type 0
 NoneIsZero q = q.values ≡ 0 → q.sum ≡ pos 0
 

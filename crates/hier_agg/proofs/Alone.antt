@@ -1,5 +1,4 @@
--- The roll-up by a plan that takes everything of an aggregate: each row is alone in its group, and is shown
--- unchanged.
+-- The roll-up by a plan that takes all of an aggregate: each row is alone in its group, and is shown unchanged.
 use Rattle.std.proofs.Common.{◌≡◌, ℕ, zero, suc, ◌==◌, List, [], ◌∷◌, ◌++◌, map, length, drop, true, Option, None, ℤ, sym, refl, ap, ◌∙◌, arith}
 use Rattle.std.proofs.lemmas.Bool.{and_parts, eqb-true}
 use Rattle.std.proofs.lemmas.List.{append-nil}

@@ -16,7 +16,7 @@ use Rattle.hier_agg.specs.Taken.{row_group_of, row_passes}
 abbrev pub made_of : UpperPlan → Shape → List (List Datum) → List Group → List Group
 made_of plan shape rows groups = with_rows (row_passes plan) (row_group_of plan shape) rows groups
 
--- the groups of the rows read so far are written, and with the rows left they give the whole
+-- the groups of the rows read so far are written, and with the rows left they make up the whole
 pub record AreOnTheWay (plan : UpperPlan) (shape : Shape) (all left : List (List Datum)) (rows : List (List Datum)) (last : Option CellGroup) : Type 0 where
   pub groups : List Group
   pub written : AreWritten shape groups rows last
@@ -43,7 +43,7 @@ module _ (plan : UpperPlan) (shape : Shape) (all : List (List Datum)) where
   way_ends left rows shown last is end w =
       end w.groups w.written ∙ ap (rows_shown shape) (sym (ap (λ ls. made_of plan shape ls w.groups) is) ∙ w.whole)
 
--- if no group was written there is no last one
+-- if no group was written, there is no last one
 pub none_last : (shape : Shape) (rows : List (List Datum)) (last : Option CellGroup) → AreWritten shape [] rows last → IfSome last (HasTallies shape.aggs)
 none_last shape rows None w = tt
 none_last shape rows (Some g) w = absurd (omega (arith, simp length-append at (ap length w.all)))

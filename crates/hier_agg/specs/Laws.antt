@@ -117,7 +117,7 @@ AnswersShowGroups =
     (n : ℕ) (h : History) (starts : Span) (def : ViewDef) → all_consistent h ≡ true → view_of (roster h) n ≡ Some def
     → AreRowsOf def.fold (answer_of_view n h starts (Some def)).rows
 
--- so the roll-up by a plan that takes everything of an aggregate is the aggregate's answer
+-- so the roll-up by a plan that takes all of an aggregate is the aggregate's answer
 abbrev pub WholeRollUpsAreTheLowerAnswer : Type 0
 WholeRollUpsAreTheLowerAnswer =
     (lower : Fold) (plan : UpperPlan) (shown : Answer) → IsWidth lower.width → takes_all lower plan ≡ true

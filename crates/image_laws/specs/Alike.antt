@@ -1,4 +1,4 @@
--- Histories that are alike: from now on, both give the same answers.
+-- Histories that are alike: from now on, both have the same answers.
 use Rattle.std.specs.Prelude.{◌≡◌, ℕ, ◌≤◌, Bool, true, false, ◌&&◌, nat_le, List, [], ◌∷◌, ℤ, Option, Some, None}
 use Rattle.ts_bucket.specs.Bucket.{is_bucket}
 use Rattle.ts_model.specs.declared.events.Event.{Event}
@@ -63,7 +63,7 @@ pub record AlikeStays : Type 0 where
   pub queued : (g h : History) (ops : List Op) → all_allowed g ≡ true → all_allowed h ≡ true → Alike g h
       → Alike (with_queue ops g) (with_queue ops h)
 
--- alike histories give the same answers and windows, and each call does the same at both
+-- alike histories have the same answers and windows, and each call does the same at both
 pub record AlikeAnswers : Type 0 where
   pub answers : (query : Query) (g h : History) → Alike g h → answer query g ≡ answer query h
   pub windows :

@@ -9,7 +9,7 @@ pub fn alike_histories_stay_alike()
     ensures { AlikeStays }
 {}
 
-/// Alike histories give the same answers and windows, and each call does the same at both.
+/// Alike histories have the same answers and windows, and each call does the same at both.
 pub fn alike_histories_answer_alike()
     ensures { AlikeAnswers }
 {}

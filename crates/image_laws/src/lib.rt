@@ -1,4 +1,4 @@
-//! What a checkpoint image keeps: a history that begins with the image of another gives the same answers as the
+//! What a checkpoint image keeps: a history that begins with the image of another has the same answers as the
 //! whole. These are laws of definitions; no code runs.
 //!
 //! `specs/Images.antt` says what the image of a history is, table by table, refresh by refresh and bucket by

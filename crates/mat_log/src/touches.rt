@@ -54,7 +54,7 @@ pub(crate) fn entries_near(entries: &BlockList<Entry>, span: Span) -> Result<Vec
     )
 }
 
-/// The latest positions of the entries at the buckets that their hulls meet, entries in order.
+/// The latest positions of the entries at the buckets that their hulls meet, computed entry by entry.
 fn touches_in_turn(alloc: Global, w: Width, entries: &[Entry]) -> Result<SpanMap, NoMemory>
     requires { All (λ e. IsWithin w e.hull) entries.now }
     ensures { IfOk result (λ touches. (t : ℤ) → at touches t ≡ touch_at w entries.now t) }

@@ -2,7 +2,7 @@
 use Rattle.std.specs.Prelude.{◌≡◌, ℕ, zero, suc, Option, None, Some, ℤ, pos}
 use Rattle.partial_agg.specs.Summaries.{IsBounded}
 
--- the end that is kept beside a given number of values: none if there are none
+-- the end stored along with this many values: none if there are none
 abbrev pub end_of : ℕ → ℤ → Option ℤ
 end_of zero v = None
 end_of (suc n) v = Some v
@@ -22,7 +22,7 @@ pub record IsKept (count values : ℕ) (sum least most : ℤ) : Type 0 where
   pub least_is : IsEnd values least
   pub most_is : IsEnd values most
 
--- beside a given number of values this end is kept as this number
+-- along with this many values, this end is stored as this number
 pub record EndsIn (values : ℕ) (end : Option ℤ) (v : ℤ) : Type 0 where
   pub kept : IsEnd values v
   pub shown : end_of values v ≡ end

@@ -44,12 +44,12 @@ abbrev pub TakesInAll : Summary → Summary → Summary → Type 0
 TakesInAll other old new =
     (mine theirs : List (Option ℤ)) → old ≡ summary mine → other ≡ summary theirs → new ≡ summary (mine ++ theirs)
 
--- the sum of a given number of values, NULL if there are none
+-- the sum of this many values, NULL if there are none
 abbrev pub sum_shown : ℕ → ℤ → Datum
 sum_shown zero sum = Null
 sum_shown (suc n) sum = Int sum
 
--- the mean of a given number of values with this sum, NULL if there are none
+-- the mean of this many values with this sum, NULL if there are none
 abbrev pub mean_shown : ℕ → ℤ → Datum
 mean_shown zero sum = Null
 mean_shown (suc n) sum = Ratio (lowest_terms sum (suc n))

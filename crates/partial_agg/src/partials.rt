@@ -212,7 +212,7 @@ impl Partial {
     }
 }
 
-/// The end that is kept beside a given number of values.
+/// The end stored along with `values` values.
 #[inline(always)]
 fn end(values: u64, v: i64) -> Option<i64>
     ensures { result ≡ end_of values v }
@@ -223,7 +223,7 @@ fn end(values: u64, v: i64) -> Option<i64>
     }
 }
 
-/// The least and the greatest of a given number of values and of one more.
+/// The least and the greatest of `values` values and of one more.
 #[inline(always)]
 fn ends_with(values: u64, least: i64, most: i64, v: i64) -> (i64, i64)
     ensures least { Some result.0 ≡ lesser (end_of values least) (Some v) }
@@ -235,7 +235,7 @@ fn ends_with(values: u64, least: i64, most: i64, v: i64) -> (i64, i64)
     }
 }
 
-/// The least value of two columns, each with a given number of values, as it is kept.
+/// The least value of two columns, given the number of values of each, as it is stored.
 fn least_joined(values: u64, least: i64, more: u64, other: i64) -> i64
     requires own { IsEnd values least }
     requires other { IsEnd more other }
@@ -248,7 +248,7 @@ fn least_joined(values: u64, least: i64, more: u64, other: i64) -> i64
     }
 }
 
-/// The greatest value of two columns, each with a given number of values, as it is kept.
+/// The greatest value of two columns, given the number of values of each, as it is stored.
 fn most_joined(values: u64, most: i64, more: u64, other: i64) -> i64
     requires own { IsEnd values most }
     requires other { IsEnd more other }
@@ -271,7 +271,7 @@ fn value(v: Option<i64>) -> Datum
     }
 }
 
-/// The sum of a given number of values.
+/// The sum of `values` values.
 fn sum(values: u64, sum: i128) -> Datum
     ensures { result ≡ sum_shown values sum }
 {
@@ -281,7 +281,7 @@ fn sum(values: u64, sum: i128) -> Datum
     }
 }
 
-/// The mean of a given number of values.
+/// The mean of `values` values.
 fn mean(values: u64, sum: i128) -> Datum
     ensures { result ≡ mean_shown values sum }
 {
@@ -302,7 +302,7 @@ fn number(v: Option<i64>) -> Option<i128>
     }
 }
 
-/// The sum of a given number of values as a number.
+/// The sum of `values` values as a number.
 #[inline(always)]
 fn sum_number(values: u64, sum: i128) -> Option<i128>
     ensures { result ≡ value_of (sum_shown values sum) }
@@ -313,7 +313,7 @@ fn sum_number(values: u64, sum: i128) -> Option<i128>
     }
 }
 
-/// The mean of a given number of values as a whole number: none, since it is shown as a ratio.
+/// The mean of `values` values as a whole number: none, since it is shown as a ratio.
 #[inline(always)]
 fn mean_number(values: u64, sum: i128) -> Option<i128>
     ensures { result ≡ value_of (mean_shown values sum) }

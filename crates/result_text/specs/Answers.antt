@@ -31,7 +31,7 @@ abbrev pub queue_text : Option ℕ → List ℕ
 queue_text None = []
 queue_text (Some queue) = codes " queue " ++ decimal queue
 
--- where an answer stands: its position, and the queue that it shows on top
+-- the state that an answer shows: its position, and the queue on top
 abbrev pub answer_place : ℕ → Option ℕ → List ℕ
 answer_place pos queue = codes "ANSWER @" ++ decimal pos ++ queue_text queue
 

@@ -31,8 +31,8 @@ fn last_of(before: Option<u64>, edges: &[Edge]) -> Option<u64>
     }
 }
 
-/// The edges from the start of a span to its end that give it the values of these edges, given the values
-/// before and after the span.
+/// The edges from the start of a span to its end that have the values of these edges, given the values before
+/// and after the span.
 pub(crate) fn patch(
     alloc: Global,
     span: Span,

@@ -117,7 +117,7 @@ relation_at r name = either_at r (table_from name 0 r.tables) (view_from name 0 
 kind_is_some : (t : TableInfo) (k : ℕ) → finds_nothing (table_kind t k) ≡ false
 kind_is_some t k = elim (is_some t.hyper) as (λ b. finds_nothing (cond b (found.Hyper k) (found.Plain k)) ≡ false) [ true ↦ refl | false ↦ refl ]
 
--- if nothing is found no item has the name
+-- if nothing is found, no item has the name
 no_table_here : (t : TableInfo) (k : ℕ) (same : Bool) (rest : Found) (o : Option ℕ) → (finds_nothing rest ≡ true → o ≡ None) → finds_nothing (cond same (table_kind t k) rest) ≡ true → cond same (Some k) o ≡ None
 no_table_here t k true rest o f e = absurd (let g : true ≡ false = sym e ∙ kind_is_some t k in cc)
 no_table_here t k false rest o f e = f e

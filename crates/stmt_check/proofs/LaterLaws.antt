@@ -292,7 +292,7 @@ cut_later g h p view lo hi b ok e =
 
 -- ---- relations to be created
 
--- the columns of a table don't depend on where they are looked at
+-- the columns of a table don't depend on the position at which they are read
 pub table_later : (p q : ℕ) (r : Roster) (name : List ℕ) (cols : List Column) → refusal_of p r (stmts.Table name cols) ≡ None → columns_refusal q (length cols) [] cols ≡ None
 table_later p q r name cols e = columns_again p q (length cols) [] cols (neither (name_refusal p r name (length r.tables)) _ e).1
 

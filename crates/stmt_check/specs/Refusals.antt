@@ -39,28 +39,29 @@ name_refusal pos roster name there =
     refusal_if pos name_taken (not (finds_nothing (found_in roster name)))
     ⊳ marked_refusal pos too_many (suc most_relations) (nat_le most_relations there)
 
--- if a hypertable is needed: the name refers to nothing, or to something else
+-- the refusal if a hypertable is needed: the name refers to nothing, or to something else
 abbrev pub hypertable_refusal : ℕ → Found → Option Refusal
 hypertable_refusal pos found.None = refusal_if pos no_relation true
 hypertable_refusal pos (found.Plain n) = refusal_if pos not_hypertable true
 hypertable_refusal pos (found.Hyper n) = None
 hypertable_refusal pos (found.View n) = refusal_if pos not_hypertable true
 
--- if a table will become a hypertable: the name refers to nothing, to an aggregate, or to a hypertable
+-- the refusal if a table will become a hypertable: the name refers to nothing, to an aggregate, or to a
+-- hypertable
 abbrev pub plain_refusal : ℕ → Found → Option Refusal
 plain_refusal pos found.None = refusal_if pos no_relation true
 plain_refusal pos (found.Plain n) = None
 plain_refusal pos (found.Hyper n) = refusal_if pos name_taken true
 plain_refusal pos (found.View n) = refusal_if pos not_hypertable true
 
--- if an aggregate is needed
+-- the refusal if an aggregate is needed
 abbrev pub view_refusal : ℕ → Found → Option Refusal
 view_refusal pos found.None = refusal_if pos no_relation true
 view_refusal pos (found.Plain n) = refusal_if pos not_aggregate true
 view_refusal pos (found.Hyper n) = refusal_if pos not_aggregate true
 view_refusal pos (found.View n) = None
 
--- if something that can be queried is needed
+-- the refusal if something that can be queried is needed
 abbrev pub query_refusal : ℕ → Found → Option Refusal
 query_refusal pos found.None = refusal_if pos no_relation true
 query_refusal pos (found.Plain n) = refusal_if pos not_hypertable true

@@ -41,7 +41,7 @@ pub(crate) struct Shape {
     others: Seq<Option<usize>>,
 }
 
-/// The rows that an INSERT gives.
+/// The rows of an INSERT.
 pub(crate) fn check_rows(
     alloc: Global,
     pos: u64,

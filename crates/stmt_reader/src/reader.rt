@@ -377,7 +377,7 @@ impl<'a> Reader<'a> {
         }
     }
 
-    /// The end: the end of the statement.
+    /// The end of the statement.
     #[tactic(auto, unfolding(crate::specs::Reading::end))]
     pub fn end(&mut self) -> Result<(), ReadError>
         ensures { Gives result (end (ahead self.old)) (ahead self.new) }

@@ -25,7 +25,7 @@ is_null_test other = false
 pub record IsWholeTest (t : NamedTest) : Type 0 where
   pub number : is_null_test t.cmp ≡ true → t.num ≡ pos 0
 
--- each function but count(*) has an argument
+-- each function except count(*) has an argument
 abbrev pub takes_argument : Fun → Bool
 takes_argument fun.CountAll = false
 takes_argument other = true
@@ -135,7 +135,7 @@ size_of (stmt.Buckets fold) = 6 + fold_size fold
 size_of (stmt.Calendar number unit fold) = 6 + length unit + fold_size fold
 size_of (stmt.Rows table tests) = 11 + length table + sum_by test_size tests
 
--- a statement of a text of a given number of bytes
+-- a statement of a text of this many bytes
 pub record IsShaped (bytes : ℕ) (s : Stmt) : Type 0 where
   pub whole : IsWhole s
   pub size : size_of s ≤ bytes

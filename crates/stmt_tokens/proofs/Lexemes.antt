@@ -18,7 +18,7 @@ blanks_and_return bs n n-is = subst (λ k. is_return (drop k bs) ≡ true → k 
 pub blanks_alone : (bs : List ℕ) (n : ℕ) → n ≡ prefix_len is_space bs → is_return (drop n bs) ≡ false → n ≡ blank_len bs
 blanks_alone bs n n-is = subst (λ k. is_return (drop k bs) ≡ false → k ≡ blank_len bs) (sym n-is) (λ e. rw e refl)
 
--- if neither a space nor a CR is in front there is no blank
+-- if neither a space nor a CR is in front, there is no blank
 pub no_blank : (b : ℕ) (bs : List ℕ) → (is_space b || eqb b 13) ≡ false → 0 ≡ blank_len (b ∷ bs)
 no_blank b [] e = let k = or_parts (is_space b) (eqb b 13) e in rw (k.0, k.1) refl
 no_blank b (c ∷ bs) e = let k = or_parts (is_space b) (eqb b 13) e in rw k.0 refl

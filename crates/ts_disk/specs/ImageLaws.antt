@@ -55,7 +55,7 @@ covered-push i pieces piece none =
     none_of false true is = absurd (cc is)
     none_of true b is = absurd (cc is)
 
--- ---- what a read gives is an image
+-- ---- the bytes that a read returns are an image
 
 pub shows-at_rest : (file : List ℕ) → IsImage (at_rest file) file
 shows-at_rest file = record { no_shorter = omega arith; no_longer = omega arith; outside = λ i le none. refl }

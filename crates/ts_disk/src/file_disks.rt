@@ -50,7 +50,7 @@ impl<F: FileCalls> FileDisk<F> {
         }
     }
 
-    /// Returns the file, for tests that check which calls were made of it.
+    /// Returns the file, for tests that check its calls.
     pub fn file(&self) -> &F
         ensures { result.now ≡ self.now.file }
     {

@@ -1,4 +1,4 @@
--- Laws of allowed events: what is sound stays so, calls make allowed events, and jobs that fit go on fitting.
+-- Laws of allowed events: sound events stay sound, calls create allowed events, and jobs that fit still do.
 use Rattle.std.proofs.Common.{◌≡◌, ℕ, suc, ◌≤◌, Bool, true, false, ◌&&◌, cond, nat_le, ◌==◌, List, [], ◌∷◌, ℤ, Option, Some, None, sym, refl, ap, ◌∙◌, subst, arith}
 use Rattle.std.specs.Prelude.{is_some}
 use Rattle.std.specs.List.{list_all}
@@ -124,7 +124,7 @@ pub allowed_begins : {g h : History} → Begins g h → all_allowed h ≡ true �
 allowed_begins same ok = ok
 allowed_begins (further {h = h} q) ok = allowed_begins q (and_parts (all_allowed h) _ ok).0
 
--- an allowed event is consistent, and so is an allowed history, which has room besides
+-- an allowed event is consistent, and so is an allowed history, which also has room
 pub consistent_next : (h : History) (e : Event) → allowed h e ≡ true → consistent h e ≡ true
 consistent_next h e ok =
     let parts = and_parts (sound h e) (timely h e) ok in
@@ -147,7 +147,7 @@ consistent_begins (further {h = h} q) ok = consistent_begins q (and_parts (all_c
 pub answers_stay : AnswersStay
 answers_stay query g h q = ap (answer query) (prefix_begins q)
 
--- ---- jobs that fit go on fitting
+-- ---- jobs that fit still do later
 
 -- a cut is not after the history
 pub cut_bounded : (n : ℕ) (h : History) (k : ℕ) (span : Span) → span_of_cut n h k ≡ Some span → k ≤ position h

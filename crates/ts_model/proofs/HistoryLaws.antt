@@ -1,4 +1,4 @@
--- Laws of histories: what begins with what, and positions.
+-- Laws of histories: which history begins with which, and positions.
 use Rattle.std.proofs.Common.{◌≡◌, ℕ, ◌+◌, ◌≤◌, true, false, cond, nat_lt, List, [], ◌∷◌, ◌++◌, length, sym, refl, ap, ◌∙◌, arith}
 use Rattle.std.proofs.lemmas.Bool.{lt-ltb, le-ltb, ltb-true, ltb-false, cond-true, cond-false}
 use Rattle.ts_model.specs.declared.events.Event.{Event}

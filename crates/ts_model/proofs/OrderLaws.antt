@@ -1,4 +1,4 @@
--- Orders: of values, lists of values and rows; rows are in order, and keys come once each, in order.
+-- Orders of values, lists of values and rows; rows are in order, and each key occurs once, in order.
 use Rattle.std.proofs.Common.{◌≡◌, ℕ, Bool, true, false, ◌||◌, not, cond, ◌==◌, List, [], ◌∷◌, map, filter, sym, refl, ap, ◌∙◌}
 use Rattle.std.specs.List.{list_all, list_any}
 use Rattle.std.specs.Ordering.{is_gt, is_lt, ordering_reverse, int_cmp, match_ordering}
@@ -101,7 +101,7 @@ rows_stand_in_order t (h ▸ Commit ops) = in_order-after_ops t ops (rows t h) (
 rows_stand_in_order t (h ▸ Cut v span) = rows_stand_in_order t h
 rows_stand_in_order t (h ▸ Built cut snap) = rows_stand_in_order t h
 
--- ---- keys come once each, in order
+-- ---- each key occurs once, in order
 
 module _ {K : Type 0} (cmp : K → K → Ordering) (total : IsTotalOrder cmp) (alike : CmpEqualImpliesEq cmp) where
   list_all-insert_key : (q : K → Bool) (ks : List K) (k : K) → q k ≡ true → list_all q ks ≡ true → list_all q (insert_key cmp ks k) ≡ true

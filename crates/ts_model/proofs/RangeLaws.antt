@@ -21,7 +21,7 @@ use Rattle.ts_model.specs.Laws.{RangesAreMaximal}
 abbrev pub among : ℤ → List ℤ → Bool
 among c bs = list_any (λ x. int_eq x c) bs
 
--- a span from t on of a given number of numbers
+-- a span of this many numbers from t on
 abbrev counted : ℤ → ℕ → Span
 counted t n = record { lo = t; hi = t +ℤ pos n }
 
@@ -149,7 +149,7 @@ same_test : (test : ℤ → Bool) (b c : ℤ) → int_eq b c ≡ true → test c
 same_test test b c e = sym (ap test ((Decides-int_eq b c).0 e))
 
 module _ (w : Width) (width : IsWidth w) (low b : ℤ) (bs : List ℤ) (test : ℤ → Bool) (at_low : low ≤ℤ b) (bucket : is_bucket w b ≡ true) where
-  -- a bucket that passes, before no range
+  -- a bucket that passes, with no range after it
   with_first : Ranged w (b +ℤ pos 1) bs test [] → test b ≡ true → Ranged w low (b ∷ bs) test (record { lo = b; hi = b +ℤ w.step } ∷ [])
   with_first r passes = record {
     whole = (one_bucket w b width bucket, tt);

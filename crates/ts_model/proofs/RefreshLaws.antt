@@ -1,5 +1,5 @@
--- Laws of refreshes: what was last refreshed stays as it was, nothing was at or above the watermark, and
--- watermark and threshold never fall.
+-- Laws of refreshes: last refreshes stay, buckets at or above the watermark had no rows, and watermark and
+-- threshold never fall.
 use Rattle.std.proofs.Common.{◌≡◌, ℕ, ◌<◌, ◌≤◌, max, Bool, true, false, ◌&&◌, ◌||◌, cond, nat_lt, nat_le, List, [], ◌∷◌, map, ℤ, ◌+ℤ◌, int_lt, Option, Some, None, ◌⊎◌, inl, inr, ⊎_elim, sym, refl, ap, ◌∙◌, subst, arith}
 use Rattle.std.proofs.lemmas.Bool.{true≢false, or_parts, or_left, and_left, and_right, and_parts, leb-true, lt-ltb, cond-false, cases_Bool, cases_lt}
 use Rattle.std.specs.Prelude.{is_some}
@@ -98,7 +98,7 @@ built_bounds h cut snap e =
     let is_sound = and_parts (finish_fits h cut snap) _ (and_parts (sound h (Built cut snap)) _ e).0 in
     leb-true snap (position h) (and_parts _ (nat_le snap (position h)) is_sound.0).1
 
--- nor before the base
+-- and not before the base
 pub built_from_base : (h : History) (cut snap : ℕ) → consistent h (Built cut snap) ≡ true → base_position h ≤ snap
 built_from_base h cut snap e =
     let is_sound = and_parts (finish_fits h cut snap) _ (and_parts (sound h (Built cut snap)) _ e).0 in

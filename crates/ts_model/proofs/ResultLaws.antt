@@ -1,4 +1,4 @@
--- Laws of the rows of an answer: what a group's result row shows at a place, and with chosen cells.
+-- Laws of the rows of an answer: the cells of a group's result row, and chosen cells.
 use Rattle.std.proofs.Common.{◌≡◌, ℕ, zero, suc, ◌-◌, ◌<◌, ◌≤◌, ◌==◌, true, false, List, [], ◌∷◌, ◌++◌, map, length, get_or, ℤ, Option, None, Some, refl, sym, ap, ◌∙◌, arith}
 use Rattle.std.proofs.lemmas.Bool.{eqb-true}
 use Rattle.std.specs.Option.{is_some}
@@ -31,7 +31,7 @@ value_of_key first keys others (suc p) key some le =
     among_keys keys others p key (omega arith)
     ∙ ap (λ n. value_of (shown_or_null (get_or keys n key))) (let e : p ≡ suc p - 1 = omega arith in e)
 
--- and after them the others
+-- and after them the other cells
 pub value_behind : (first : Datum) (keys : List (Option ℤ)) (others : List Datum) (place : ℕ) → length keys < place → cell_at (first ∷ (map shown_or_null keys ++ others)) place ≡ cell_at others (place - 1 - length keys)
 value_behind first keys others zero more = absurd (omega arith)
 value_behind first keys others (suc p) more =
@@ -77,7 +77,7 @@ cell_of_key first keys others (suc p) key some le =
     cell_among_keys keys others p key (omega arith)
     ∙ ap (λ n. shown_or_null (get_or keys n key)) (let e : p ≡ suc p - 1 = omega arith in e)
 
--- and after them the others
+-- and after them the other cells
 pub cell_behind : (first : Datum) (keys : List (Option ℤ)) (others : List Datum) (place : ℕ) → length keys < place → cell_or_null (first ∷ (map shown_or_null keys ++ others)) place ≡ cell_or_null others (place - 1 - length keys)
 cell_behind first keys others zero more = absurd (omega arith)
 cell_behind first keys others (suc p) more =

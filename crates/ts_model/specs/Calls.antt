@@ -61,7 +61,7 @@ making_table def h = new_relation h (is_taken (roster h) def.name) (length (rost
 abbrev pub making_view : ViewDef → History → Act ℕ
 making_view def h = new_relation h (is_taken (roster h) def.name) (length (roster h).views) (View def)
 
--- a table is made a hypertable unless it is one
+-- a table becomes a hypertable unless it is one
 abbrev pub making_hyper : ℕ → HyperInfo → History → Act ℕ
 making_hyper t hyper h =
     cond (is_some (hyper_of (roster h) t)) (refuses (refusal name_taken h 0)) (act_with_number h (Hyper t hyper))

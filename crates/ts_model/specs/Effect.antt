@@ -33,7 +33,7 @@ hull_of (row ∷ rows) = Some (hull_with row.at (hull_of rows))
 abbrev pub hull_of_ops : ℕ → List Op → List Row → Option Hull
 hull_of_ops t ops rows = hull_of (all_appended t ops ++ all_taken t ops rows)
 
--- the sum of what f gives of the numbers below n
+-- the sum of f over the numbers below n
 abbrev pub sum_below : ℕ → (ℕ → ℕ) → ℕ
 sum_below zero f = zero
 sum_below (suc n) f = sum_below n f + f n

@@ -158,8 +158,8 @@ WidthsAreSound =
 abbrev pub fits_table : Roster → ℕ → Row → Bool
 fits_table r t row = of_table (λ def hyper. row_fits def hyper row) (table_of r t)
 
--- each row that was ever inserted into a table of a consistent history fits the table, and so does each piece
--- of its rows at a position
+-- each row that was ever inserted into a table of a consistent history fits the table, and so does each of its
+-- rows at a position
 pub record RowsFitTables : Type 0 where
   pub inserted : (t : ℕ) (h : History) → all_consistent h ≡ true → list_all (fits_table (roster h) t) (rows_inserted t h) ≡ true
   pub rows :
@@ -196,7 +196,7 @@ SoundStays = (g h : History) (e : Event) → Begins g h → sound g e ≡ true �
 abbrev pub AnswersStay : Type 0
 AnswersStay = (query : Query) (g h : History) → Begins g h → answer query (prefix h (position g)) ≡ answer query g
 
--- a job that fits a history fits every history that begins with it, and its groups are made of the same rows
+-- a job that fits a history fits every history that begins with it, and its groups are those of the same rows
 abbrev pub FitsStays : Type 0
 FitsStays =
     (n : ℕ) (def : ViewDef) (g h : History) (cut snap : ℕ) (span : Span) (spans : List Span) (groups : List Group)

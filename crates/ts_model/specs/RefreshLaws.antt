@@ -95,7 +95,8 @@ MarksEndRows =
     (n : ℕ) (def : ViewDef) (h : History) → all_consistent h ≡ true → view_of (roster h) n ≡ Some def
     → IfSome (watermark n def h) (λ m. (watermark n def (root h) ≡ Some m) ⊎ EndsARow n def h m)
 
--- whether an aggregate shows materialized rows only has no effect on what is stale, or on what was in a bucket
+-- whether an aggregate shows materialized rows only has no effect on stale buckets, or on the groups of a
+-- bucket
 pub record ModePlaysNoPart : Type 0 where
   pub marks :
       (n : ℕ) (def : ViewDef) (only : Bool) (h : History) → watermark n (set_only only def) h ≡ watermark n def h

@@ -13,7 +13,7 @@ use ts_schema::NoMemory;
 
 /// The result row of a group, without stored cells. Its keys and its partial aggregates are looked up once, for
 /// all of its cells. Contracts see the cells as `group_cells`: at 0 the start of the bucket, then the keys, and
-/// then what is aggregated.
+/// then the aggregates.
 #[derive(Clone, Copy, Debug)]
 pub struct GroupRow<'a> {
     /// The start of the bucket.
@@ -153,7 +153,7 @@ fn part_cell(aggs: &[Agg], parts: &[Partial], at: usize) -> Datum
     }
 }
 
-/// The value of the cell at a place of a row whose cells are made.
+/// The value of the cell at a place of a row with stored cells.
 #[inline(always)]
 pub(crate) fn cell_value(cells: &[Datum], place: usize) -> Option<i128>
     ensures { result ≡ cell_at cells.now place }

@@ -109,8 +109,8 @@ pub fn widths_are_sound()
     ensures { WidthsAreSound }
 {}
 
-/// Each row that was ever inserted into a table of a consistent history fits the table, and so does each piece
-/// of its rows at a position.
+/// Each row that was ever inserted into a table of a consistent history fits the table, and so does each of its
+/// rows at a position.
 pub fn rows_fit_their_tables()
     ensures { RowsFitTables }
 {}
@@ -161,7 +161,7 @@ pub fn finishes_raise_the_watermark()
     ensures { FinishesMark }
 {}
 
-/// Whether an aggregate shows materialized rows only has no effect on what is stale, or on what was in a
+/// Whether an aggregate shows materialized rows only has no effect on stale buckets, or on the groups of a
 /// bucket.
 pub fn modes_play_no_part()
     ensures { ModePlaysNoPart }

@@ -91,7 +91,7 @@ impl ResultRows {
     }
 
     /// The same rows with the cells at these places, in the order of the places: 0 is the start of the bucket,
-    /// then come the keys, and then what is aggregated. A missing cell is NULL. It takes no memory and reads no
+    /// then come the keys, and then the aggregates. A missing cell is NULL. It takes no memory and reads no
     /// row. Fails with the rows themselves, if their cells are stored or chosen already.
     pub fn choose(self, places: Seq<u32>) -> Result<ResultRows, ResultRows>
         ensures chosen { IfOk result (λ rows. rows ≡ map (chosen_cells places) self) }

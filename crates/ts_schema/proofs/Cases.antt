@@ -55,7 +55,7 @@ lt-int_lt a b e = grind (arith, ints)
 
 -- ---- lists
 
--- what is true of each item gives what follows from it
+-- a property of each item, and a consequence of it
 pub all_weaker : {X : Type 0} (P Q : X → Type 0) → ((x : X) → P x → Q x) → (xs : List X) → AllByRecursion P xs → AllByRecursion Q xs
 all_weaker P Q h [] a = tt
 all_weaker P Q h (x ∷ xs) a = (h x a.0, all_weaker P Q h xs a.1)

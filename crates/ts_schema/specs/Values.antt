@@ -1,4 +1,4 @@
--- Values whose marks of NULL are separate apart from the numbers.
+-- Values whose marks of NULL are separate from the numbers.
 use Rattle.std.specs.Prelude.{ℤ, Bool, true, false, List, [], ◌∷◌, Option, Some, None}
 
 -- a number, or NULL if it is marked

@@ -1,5 +1,4 @@
-//! The values of rows, whose marks of NULL are separate apart from the numbers. Contracts see them as a plain
-//! list.
+//! The values of rows, whose marks of NULL are separate from the numbers. Contracts see them as a plain list.
 ghost use Rattle.std.specs.Prelude.{◌≡◌, ◌==◌, ◌-◌, ◌≤◌, ◌<◌, ◌^◌, [], ◌∷◌, ◌++◌, None, Some, false, length, take, drop, slice_index_or, IfOk, OnErr};
 ghost use Rattle.std.specs.Arc.{arc_value};
 ghost use Rattle.std.specs.Ordering.{int_eq};

@@ -70,8 +70,8 @@ IsNeither version h payload =
     ((is_base version payload ≡ true) × IsNoImage payload)
     ⊎ ((is_base version payload ≡ false) × IsNoEvent h payload)
 
--- after the events of this history and the commit byte of 1 at this place follows a payload that isn't the
--- bytes of an event that may come next, or of a base that is no valid image
+-- after the events of this history and the commit byte of 1 at this place there is a bad payload: it is neither
+-- an event that may come next nor a base with a valid image
 pub record IsWrong (file : List ℕ) (h : History) (at : ℕ) : Type 0 where
   pub version : Version
   pub payload : List ℕ

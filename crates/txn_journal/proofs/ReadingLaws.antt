@@ -274,7 +274,7 @@ module _ {D : Type 0} (bytes : D → Option (List ℕ)) (old : Progress D) (disk
       pub step_payload_now : is_base now payload ≡ false → Follows file now content payload old.at × ReadNow now (with_next content payload)
       step_payload_now = subst (λ (v : Version). is_base v payload ≡ false → Follows file v content payload old.at × ReadNow v (with_next content payload)) (sym is_now) step_payload
 
--- a reader at the commit byte the place at which reading begins
+-- a reader at the commit byte at which reading begins
 pub opens_at : {D : Type 0} (bytes : D → Option (List ℕ)) (reader : Progress D) (disk : D) (standing : JournalState) (version : Version) (size at : ℕ) (file : List ℕ)
     → reader ≡ at_gate disk standing version size at → bytes disk ≡ Some file → size ≡ length file → IsReadTo standing version file at nothing → HasRead bytes reader file nothing
 opens_at {D} bytes reader disk standing version size at file made told long read =

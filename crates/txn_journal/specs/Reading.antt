@@ -207,7 +207,7 @@ MayBeginAt told StartsBare begin = IsReading told Bare begin.size begin.at
 MayBeginAt told (StartsJournal version) begin = IsReading told Ready begin.size begin.at
 MayBeginAt told StartsForeign begin = ⊤
 
--- how a file begins, and the place at which reading begins in it
+-- the beginning of a file, and the place at which reading begins in it
 abbrev pub IsFound : FileStart → List ℕ → Type 0
 IsFound found file = StartsAs found.start file × BeginsAt found.start file found.beginning.at
 

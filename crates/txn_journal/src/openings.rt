@@ -58,14 +58,14 @@ impl<D: Disk> Reader<D> {
     }
 }
 
-/// How a file begins, and the place at which reading begins in it.
+/// The beginning of a file, and the place at which reading begins in it.
 #[derive(Clone, Copy)]
 struct FileStart {
     start: Start,
     beginning: ReadStart,
 }
 
-/// Finds how the file of a disk begins, and the place at which reading begins in it.
+/// Finds the beginning of a disk's file, and the place at which reading begins in it.
 fn find_start<D: Disk>(disk: &mut D) -> Result<FileStart, Failed>
     ensures found { (file : List ℕ) → D.bytes disk.old ≡ Some file → IfOk result (λ found. IsFound found file) }
     ensures reading { IfOk result (λ found. MayBegin (D.bytes disk.new) found) }
