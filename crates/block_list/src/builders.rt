@@ -145,10 +145,10 @@ impl<T: Clone + Drop> Builder<T> {
         Ok(end)
     }
 
-    /// Appends the items of a list from place `from` on and below place `to`. Shares the inner nodes and
-    /// blocks that are whole there, but merges small ones with their neighbors. It costs the items of the
-    /// blocks at both places, the blocks of the inner nodes at both places and beside them, and the number of
-    /// inner nodes.
+    /// Appends the items of a list from place `from` on and below place `to`. Shares the inner nodes and blocks
+    /// that are whole there, but merges small ones with their neighbors. The cost grows with the items of the
+    /// blocks at both places, the blocks of the inner nodes there and next to them, and the number of inner
+    /// nodes.
     pub fn append(&mut self, list: &BlockList<T>, from: usize, to: usize) -> Result<(), NoMemory>
         requires order { from ≤ to }
         requires within { to ≤ length list.now.items }
@@ -208,7 +208,7 @@ fn close_block<T: Drop>(
 /// One holds at most `most`. Otherwise it is shared. If none are open, a small one is opened, unless the one
 /// after it wouldn't fit: so appending a list a second time opens nothing.
 ///
-/// Blocks, and likewise inner nodes, are half full on average, except the last one: a smaller one has a
+/// Blocks, and likewise inner nodes, are half full on average, except the last one. A smaller one has a
 /// neighbor with which it doesn't fit into one. Blocks of different inner nodes aren't merged, so this leaves
 /// out two blocks of each inner node. However often items are replaced, there are on average at least 32 blocks
 /// per inner node and 30 items per block.

@@ -137,8 +137,8 @@ impl<T: Clone + Drop> BlockList<T> {
         })
     }
 
-    /// The items from place `from` on and below place `to`, in the blocks that they are in, as a list
-    /// that shares them. It costs what a `copy` does.
+    /// The items from place `from` on and below place `to`, in the blocks that they are in, as a list that
+    /// shares them. It costs as much as a `copy`.
     pub fn slice(&self, from: usize, to: usize) -> Result<Slice<T>, NoMemory>
         requires order { from ≤ to }
         requires within { to ≤ length self.now.items }
@@ -148,9 +148,9 @@ impl<T: Clone + Drop> BlockList<T> {
         Ok(Slice::of(self.copy()?, from, to))
     }
 
-    /// The same list with all items shared, so that a copy of it only counts one more sharer. It costs a
-    /// block and, once per block of new items, the blocks of the last inner node and the number of inner
-    /// nodes.
+    /// The same list with all items shared, so that a copy of it only counts one more sharer. The cost is that
+    /// of a block and, once per block of new items, grows with the blocks of the last inner node and the number
+    /// of inner nodes.
     pub fn share(&self) -> Result<BlockList<T>, NoMemory>
         requires faithful { (x y : T) → T.is_clone x y → x ≡ y }
         ensures items { IfOk result (λ shared. shared.items ≡ self.now.items) }
@@ -169,8 +169,8 @@ impl<T: Clone + Drop> BlockList<T> {
         Ok(BlockList::of_blocks(alloc, blocks, newest))
     }
 
-    /// The blocks of the items, and one more block after them. It costs the items that aren't shared, the
-    /// blocks of the last inner node, and the number of inner nodes.
+    /// The blocks of the items, and one more block after them. The cost grows with the items that aren't
+    /// shared, the blocks of the last inner node, and the number of inner nodes.
     fn in_blocks(&self) -> Result<(Blocks<T>, Arc<Block<T>>), NoMemory>
         requires faithful { (x y : T) → T.is_clone x y → x ≡ y }
         ensures items { IfOk result (λ (blocks, newest). blocks ++ arc_value newest ≡ self.now.items) }
@@ -221,9 +221,9 @@ impl<T: Clone + Drop> BlockList<T> {
         Ok(())
     }
 
-    /// The list with these items instead of those from place `from` on and below place `to`. It costs the
-    /// items of the blocks at both places, the new items, the blocks of the inner nodes at both places and
-    /// beside them, and the number of inner nodes.
+    /// The list with these items instead of those from place `from` on and below place `to`. The cost grows
+    /// with the new items, the items of the blocks at both places, the blocks of the inner nodes there and next
+    /// to them, and the number of inner nodes.
     pub fn replace(&self, from: usize, to: usize, items: &[T]) -> Result<BlockList<T>, NoMemory>
         requires order { from ≤ to }
         requires within { to ≤ length self.now.items }

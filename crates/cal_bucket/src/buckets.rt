@@ -20,7 +20,7 @@ pub(crate) struct Bucket {
 }
 
 /// The start of the bucket of `number` units, from 1 to 1,200, that holds the time `t`, both in seconds since
-/// 1970 (UTC). Days and weeks count from Monday 2000-01-03, months and years from January 2000: these are the
+/// 1970 (UTC). Days and weeks count from Monday 2000-01-03, months and years from January 2000. These are the
 /// default origins of `time_bucket` in the API reference of TimescaleDB.
 pub fn calendar_bucket(unit: CalUnit, number: u32, t: i64) -> i64
     requires number { IsNumber number }

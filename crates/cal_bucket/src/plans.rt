@@ -1,8 +1,8 @@
 //! Queries by buckets of the calendar.
 use ts_model::Fold;
 
-/// A unit of the calendar, in UTC: a day is 86,400 seconds, a week seven days from a Monday on, and a year twelve
-/// months from January on.
+/// A unit of the calendar, in UTC. A day is 86,400 seconds, a week seven days from a Monday on, and a year
+/// twelve months from January on.
 #[derive(Clone, Copy, Debug, PartialEq, Eq)]
 pub enum CalUnit {
     Day,

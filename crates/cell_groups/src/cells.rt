@@ -35,7 +35,7 @@ impl<'a> RowCells<'a> {
         RowCells { row, skip }
     }
 
-    /// The value of the cell at a place: the whole number that it shows, or none for NULL, for a mean and for a
+    /// The value of the cell at a place: the whole number that it shows. `None` for NULL, for a mean and for a
     /// missing cell.
     #[inline(always)]
     #[tactic(auto, using(crate::proofs::CellLaws::cell_behind))]

@@ -17,8 +17,8 @@ use std::alloc::Global;
 use std::cmp::Ordering;
 use std::collections::VecDeque;
 
-/// How a group compares with that of a row in the bucket that starts at `start`: by bucket, and then by keys,
-/// with NULL greater than every number.
+/// Compares a group with that of a row in the bucket that starts at `start`: by bucket, and then by keys, with
+/// NULL greater than every number.
 #[inline(always)]
 pub(crate) fn order_beside(
     shape: &Shape,

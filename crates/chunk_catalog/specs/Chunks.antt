@@ -9,10 +9,10 @@ use Rattle.ts_schema.specs.declared.rows.Row.{Row}
 use Rattle.ts_schema.specs.Conditions.{passes_all}
 use Rattle.seg_rows.specs.Versions.{Version, visible_at, rows_of}
 
--- what contracts see of `Chunks`: the length of a chunk, every version that was ever inserted there, and the
--- greatest number of levels of chunks and of segments on the path to a version. A scan returns versions in the
--- order of this list. The places of new versions in it are unspecified: `put_shared` says only which versions
--- there are, and how often each
+-- what contracts see of `Chunks`: the length of a chunk; every version that was ever inserted there; and the
+-- greatest numbers of levels on the path to a version. A scan returns versions in the order of this list. The
+-- places of new versions in it are unspecified: `put_shared` says only which versions there are, and how often
+-- each
 pub record ChunksValue : Type 0 where
   pub interval : ℤ
   pub versions : List Version

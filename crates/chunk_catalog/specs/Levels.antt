@@ -55,8 +55,8 @@ no_tree = ([], record { chunks = 0; segments = 0 })
 abbrev pub tree_over : TreeValue → Kept → TreeValue → TreeValue
 tree_over l chunk r = (l.0 ++ in_chunk chunk.start chunk.versions ++ r.0, levels_over l.1 chunk.levels r.1)
 
--- the invariant of a chunk between two trees, with a hull, a number of levels and a position: the starts are in
--- the hull; the number is that of the levels of chunks; both sides are level; there are few levels; the
+-- the invariant of a chunk between two trees, with a hull, a number of levels and a position. The starts are in
+-- the hull, and the number is that of the levels of chunks. Both sides are level, and there are few levels. The
 -- position is that of the last delete
 pub record IsOver (l : TreeValue) (chunk : Kept) (r : TreeValue) (starts : HullValue) (height : ℕ) (dead : Option ℕ)
     : Type 0 where

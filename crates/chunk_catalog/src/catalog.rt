@@ -148,9 +148,9 @@ impl Chunks {
     }
 
     /// The chunks with rows inserted at a position, which is at least those of the earlier changes. Each row
-    /// has a time in the range of times. Takes the rows in pieces of up to 1,024: shares a piece whose times
-    /// are in order with the list, and copies and sorts any other. Fails as out of memory for more than 2^62
-    /// versions in all.
+    /// has a time in the range of times. Takes the rows in pieces of up to 1,024. A piece whose times are in
+    /// order is shared with the list, and any other is copied and sorted. Fails as out of memory for more than
+    /// 2^62 versions in all.
     pub fn put_shared(&self, rows: &SharedSlice<Row>, pos: u64) -> Result<Chunks, NoMemory>
         requires times { HaveTimes rows.now }
         ensures interval { IfOk result (λ chunks. chunks.interval ≡ self.now.interval) }
@@ -167,9 +167,9 @@ impl Chunks {
         Ok(chunks)
     }
 
-    /// A delete at a position, which is at least those of the earlier changes: the versions that are visible
-    /// there and pass every test are deleted there. Doesn't read chunks and segments that can't hold such a
-    /// row, or that have no version left to delete.
+    /// Deletes, at a position at or above those of the earlier changes, the versions that are visible there and
+    /// pass every test. Doesn't read chunks and segments that can't hold such a row, or that have no version
+    /// left to delete.
     pub fn kill(&self, tests: &Seq<Test>, pos: u64) -> Result<KilledChunks, NoMemory>
         ensures interval { IfOk result (λ k. k.chunks.interval ≡ self.now.interval) }
         ensures after { IfOk result (λ k. k.chunks.versions ≡ map (after_kill pos tests.now) self.now.versions) }
@@ -191,9 +191,9 @@ impl Chunks {
         })
     }
 
-    /// A drop at a position, which is at least those of the earlier changes: the versions that are visible
-    /// there, of the chunks that end at or before `n`, are deleted there. This is for callers without tests.
-    /// The statement `drop_chunks` is a delete by a test of the time, and so it calls `kill`.
+    /// Deletes, at a position at or above those of the earlier changes, the visible versions of the chunks that
+    /// end at or before `n`. This is for callers without tests. The statement `drop_chunks` is a delete by a
+    /// test of the time, and so it calls `kill`.
     pub fn drop_below(&self, n: i64, pos: u64) -> Result<KilledChunks, NoMemory>
         ensures interval { IfOk result (λ k. k.chunks.interval ≡ self.now.interval) }
         ensures after { IfOk result (λ k.

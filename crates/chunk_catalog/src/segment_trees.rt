@@ -127,8 +127,8 @@ impl SegmentTree {
         }
     }
 
-    /// Whether a delete at a position takes nothing if all times that pass its tests lie in a range: all
-    /// versions are deleted, or none has such a time.
+    /// Whether a delete at a position takes nothing, if all times that pass its tests lie in a range. It takes
+    /// nothing if all versions are deleted, or none has such a time.
     fn is_spared(&self, times: TimeRange, pos: u64) -> bool
         ensures spared { result ≡ true → (tests : List Test) → HoldsPassing tests times →
             taken_at pos tests self.now.0 ≡ [] }

@@ -110,8 +110,8 @@ impl Tree {
         }
     }
 
-    /// Whether a delete at a position takes nothing from the chunks whose starts lie in a range: all versions
-    /// are deleted, or there is no such chunk.
+    /// Whether a delete at a position takes nothing from the chunks whose starts lie in a range. It takes
+    /// nothing if all versions are deleted, or there is no such chunk.
     fn is_spared(&self, reach: TimeRange, pos: u64) -> bool
         ensures spared { result ≡ true → (tests : List Test) → taken_at pos tests (versions_in reach self.now.0) ≡ [] }
     {

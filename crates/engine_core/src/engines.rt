@@ -34,8 +34,8 @@ use ts_model::{Event, Image, Pending, Refusal, Waiting, Window};
 use ts_schema::{NoMemory, Seq, Steps};
 
 /// The engine: the image that it was built from, if there is one, the list of events after it, and the
-/// resulting state, which snapshots share. Contracts see the image, the events, the oldest first, and how many
-/// more events fit.
+/// resulting state. Snapshots share the state. Contracts see the image, the events, the oldest first, and how
+/// many more events fit.
 #[derive(Drop)]
 pub struct Engine {
     base: Option<Image>,

@@ -13,8 +13,8 @@ use std::thread::Threads;
 use ts_model::{Event, Image, Refusal};
 use ts_schema::{NoMemory, Steps};
 
-/// Follows a history event by event, while its journal is read: an engine, which answers queries, or a ledger,
-/// which knows which event may come next.
+/// Follows a history event by event while its journal is read. An engine then answers queries, and a ledger
+/// knows which event may come next.
 pub trait Follower {
     ghost use Rattle.std.specs.Prelude.{◌≡◌, IfErr, IfOk, IsTrue, OnOk, Some};
     ghost use Rattle.std.specs.Thread.{IsSync};

@@ -1,5 +1,5 @@
-//! The engine: its list of events, and the state that answers questions about it; a store in memory; and the
-//! states of a history at its positions.
+//! The engine: its list of events, and the state that answers queries. Also a store in memory, and the states
+//! of a history at its positions.
 //!
 //! - `engines`, `prepared`, `moments`, `shots`: the engine, and its state after one more event.
 //! - `ledgers`: a history without its rows, which knows which event may come next.

@@ -119,8 +119,8 @@ fn keep(moments: &mut Vec<StateAt>, moment: StateAt, kept: bool) -> Result<(), N
     Ok(())
 }
 
-/// The position at which a history ends that begins with an image, if there is one, and continues with these
-/// events, each of which was allowed after those before it.
+/// The position at which a history ends. The history begins with an image, if there is one, and continues with
+/// these events. Each event was allowed after those before it.
 pub fn end_of(base: &Option<Image>, events: &[Event]) -> u64
     requires allowed { IsTrue (all_allowed (history_of (record { base = base.now; events = events.now }))) }
     ensures end { result ≡ position (history_of (record { base = base.now; events = events.now })) }
@@ -129,9 +129,9 @@ pub fn end_of(base: &Option<Image>, events: &[Event]) -> u64
 }
 
 impl<'a> Timeline<'a> {
-    /// The states of the history that begins with an image, if there is one, and continues with these
-    /// events, each of which was allowed after those before it. They are kept from the position `start` on.
-    /// Only `State::from_image` counts steps, if there is an image.
+    /// The states of the history that begins with an image, if there is one, and continues with these events.
+    /// Each event was allowed after those before it. They are kept from the position `start` on. Only
+    /// `State::from_image` counts steps, if there is an image.
     pub fn of<R: Threads + Sync, L>(
         rt: &R,
         alloc: Global,

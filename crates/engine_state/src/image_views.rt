@@ -87,8 +87,8 @@ fn spans_of(alloc: Global, lasts: &[SavedLast]) -> Result<Seq<Span>, NoMemory>
     Ok(spans)
 }
 
-/// The materialized groups of an aggregate: of a dirty bucket those that the image keeps, and of any other
-/// refreshed bucket those among the groups recomputed from the rows.
+/// The materialized groups of an aggregate. For a dirty bucket these are the ones that the image keeps. For any
+/// other refreshed bucket they are the groups recomputed from the rows.
 fn groups_from_image(alloc: Global, saved: &SavedView, anew: &MatRows) -> Result<MatRows, NoMemory>
     requires kept { (i : ImageValue) × (n : ℕ) × (def : ViewValue) × IsKeptOf i n def saved.now anew.now }
     ensures groups { (i : ImageValue) (n : ℕ) (def : ViewValue) → IsKeptOf i n def saved.now anew.now

@@ -77,8 +77,8 @@ fn finish_refusal(pending: Pending, position: u64) -> Option<Refusal>
     }
 }
 
-/// Why a store refuses the call that appends this event at a history with this roster and position, if it does:
-/// as `E07`, `E21`, `E19` or `E30`. Doesn't check the rows and the tests of an event.
+/// Why a store refuses the call that appends this event, if it does: `E07`, `E21`, `E19` or `E30`. The history
+/// has this roster and position. Doesn't check the rows and the tests of an event.
 ///
 /// `pending` is the outcome of the refresh that the event finishes. It isn't used for an event that finishes
 /// none.

@@ -137,8 +137,9 @@ RollUpsOfGroupsChooseCells =
 abbrev pub IsShownWhole : ℕ → ViewDef → History → Width → ℤ → Type 0
 IsShownWhole n def h w b = def.only ≡ true → is_below ((b +ℤ w.step) -ℤ pos 1) (watermark n def h) ≡ true
 
--- at every history, in the roll-up of the answer of an aggregate over all its buckets, a wider bucket that isn't named
--- stale and is shown whole shows the aggregation from scratch of the table's rows under the composed fold
+-- at every history, take the roll-up of the answer of an aggregate over all its buckets. A wider bucket that it
+-- doesn't name stale and shows whole shows the aggregation from scratch of the table's rows under the composed
+-- fold
 abbrev pub FreshBucketsShowTheComposedFold : Type 0
 FreshBucketsShowTheComposedFold =
     (n : ℕ) (def : ViewDef) (h : History) (plan : UpperPlan) (upper : Answer) (b : ℤ) → PlanFits def.fold plan

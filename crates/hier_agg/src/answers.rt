@@ -19,9 +19,9 @@ use ts_model::{Answer, Fold, ResultRows, ViewDef};
 use ts_num::{Datum, Fun};
 use ts_schema::NoMemory;
 
-/// The upper answer, computed from the answer of an aggregate over all its buckets. A count over 64 bits, a
-/// sum or a wider bucket over 128 bits, and a stale range that can't be widened within 64 bits are reported
-/// as out of memory.
+/// The upper answer, computed from the answer of an aggregate over all its buckets. Reports as out of memory a
+/// count over 64 bits, a sum or a wider bucket over 128 bits, and a stale range that can't be widened within 64
+/// bits.
 pub fn answer_upper(
     alloc: Global,
     plan: &UpperPlan,

@@ -11,9 +11,9 @@ use ts_bucket::Width;
 use ts_model::{Agg, Fold};
 use ts_num::Fun;
 
-/// Whether a plan takes all of the fold of an aggregate: its width, all its keys and then all its aggregates,
-/// each once and in their order, no test, and no aggregate is a mean. If so, the roll-up is the aggregate's
-/// answer.
+/// Whether a plan takes all of the fold of an aggregate: its width, and all its keys and then all its
+/// aggregates, each once and in their order. The plan must have no test, and no aggregate may be a mean. If so,
+/// the roll-up is the aggregate's answer.
 pub fn takes_all(plan: &UpperPlan, lower: &Fold) -> bool
     ensures { result ≡ takes_all lower.now plan.now }
 {

@@ -182,8 +182,8 @@ fn fields_law(image: &Image)
     done_law(image.done.items());
 }
 
-/// States that an image has all its parts in the range of their fields, if it is valid with some events as
-/// its rows and has fewer than 2^32 bytes with them. Does nothing.
+/// States that all parts of an image are in the range of their fields. The image must be valid with some events
+/// as its rows, and have fewer than 2^32 bytes with them. Does nothing.
 #[tactic(auto, using(crate::proofs::FormedLaws::formed_with))]
 pub fn image_law(image: &Image)
     ensures formed { (events : List Event) → valid (with_rows events image.now) ≡ true

@@ -32,8 +32,8 @@ use ts_schema::{NoMemory, Seq};
 /// Feeding one entry costs about as much as this many edges in a sweep over all edges.
 const EDGES_AN_ENTRY: usize = 128;
 
-/// For each bucket of an aggregate, the position that is pending there, if there is one, and the
-/// position of its last refresh, if there is one.
+/// The pending position of each bucket of an aggregate, and the position of its last refresh. A bucket may have
+/// neither, one or both.
 #[derive(Drop, Debug)]
 pub struct MatLog {
     alloc: Global,
@@ -135,9 +135,9 @@ impl MatLog {
         })
     }
 
-    /// The log after a refresh of a span of whole buckets finished, with a snapshot at this position: in the
-    /// span nothing up to it is pending, and the last refresh is raised to it. The cost grows with the
-    /// pieces in the span; the others are shared.
+    /// The log after a refresh of a span of whole buckets finished, with a snapshot at this position. In the
+    /// span nothing up to this position is pending, and the last refresh is raised to it. The cost grows with
+    /// the pieces in the span; the others are shared.
     pub fn with_refresh(&self, span: Span, snap: u64) -> Result<MatLog, NoMemory>
         requires whole { IsWholeSpan self.now.width span }
         ensures width { IfOk result (λ new. new.width ≡ self.now.width) }
@@ -283,8 +283,8 @@ impl MatLog {
         self.dirty_with(entries, buckets_below(self.width, starts, mark))
     }
 
-    /// The buckets of a span of whole buckets that have a last refresh and at which something is pending, as
-    /// if the entries had been fed to the log, as maximal ranges.
+    /// The buckets of a span of whole buckets that have a last refresh and something pending, as maximal
+    /// ranges. The result is as if the entries had been fed to the log.
     pub fn changed_with(
         &self,
         entries: &BlockList<Entry>,
@@ -302,8 +302,8 @@ impl MatLog {
         join_pieces(changed.ranges(span)?)
     }
 
-    /// The buckets in a span of whole buckets that are in these ranges of whole buckets and have no last
-    /// refresh above a snapshot, as maximal ranges. A refresh of the span that recomputes the ranges with this
+    /// The buckets of a span and of these ranges, all of whole buckets, that have no last refresh above a
+    /// snapshot. The result is maximal ranges. A refresh of the span that recomputes the ranges with this
     /// snapshot updates them.
     pub fn to_renew(&self, span: Span, ranges: &[Span], snap: u64) -> Result<Seq<Span>, NoMemory>
         requires whole { IsWholeSpan self.now.width span }
@@ -319,9 +319,9 @@ impl MatLog {
         join_pieces(renewed.ranges(span)?)
     }
 
-    /// The buckets of a span of whole buckets that a repeated refresh with this snapshot recomputes: those
-    /// that are dirty, as if the entries had been fed to the log, and those whose last refresh is above the
-    /// snapshot, as maximal ranges.
+    /// The buckets of a span of whole buckets that a repeated refresh with this snapshot recomputes, as maximal
+    /// ranges. These are the dirty buckets, as if the entries had been fed to the log, and those whose last
+    /// refresh is above the snapshot.
     pub fn redone_with(
         &self,
         entries: &BlockList<Entry>,

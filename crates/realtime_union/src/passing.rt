@@ -16,9 +16,9 @@ use ts_model::{ResultRows, RowsAt, put_values};
 use ts_num::Datum;
 use ts_schema::{NoMemory, Row, Seq, Steps, Test, Values, passes, row_order};
 
-/// The rows of a hypertable that match every test, in row order and with all their columns in declared order,
-/// from one scan of all times; `at` is the place of the time column. Counts one step for each stored row in a
-/// chunk that holds a time.
+/// The rows of a hypertable that match every test, in row order and with all their columns in declared order.
+/// `at` is the place of the time column. Scans all times once. Counts one step for each stored row in a chunk
+/// that holds a time.
 pub fn passing_rows<W: RowsAt, L>(
     alloc: Global,
     rows: &W,

@@ -12,7 +12,7 @@ use ts_model::{Answer, Committed, Refusal};
 use ts_schema::{Name, NoMemory};
 
 /// The contents of a line of a reply. Positions are those of a history, and numbers those of events. `cut` is
-/// the number of a refresh, `pos` the number of the event that finished it, `snap` the position of its
+/// the number of a refresh, and `pos` the number of the event that finished it. `snap` is the position of its
 /// snapshot, and `span` the half-open range of its buckets. `min` is the start of the first bucket of the
 /// aggregate, or of its roll-up: a range that begins there is printed with `min`.
 #[derive(Drop, Debug)]

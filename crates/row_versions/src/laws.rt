@@ -32,8 +32,8 @@ pub fn others_are_held()
     ensures { OthersAreHeld }
 {}
 
-/// What `scan` and `last` return for a table that holds a history: the rows of the history at every position,
-/// the rows ever inserted in the chunks that are read, and the last bucket with a row.
+/// The results of `scan` and `last` for a table that holds a history. They are the rows of the history at every
+/// position, the rows ever inserted in the chunks that are read, and the last bucket with a row.
 pub fn held_tables_tell()
     ensures { HeldTablesTell }
 {}

@@ -113,8 +113,8 @@ impl Segment {
         })
     }
 
-    /// A delete at a position, which is at least those of the earlier changes: the versions that are visible
-    /// there and pass every test are deleted there. Every version stays stored.
+    /// Deletes, at a position at or above those of the earlier changes, the versions that are visible there and
+    /// pass every test. Every version stays stored.
     pub fn kill(&self, tests: &Seq<Test>, pos: u64) -> Result<Killed, NoMemory>
         ensures after { IfOk result (λ k. k.segment ≡ map (after_kill pos tests.now) self.now) }
         ensures removed { IfOk result (λ k. k.removed ≡ length (taken_at pos tests.now self.now)) }

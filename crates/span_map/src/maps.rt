@@ -23,8 +23,8 @@ use ts_schema::{NoMemory, Seq};
 /// A partial function from whole numbers to positions, kept as edges: the numbers at which its value changes.
 ///
 /// A change allocates no memory: `reserve` must have made room for the edges that it needs. `assign` and
-/// `clear_upto` need 2, `raise` needs 3 and one more for each piece of the map, and `assign_above` needs 3
-/// and 3 more for each piece of the floor.
+/// `clear_upto` need 2. `raise` needs 3 and one more for each piece of the map. `assign_above` needs 3 and 3
+/// more for each piece of the floor.
 #[derive(Drop, Debug)]
 pub struct SpanMap {
     edges: Vec<Edge>,

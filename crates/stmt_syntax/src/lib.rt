@@ -1,5 +1,5 @@
-//! Statements as they are written: the parts of a statement, the limits of its text, and what is true of each
-//! statement that has a text.
+//! Statements as they are written: the parts of a statement, the limits of its text, and properties of each
+//! statement with a text.
 //!
 //! - `statements`: the parts of a statement.
 //! - `limits`: how long lines and inputs may be.

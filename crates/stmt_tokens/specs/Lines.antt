@@ -41,8 +41,8 @@ of_text text blanks =
     else NoSession
 
 -- what a line is: blank; with a byte outside ASCII before its comment; without a session name; or a statement
--- of a session. A statement has the length of the session's name, the number of bytes before the statement,
--- whose last is the colon, and the number of bytes before the comment
+-- of a session. A statement has the length of the session's name, the number of bytes before the statement, and
+-- the number before the comment. The colon is the last byte before the statement
 abbrev pub line_kind : List ℕ → LineKind
 line_kind line = let text = take (comment_at line) line in of_text text (blank_len text)
 

@@ -343,8 +343,8 @@ pub struct MarkAt {
     pub end: usize,
 }
 
-/// The mark that comes after the first `skip` bytes of a text, if at most one space is before it and no mark of
-/// two bytes begins with its byte. Most marks are like this. `None` doesn't mean that no mark comes next.
+/// The mark after the first `skip` bytes of a text, if at most one space precedes it and no mark of two bytes
+/// begins with its byte. Most marks are like this. `None` doesn't mean that no mark comes next.
 #[inline]
 pub fn lone_mark_at(text: &[u8], skip: usize) -> Option<MarkAt>
     requires within { skip ≤ length text.now }
@@ -558,8 +558,8 @@ pub struct NumberAt {
     pub end: usize,
 }
 
-/// The number that comes after the first `skip` bytes of a text, if it has fewer than 18 digits and at most one
-/// space is before it. Most values of a row are like this. `None` doesn't mean that no number comes next.
+/// The number after the first `skip` bytes of a text, if it has fewer than 18 digits and at most one space
+/// precedes it. Most values of a row are like this. `None` doesn't mean that no number comes next.
 #[inline]
 pub fn short_number_at(text: &[u8], skip: usize) -> Option<NumberAt>
     requires within { skip ≤ length text.now }

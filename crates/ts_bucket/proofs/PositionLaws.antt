@@ -1,4 +1,5 @@
--- Laws of positions: the later of two is the same in every order, and what is above a position, or above a last refresh, goes through it.
+-- Laws of positions: the later of two doesn't depend on their order, and it commutes with the part above a
+-- position or a last refresh.
 use Rattle.std.proofs.Common.{◌≡◌, ℕ, ◌≤◌, max, Bool, true, false, ◌||◌, cond, nat_lt, Option, Some, None, refl, sym, ap, ◌∙◌, arith}
 use Rattle.std.specs.Prelude.{is_some}
 use Rattle.std.proofs.lemmas.Bool.{cond-false}

@@ -41,7 +41,7 @@ fn nonempty(lo: i64, hi: i64) -> Option<Span>
     if lo < hi { Some(Span { lo, hi }) } else { None }
 }
 
-/// The greatest span of whole buckets, from the first bucket on, in the window from `lo` on and below `hi`, or
+/// The greatest span of whole buckets in the window from `lo` on and below `hi`, from the first bucket on.
 /// `None` if no whole bucket is in it. A window with no `lo` starts at the first bucket. Both ends lie within
 /// 2^41 of the range of times.
 pub fn inscribe(w: Width, lo: Option<i64>, hi: i64) -> Option<Span>

@@ -1,5 +1,5 @@
 -- The crash images of a file. Between two syncs each written range, and the part past the old end, may hold any
--- bytes; the length may be any number from the old to the new one; and bytes outside stay.
+-- bytes. The length may be any number from the old to the new one. Bytes outside stay.
 use Rattle.std.specs.Prelude.{◌≡◌, ◌⊎◌, ℕ, ◌+◌, ◌<◌, ◌≤◌, Bool, false, ◌&&◌, nat_lt, nat_le, max, List, [], ◌++◌, length, take, drop, slice_index}
 use Rattle.std.specs.List.{list_any}
 use Rattle.ts_disk.specs.declared.disk_acts.Piece.{Piece}

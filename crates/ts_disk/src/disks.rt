@@ -12,10 +12,10 @@ pub struct Failed;
 
 /// Bytes by their places, with a count of failed calls. A crash may lose writes that weren't synced.
 ///
-/// Between two syncs each written range, and the part past the old end, may hold any bytes after a crash, and
-/// the length may be any number from the old to the new one. Bytes outside stay. After a successful sync, a
-/// crash leaves the bytes that a read returns. After a failed write, even a read may return any bytes in its
-/// range and past the old end.
+/// A crash between two syncs may leave any bytes in each written range and past the old end. It may leave any
+/// length from the old to the new one. Bytes outside stay. After a successful sync, a crash leaves the bytes
+/// that a read returns. After a failed write, even a read may return any bytes in its range and past the old
+/// end.
 pub trait Disk {
     /// The bytes that reads return, if they are known.
     ghost bytes: { Self → Option (List ℕ) };

@@ -120,7 +120,7 @@ none_chosen cells [] at l = refl
 none_chosen cells (p ∷ places) zero l = absurd (omega arith)
 none_chosen cells (p ∷ places) (suc at) l = none_chosen cells places at (omega arith)
 
--- rows of groups only, of which all cells are shown, show the chosen ones if only those are
+-- if all cells of groups are shown, choosing cells shows the chosen ones
 groups_choose : (places : List ℕ) (aggs : List Agg) (groups : List Group) → map (group_shown (Some places) aggs) groups ≡ map (chosen_cells places) (map (group_shown None aggs) groups)
 groups_choose places aggs [] = refl
 groups_choose places aggs (g ∷ groups) = ap (λ rows. group_shown (Some places) aggs g ∷ rows) (groups_choose places aggs groups)

@@ -110,7 +110,7 @@ module _ (fold : Fold) (span : Span) where
 
 -- ---- histories
 
--- what ended a row before an event ended it after the event
+-- an end of a bucket with a row before an event is one after the event
 row_further : (n : ℕ) (def : ViewDef) (h : History) (x : Event) (m : ℤ) → EndsARow n def h m → EndsARow n def (h ▸ x) m
 row_further n def h x m e = record {
   before = e.before;

@@ -39,7 +39,7 @@ lies_below w (s ∷ ss) t c whole rising above l =
     let out : in_span s c ≡ false = grind (arith, ints) in
     or_from _ _ out (lies_below w ss s.hi c whole.1 (apart_rest s ss rising) (apart_next s ss rising) (omega (arith, ints)))
 
--- what lies in ranges lies at or above the start of the first
+-- numbers in ranges are at or above the start of the first
 lies_from : (w : Width) (s : Span) (ss : List Span) (c : ℤ) → AllByRecursion (IsWholeRange w) (s ∷ ss) → RiseApart (s ∷ ss) → lies_in (s ∷ ss) c ≡ true → s.lo ≤ℤ c
 lies_from w s ss c whole rising e =
     elim (int_lt c s.lo) as (λ b. int_lt c s.lo ≡ b → s.lo ≤ℤ c) [
@@ -132,7 +132,7 @@ module _ {X : Type 0} (w : Width) (f : ℤ → List X) where
       let here : int_eq b b ≡ true = (Decides-int_eq b b).1 refl in
       ap (λ xs. xs ++ flat_map f bs) (none b (or_left _ _ here)) ∙ nothing_given bs (λ c e. none c (or_right (int_eq b c) _ e))
 
-  -- a number at or below low is none of the buckets above it
+  -- a number at or below `low` isn't one of the buckets above it
   none_below : (low c : ℤ) (bs : List ℤ) → RisingBuckets w low bs → c <ℤ low → among c bs ≡ false
   none_below low c [] r l = refl
   none_below low c (b ∷ bs) r l =
@@ -145,7 +145,7 @@ module _ {X : Type 0} (w : Width) (f : ℤ → List X) where
       by_cases {b} {c} true e apart = absurd (apart ((Decides-int_eq b c).0 e))
       by_cases false e apart = e
 
-  -- a bucket in a rising list is at or above where the list starts
+  -- a bucket in a rising list is at or above the start of the list
   from_low : (low c : ℤ) (bs : List ℤ) → RisingBuckets w low bs → among c bs ≡ true → low ≤ℤ c
   from_low low c bs r e =
       elim (int_lt c low) as (λ x. int_lt c low ≡ x → low ≤ℤ c) [

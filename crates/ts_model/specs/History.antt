@@ -1,8 +1,8 @@
 -- Histories: what happened, event by event.
 --
--- Letters in all definitions about histories: h and g are histories; p is a position, s that of a snapshot, k
--- the number of an event or of a refresh; n is the number of an aggregate, t that of a table (or a time); b is
--- the start of a bucket; e is an event, i an image.
+-- Letters in all definitions about histories: h and g are histories. p is a position, s that of a snapshot, and
+-- k the number of an event or of a refresh. n is the number of an aggregate, and t that of a table (or a time).
+-- b is the start of a bucket, e an event, and i an image.
 use Rattle.std.specs.Prelude.{ℕ, zero, suc, cond, nat_lt, ◌==◌, List, [], ◌∷◌, ◌++◌, Option, Some, None}
 use Rattle.ts_model.specs.declared.events.Event.{Event}
 use Rattle.ts_model.specs.declared.images.Image.{Image}

@@ -8,14 +8,15 @@ use ts_schema::{NoMemory, Seq};
 
 /// A store of a history. Others may change it between two calls, unless it is alone.
 ///
-/// Contracts see one record, its state: the history that it has seen; the event at which its disk failed, if it
-/// did, so that it has stopped; a count of faults; the numbers of the events that calls of this value appended;
-/// and how it was opened. Each call finds a history that begins with the one seen, and appends at most one
-/// event. Besides the state there is an identity given by its owner, which no call changes.
+/// Contracts see one record, its state. It has the history seen, a count of faults, the numbers of the events
+/// that calls of this value appended, and how the store was opened. If its disk failed, it also has the event
+/// at which this happened, and the store has stopped. Each call finds a history that begins with the one seen,
+/// and appends at most one event. Besides the state there is an identity given by its owner, which no call
+/// changes.
 ///
 /// A call that appends an event returns the event's number, possibly with more. The refusals named at a call
-/// come first. Then a call that would append an event is refused as `E30` if the history is at its end, and
-/// then as `E24` if the store has stopped. A refused call changes nothing.
+/// come first. Next, a call that would append an event is refused as `E30` if the history is at its end. Last,
+/// it is refused as `E24` if the store has stopped. A refused call changes nothing.
 pub trait Backend {
     ghost use Rattle.std.specs.Prelude.{◌≡◌, ℕ, Bool, IsTrue, IsSome};
     ghost use Rattle.std.specs.Option.{ForSome};

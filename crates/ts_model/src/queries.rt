@@ -17,8 +17,8 @@ pub enum Query {
     Aggregate { view: u32, starts: Span },
 }
 
-/// What a query shows. Rows of a hypertable are ordered by time and then by their other columns, those of
-/// groups by bucket and then by their keys, and NULL comes last. The stale ranges are maximal, rise and don't
+/// What a query shows. Rows of a hypertable are ordered by time and then by their other columns. Rows of groups
+/// are ordered by bucket and then by their keys. NULL comes last. The stale ranges are maximal, rise and don't
 /// touch, and don't include their ends. A query over a hypertable has none.
 #[derive(Drop, Debug)]
 pub struct Answer {

@@ -15,8 +15,8 @@ use std::marker::Model;
 use ts_num::Datum;
 use ts_schema::{NoMemory, Seq};
 
-/// The rows of an answer, as lists of cells: rows with stored cells, and after them those of groups, whose
-/// cells are computed when they are read. So an answer of many groups takes no memory for its cells, even if
+/// The rows of an answer, as lists of cells: rows with stored cells, and then those of groups. The cells of
+/// groups are computed when they are read. So an answer of many groups takes no memory for its cells, even if
 /// only some of them are shown. It shares groups that a store keeps.
 #[derive(Drop, Debug)]
 pub struct ResultRows {
@@ -90,9 +90,9 @@ impl ResultRows {
         }
     }
 
-    /// The same rows with the cells at these places, in the order of the places: 0 is the start of the bucket,
-    /// then come the keys, and then the aggregates. A missing cell is NULL. It takes no memory and reads no
-    /// row. Fails with the rows themselves, if their cells are stored or chosen already.
+    /// The same rows with the cells at these places, in the order of the places. Place 0 is the start of the
+    /// bucket, then come the keys, and then the aggregates. A missing cell is NULL. It takes no memory and
+    /// reads no row. Fails with the rows themselves, if their cells are stored or chosen already.
     pub fn choose(self, places: Seq<u32>) -> Result<ResultRows, ResultRows>
         ensures chosen { IfOk result (λ rows. rows ≡ map (chosen_cells places) self) }
         ensures same { IfErr result (λ rows. rows ≡ self) }
@@ -167,7 +167,7 @@ impl<'a> ResultRow<'a> {
         }
     }
 
-    /// The value of the cell at a place: the whole number that it shows, or none for NULL, for a mean and for a
+    /// The value of the cell at a place: the whole number that it shows. `None` for NULL, for a mean and for a
     /// missing cell.
     #[inline(always)]
     pub fn value_at(&self, place: usize) -> Option<i128>

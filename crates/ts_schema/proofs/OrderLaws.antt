@@ -1,5 +1,5 @@
--- Laws of the orders of values, of lists of values and of rows: they are total, and the first two are equal
--- only for equal values.
+-- Laws of the orders of values, of lists of values and of rows. They are total, and the first two find only
+-- equal values equal.
 use Rattle.std.proofs.Common.{◌≡◌, [], ◌∷◌, Option, None, Some, ℤ, refl, ap}
 use Rattle.std.specs.Cmp.{IsTotalOrder}
 use Rattle.std.specs.Cmp.Lexicographic.{slice_cmp}

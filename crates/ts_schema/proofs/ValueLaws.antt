@@ -1,5 +1,5 @@
--- Values whose marks of NULL are separate from the numbers: how many there are, one more of them, and one of
--- them; and two lists item by item.
+-- Values whose marks of NULL are separate from the numbers: their number, one more value, and one value at a
+-- place. Also two lists compared item by item.
 use Rattle.std.proofs.Common.{◌≡◌, refl, sym, ap, ap₂, ◌∙◌, ℕ, zero, suc, ◌+◌, ◌-◌, ◌≤◌, ◌<◌, ℤ, Bool, true, false, List, [], ◌∷◌, ◌++◌, Some, None, Result, Ok, Err, length, take, drop, get_or, replicate, min, arith, length-append}
 use Rattle.std.proofs.lemmas.List.{get_or-take, get_or-drop, length-take, length-replicate, take_all}
 use Rattle.std.specs.Prelude.{OnErr}

@@ -52,8 +52,9 @@ Saves saved.NoMemory h most = ⊤
 abbrev pub Goes : Past → Option Event → Type 0
 Goes past failed = (failed ≡ None) × (past.events ≢ [])
 
--- the condition for each result: `Stopped` if and only if the store had stopped; otherwise `Nothing` if and
--- only if no event follows the base; otherwise `TooLong` if the image has more bytes than allowed
+-- the condition for each result. `Stopped` is returned if and only if the store had stopped, and otherwise
+-- `Nothing` if and only if no event follows the base. Otherwise it is `TooLong` if the image has more bytes
+-- than allowed
 abbrev pub EndsAs : CheckEnd → Past → Option Event → ℕ → Type 0
 EndsAs (Done p n) past failed most =
     Goes past failed × (p ≡ position (history_of past)) × HasImage (history_of past) n × (n ≤ most)

@@ -78,9 +78,9 @@ pub record IsWrong (file : List ℕ) (h : History) (at : ℕ) : Type 0 where
   pub follows : Follows file version (content_of h) payload at
   pub neither : IsNeither version h payload
 
--- a file is damaged at this place, after the events of this history: it doesn't begin like a journal; or too
--- few bytes follow a commit byte of 1; or a base that isn't a valid image follows; or another payload that
--- isn't an event that may come next follows
+-- a file is damaged at this place, after the events of this history. It doesn't begin like a journal, or too
+-- few bytes follow a commit byte of 1, or a bad payload follows it. A bad payload is a base that isn't a valid
+-- image, or another payload that isn't an event that may come next
 pub record IsDamagedAfter (file : List ℕ) (h : History) (at : ℕ) : Type 0 where
   pub sound : IsSound h
   pub broken : IsDamaged file (content_of h) at ⊎ IsWrong file h at

@@ -44,8 +44,8 @@ pub struct Checkpointed<D: Disk> {
     pub end: CheckEnd,
 }
 
-/// Appends the image of a recorder's history to its journal, if the recorder hasn't stopped and has events, and
-/// the image has at most `most` bytes.
+/// Appends the image of a recorder's history to its journal. Does so only if the recorder hasn't stopped and
+/// has events, and the image has at most `most` bytes.
 pub(crate) fn checkpoint<D: Disk>(
     alloc: Global,
     recorder: Recorder<D>,

@@ -25,7 +25,7 @@ pub enum HistoryRead<D: Disk> {
     NoMemory(D),
 }
 
-/// Reads the journal on a disk, event by event, as the start of a store does, and keeps its history without its
+/// Reads the journal on a disk, event by event, as the start of a store does. Keeps its history without its
 /// rows, which aren't needed to check whether an event may come next. Writes nothing, and returns the disk with
 /// every result.
 pub fn read_history<R: Threads + Sync, D: Disk>(rt: &R, alloc: Global, disk: D) -> HistoryRead<D>

@@ -23,8 +23,9 @@ pub enum Started<D: Disk> {
     /// A store of the history that its journal contains.
     Ready(Store<D>),
     /// The journal contains no history. This is its first damaged place: 0 if the file doesn't begin like a
-    /// journal, and otherwise the place of a commit byte of 1. After that byte the file is too short, or a base
-    /// isn't the bytes of a valid image, or another payload isn't those of an event that may come next.
+    /// journal, and otherwise the place of a commit byte of 1. After that byte the file is too short, or there
+    /// is a bad payload: a base that isn't a valid image, or another one that isn't an event that may come
+    /// next.
     Damaged { disk: D, at: u64 },
     /// The disk failed.
     DiskFault(D),

@@ -140,7 +140,7 @@ impl<D: Disk> Store<D> {
         recorder.into_disk()
     }
 
-    /// Appends the image of the store's history to its journal, if it has at most `most` bytes: allocates all
+    /// Appends the image of the store's history to its journal, if it has at most `most` bytes. Allocates all
     /// memory, raises the version, and then appends the image. A later start begins there. Returns the disk
     /// with every result.
     pub fn checkpoint(self, most: u64) -> Checkpointed<D>

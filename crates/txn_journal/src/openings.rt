@@ -79,8 +79,8 @@ fn find_start<D: Disk>(disk: &mut D) -> Result<FileStart, Failed>
     Ok(FileStart { start, beginning })
 }
 
-/// The place at which reading begins in a file with this beginning: the first commit byte, or in a journal of
-/// version 2 its last base, if it has one.
+/// The place at which reading begins in a file with this beginning. It is the first commit byte, or in a
+/// journal of version 2 the last base, if it has one.
 fn find_beginning<D: Disk>(disk: &mut D, start: Start, size: u64) -> Result<ReadStart, Failed>
     requires sized { IsSized start size }
     requires most { size ≤ MOST_BYTES }

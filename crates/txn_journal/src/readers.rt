@@ -213,8 +213,8 @@ fn read_payload<D: Disk>(disk: &mut D, at: u64, count: u64, payload: &mut Vec<u8
 }
 
 /// Returns the version of a journal from which this payload was read. No event begins like a base. If the
-/// payload of a journal of version 1 does, another process may have raised the version since it was read, so
-/// this function reads it again.
+/// payload of a journal of version 1 does, another process may have raised the version since, so this function
+/// reads the version again.
 fn version_now<D: Disk>(disk: &mut D, version: Version, payload: &[u8]) -> Result<Version, Failed>
     requires range { HasRange (D.bytes disk.old) 8 }
     ensures told { (file : List ℕ) → D.bytes disk.old ≡ Some file → version_of (slice_index file 7) ≡ version
