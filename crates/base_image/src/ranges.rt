@@ -41,7 +41,7 @@ fn last_is_fit(def: &ViewDef, pos: u64, last: &SavedLast) -> bool
     span_is_fit(last.span, Some(def)) && last.pos < pos
 }
 
-/// Whether this is true of each of these.
+/// Whether this is true of each of these last refreshes.
 fn each_last_is_fit(def: &ViewDef, pos: u64, lasts: &[SavedLast]) -> bool
     ensures { result ≡ list_all (λ l. span_fits l.span (Some def.now) && nat_lt l.pos pos) lasts.now }
 {

@@ -48,7 +48,7 @@ impl<T: Drop> NodeBuilder<T> {
         }
     }
 
-    /// How many blocks the open inner node has: too few to make it full.
+    /// The number of blocks that the open inner node has: too few to make it full.
     pub(crate) fn open_blocks(&self) -> usize {
         self.last.count()
     }

@@ -230,7 +230,7 @@ impl Chunks {
         self.scan_part(pos, span, span, steps)
     }
 
-    /// The same of a part of the span. Reads the same versions, and returns only the rows of the part.
+    /// The same for a part of the span. Reads the same versions, and returns only the rows of the part.
     pub fn scan_part<L>(
         &self,
         pos: u64,

@@ -55,7 +55,7 @@ fn relation_refusal(taken: bool, many: usize, position: u64) -> Option<Refusal>
     }
 }
 
-/// Why a table isn't made a hypertable.
+/// Why a table can't become a hypertable.
 fn hyper_refusal(made: bool, position: u64) -> Option<Refusal>
     ensures { result ≡ hyper_refusal made position }
 {

@@ -36,7 +36,7 @@ fn end_of(width: Width, latest: Option<i64>) -> Option<i64>
     }
 }
 
-/// Where a window without an end ends.
+/// The end of a window without a given end.
 fn window_end(width: Width, mark: Option<i64>, latest: Option<i64>) -> Option<i64>
     requires mark { ForSome mark (IsMark width) }
     requires latest { ForSome latest (λ t. IsTrue (is_time t)) }

@@ -21,7 +21,7 @@ fn group_is_few(group: &SavedGroup) -> bool
     group.parts.items().iter().all(|sums| sums.count < TOO_MANY)
 }
 
-/// Whether the groups of an aggregate do.
+/// Whether the groups of an aggregate have fewer rows.
 fn view_is_few(view: &SavedView) -> bool
     ensures { result ≡ few_in_view view.now }
 {

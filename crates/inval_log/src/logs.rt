@@ -41,7 +41,7 @@ impl InvalLog {
         }
     }
 
-    /// Hulls that begin below it are logged.
+    /// The threshold. Hulls that begin below it are logged.
     pub fn threshold(&self) -> i64
         ensures threshold { result ≡ self.now.threshold }
     {
@@ -55,8 +55,8 @@ impl InvalLog {
         &self.entries
     }
 
-    /// A copy of the log, which shares all entries except those that were noted since the log was last `share`.
-    /// It may have a different capacity.
+    /// A copy of the log, which shares all entries except those that were noted since the last `share`. It may
+    /// have a different capacity.
     pub fn copy(&self) -> Result<InvalLog, NoMemory>
         ensures threshold { IfOk result (λ copy. copy.threshold ≡ self.now.threshold) }
         ensures entries { IfOk result (λ copy. copy.entries ≡ self.now.entries) }

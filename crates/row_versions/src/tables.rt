@@ -93,7 +93,7 @@ impl Table {
         self.chunks.scan(pos, span, steps)
     }
 
-    /// The same of a part of the span. Reads the same rows, and returns only those of the part.
+    /// The same for a part of the span. Reads the same rows, and returns only those of the part.
     pub fn scan_part<L>(
         &self,
         pos: u64,

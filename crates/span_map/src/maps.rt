@@ -118,7 +118,7 @@ impl SpanMap {
         Ok(())
     }
 
-    /// Gives each number of the span this position.
+    /// Sets each number of the span to this position.
     pub fn assign(&mut self, span: Span, pos: u64)
         requires { 2 ≤ self.old.room }
         ensures values { ChangesWithin span (λ _. Some pos) (at self.old) (at self.new) }
@@ -136,7 +136,7 @@ impl SpanMap {
         change_values(&mut self.edges, span, Change::ClearUpto(pos));
     }
 
-    /// Gives each number of the span the later of its position and `pos`.
+    /// Sets each number of the span to the later of its position and `pos`.
     pub fn raise(&mut self, span: Span, pos: u64)
         requires { 3 + piece_count_of self.old ≤ self.old.room }
         ensures values { ChangesWithin span (λ v. later v (Some pos)) (at self.old) (at self.new) }
@@ -145,7 +145,7 @@ impl SpanMap {
         change_values(&mut self.edges, span, Change::Raise(pos));
     }
 
-    /// Gives each number of the span at which `floor` has no value, or one below `pos`, this position.
+    /// Sets each number of the span at which `floor` has no value, or one below `pos`, to this position.
     pub fn assign_above(&mut self, span: Span, pos: u64, floor: &SpanMap)
         requires { 3 * (piece_count_of floor.now + 1) ≤ self.old.room }
         ensures values { AssignsAbove span pos (at floor.now) (at self.old) (at self.new) }

@@ -37,9 +37,9 @@ pub(crate) fn bucket_start(w: Width, t: i64) -> i64
     t - (t - w.shift).rem_euclid(w.step)
 }
 
-/// The start of the bucket that holds `t`: the greatest start of a bucket that isn't above `t`, also even if
-/// `t` is negative. `t` lies within 2^41 of the range of times. See `time_bucket` with an offset, for whole
-/// numbers, in the API reference of TimescaleDB.
+/// The start of the bucket that holds `t`: the greatest start of a bucket at or below `t`, even if `t` is
+/// negative. `t` lies within 2^41 of the range of times. See `time_bucket` with an offset, for whole numbers,
+/// in the API reference of TimescaleDB.
 pub fn bucket(w: Width, t: i64) -> i64
     requires { IsNearTimes t }
     ensures bucket { IsBucketOf w t result }

@@ -45,7 +45,7 @@ pub struct Lines {
     /// The place in `bytes` of the line returned last.
     line_from: usize,
     line_to: usize,
-    /// How many bytes from those held on lie within the limit of the input. One more may be held.
+    /// The number of bytes, from those held on, within the limit of the input. One more may be held.
     allowed: usize,
     is_open: bool,
     /// Whether the source has reported its end. Then no byte is held.

@@ -6,12 +6,12 @@ use crate::refreshes::Waiting;
 use ts_bucket::Span;
 use ts_schema::{NoMemory, Seq};
 
-/// What is kept of a column of the rows of a group.
+/// The totals of a column of the rows of a group.
 #[derive(Clone, Copy, Debug, PartialEq, Eq)]
 pub struct Sums {
     /// The number of rows.
     pub count: u64,
-    /// How many values aren't NULL.
+    /// The number of values that aren't NULL.
     pub values: u64,
     /// The sum of these.
     pub sum: i128,
@@ -28,7 +28,7 @@ pub struct SavedGroup {
     pub start: i64,
     /// The keys.
     pub keys: Seq<Option<i64>>,
-    /// What is kept for each aggregate function, in order.
+    /// The totals for each aggregate function, in order.
     pub parts: Seq<Sums>,
 }
 

@@ -25,7 +25,7 @@ pub fn nothing_stood_above_the_watermark()
     ensures { NothingAboveWatermark }
 {}
 
-/// A bucket below the watermark of an aggregate stays below it as the history grows.
+/// A number below the watermark of an aggregate stays below it as the history grows.
 pub fn watermarks_never_fall()
     ensures { WatermarkNeverFalls }
 {}
@@ -151,7 +151,7 @@ pub fn waiting_refreshes_are_pending()
 {}
 
 /// A watermark is the one with which the history begins, or the end of a bucket. A finished refresh covers that
-/// bucket, and it had a result row at that refresh's snapshot. A watermark isn't the end of a window.
+/// bucket, and it had a result row at that refresh's snapshot. So a watermark isn't simply the end of a window.
 pub fn watermarks_end_rows()
     ensures { MarksEndRows }
 {}

@@ -30,9 +30,9 @@ pub enum Outcome<T> {
 pub struct Committed {
     /// The number of its event.
     pub pos: u64,
-    /// How many rows it inserted, over all tables.
+    /// The number of rows that it inserted, over all tables.
     pub inserted: u64,
-    /// How many rows it removed, over all tables.
+    /// The number of rows that it removed, over all tables.
     pub removed: u64,
 }
 

@@ -46,8 +46,8 @@ fn common_divisor_of_words(a: u64, b: u64) -> u64
     greater
 }
 
-/// States that `lowest_terms` of a number over a positive count is the one fraction in lowest terms
-/// that equals their quotient. It does nothing.
+/// States that `lowest_terms` of a number over a positive count is the one fraction in lowest terms that equals
+/// their quotient. Does nothing.
 pub fn lowest_terms_law()
     ensures { LowestTermsLaw }
 {}

@@ -13,7 +13,7 @@ use std::marker::Model;
 use std::sync::Arc;
 
 /// Values in order, where NULL is `None`. A value takes 8 bytes. Those up to the last NULL take one more byte
-/// each, since few tables have a NULL. Contracts see the list of values.
+/// each. Few tables have a NULL. Contracts see the list of values.
 #[derive(Drop, Debug)]
 pub struct ValueBlock {
     /// The numbers, with 0 for each NULL.
