@@ -147,8 +147,8 @@ impl<T: Clone + Drop> Builder<T> {
 
     /// Appends the items of a list from place `from` on and below place `to`. Shares the inner nodes and blocks
     /// that are whole there, but merges small ones with their neighbors. The cost grows with the items of the
-    /// blocks at both places, the blocks of the inner nodes there and next to them, and the number of inner
-    /// nodes.
+    /// blocks at both places and with the number of inner nodes. It also grows with the blocks of the inner
+    /// nodes there and next to them.
     pub fn append(&mut self, list: &BlockList<T>, from: usize, to: usize) -> Result<(), NoMemory>
         requires order { from ≤ to }
         requires within { to ≤ length list.now.items }

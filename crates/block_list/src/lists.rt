@@ -149,8 +149,8 @@ impl<T: Clone + Drop> BlockList<T> {
     }
 
     /// The same list with all items shared, so that a copy of it only counts one more sharer. The cost is that
-    /// of a block and, once per block of new items, grows with the blocks of the last inner node and the number
-    /// of inner nodes.
+    /// of a block. Once per block of new items, it also grows with the blocks of the last inner node and the
+    /// number of inner nodes.
     pub fn share(&self) -> Result<BlockList<T>, NoMemory>
         requires faithful { (x y : T) → T.is_clone x y → x ≡ y }
         ensures items { IfOk result (λ shared. shared.items ≡ self.now.items) }
@@ -222,8 +222,8 @@ impl<T: Clone + Drop> BlockList<T> {
     }
 
     /// The list with these items instead of those from place `from` on and below place `to`. The cost grows
-    /// with the new items, the items of the blocks at both places, the blocks of the inner nodes there and next
-    /// to them, and the number of inner nodes.
+    /// with the new items, the items of the blocks at both places and the number of inner nodes. It also grows
+    /// with the blocks of the inner nodes there and next to them.
     pub fn replace(&self, from: usize, to: usize, items: &[T]) -> Result<BlockList<T>, NoMemory>
         requires order { from ≤ to }
         requires within { to ≤ length self.now.items }

@@ -40,8 +40,8 @@ pub struct SegmentTree {
 #[derive(Drop)]
 enum Shape {
     Leaf(Segment),
-    /// The earlier segments, the later ones, the number of versions, the hull of their times, and the position
-    /// of the last delete, if all versions are deleted.
+    /// The earlier segments, the later ones, the number of versions, and the hull of their times. Also the
+    /// position of the last delete, if all versions are deleted.
     Fork(Arc<SegmentTree>, Arc<SegmentTree>, u64, Option<Hull>, Option<u64>),
 }
 

@@ -30,8 +30,8 @@ pub struct Tree {
 #[derive(Drop)]
 enum Node {
     Empty,
-    /// The chunks before this one, this one, the chunks after it, the hull of all their starts, the number of
-    /// levels, and the position of the last delete, if all versions are deleted.
+    /// The chunks before this one, this one, the chunks after it, the hull of all their starts, and the number
+    /// of levels. Also the position of the last delete, if all versions are deleted.
     Fork(Arc<Tree>, Chunk, Arc<Tree>, Hull, u64, Option<u64>),
 }
 

@@ -23,8 +23,8 @@ pub fn thresholds_reach_each_cut()
     ensures { ThresholdsReach }
 {}
 
-/// The buckets that are marked when an aggregate is created are those from the first one on that end at or
-/// below the greatest number of 64 bits.
+/// Creating an aggregate marks exactly the buckets from the first one on that end at or below the greatest
+/// number of 64 bits.
 pub fn all_buckets_are_marked()
     ensures { AllBucketsAre }
 {}

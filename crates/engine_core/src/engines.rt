@@ -202,7 +202,8 @@ impl Engine {
     }
 
     /// Checks whether an event is allowed next. If it isn't, returns the refusal of the store call that appends
-    /// such an event (`E07`, `E21`, `E19` or `E30`), or otherwise a refusal with the number 0.
+    /// such an event: `E07`, `E21`, `E19` or `E30`. If that call isn't refused, returns a refusal with the
+    /// number 0.
     pub fn check(&self, event: &Event) -> Result<(), Refusal>
         ensures allowed { IfOk result (λ _. IsTrue (allowed (history_of self.now.past) event.now)) }
         ensures refused { IfErr result (λ refusal.

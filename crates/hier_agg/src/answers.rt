@@ -20,8 +20,8 @@ use ts_num::{Datum, Fun};
 use ts_schema::NoMemory;
 
 /// The upper answer, computed from the answer of an aggregate over all its buckets. Reports as out of memory a
-/// count over 64 bits, a sum or a wider bucket over 128 bits, and a stale range that can't be widened within 64
-/// bits.
+/// count over 64 bits, and a sum or a wider bucket over 128 bits. Reports the same for a stale range that can't
+/// be widened within 64 bits.
 pub fn answer_upper(
     alloc: Global,
     plan: &UpperPlan,

@@ -92,8 +92,8 @@ impl MatRows {
     }
 
     /// The groups, with those whose buckets start in the spans, which rise, replaced by new ones. New groups
-    /// that start in no span are ignored. The cost grows with the groups of both lists in the blocks in
-    /// which the spans end, the blocks of the inner nodes there, and the number of inner nodes.
+    /// that start in no span are ignored. The cost grows with the groups of both lists in the blocks in which
+    /// the spans end. It also grows with the blocks of the inner nodes there, and the number of inner nodes.
     pub fn replace(&self, spans: &Seq<Span>, groups: &MatRows) -> Result<MatRows, NoMemory>
         requires sizes { AreSpans spans.now }
         requires rising { SpansRise spans.now }

@@ -93,8 +93,8 @@ pub record IsQueue (h : History) (bytes : ℕ) (ops : List Op) : Type 0 where
   pub fits : IsTrue (list_all (op_fits (roster h)) ops)
   pub size : sum_by op_bytes ops ≤ 8 * bytes
 
--- a queue is empty at first, accepts one more operation, stays valid as a history grows, and can be committed
--- while its texts have at most 2 ^ 26 bytes
+-- a queue is empty at first, accepts one more operation, and stays valid as a history grows; it can be
+-- committed while its texts have at most 2 ^ 26 bytes
 pub record QueuesAreSound : Type 0 where
   pub begins : (h : History) → IsQueue h 0 []
   pub grows : (h : History) (bytes more : ℕ) (ops : List Op) (op : Op) → IsQueue h bytes ops → IsOperation h more op

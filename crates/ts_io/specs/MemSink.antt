@@ -5,8 +5,8 @@ use Rattle.ts_io.specs.Schedule.{is_listed}
 use Rattle.ts_io.specs.declared.sinks.Put.{Put}
 use Rattle.ts_io.specs.declared.sinks.Put.TheVariants.{Bytes, Failed}
 
--- the bytes written, the most that a call takes, the numbers of the calls that fail, and how many calls there were
--- and how many failed
+-- the bytes written and the most that a call takes; the numbers of the calls that fail, and how many calls
+-- there were and how many failed
 pub record Store : Type 0 where
   pub written : List ℕ
   pub most : ℕ

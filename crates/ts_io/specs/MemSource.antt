@@ -5,7 +5,7 @@ use Rattle.ts_io.specs.Schedule.{is_listed}
 use Rattle.ts_io.specs.declared.sources.Got.{Got}
 use Rattle.ts_io.specs.declared.sources.Got.TheVariants.{Bytes, Failed}
 
--- the bytes left, whether the end was reported, the most that a call returns, the numbers of the calls that
+-- the bytes left, whether the end was reported, and the most that a call returns; the numbers of the calls that
 -- fail, and how many calls there were and how many failed
 pub record Supply : Type 0 where
   pub left : List ℕ

@@ -8,11 +8,11 @@ use ts_schema::{NoMemory, Seq};
 
 /// A store of a history. Others may change it between two calls, unless it is alone.
 ///
-/// Contracts see one record, its state. It has the history seen, a count of faults, the numbers of the events
-/// that calls of this value appended, and how the store was opened. If its disk failed, it also has the event
-/// at which this happened, and the store has stopped. Each call finds a history that begins with the one seen,
-/// and appends at most one event. Besides the state there is an identity given by its owner, which no call
-/// changes.
+/// Contracts see one record, its state. It has the history seen, a count of faults, and how the store was
+/// opened. It also has the numbers of the events that calls of this value appended. If its disk failed, it also
+/// has the event at which this happened, and the store has stopped. Each call finds a history that begins with
+/// the one seen, and appends at most one event. Besides the state there is an identity given by its owner,
+/// which no call changes.
 ///
 /// A call that appends an event returns the event's number, possibly with more. The refusals named at a call
 /// come first. Next, a call that would append an event is refused as `E30` if the history is at its end. Last,

@@ -109,7 +109,7 @@ pub fn widths_are_sound()
     ensures { WidthsAreSound }
 {}
 
-/// Each row that was ever inserted into a table of a consistent history fits the table, and so does each of its
+/// Each row that was ever inserted into a table of a consistent history fits the table. So does each of its
 /// rows at a position.
 pub fn rows_fit_their_tables()
     ensures { RowsFitTables }

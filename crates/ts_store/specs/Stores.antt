@@ -14,7 +14,7 @@ use Rattle.txn_journal.specs.declared.journals.JournalState.TheVariants.{Bare, R
 use Rattle.ts_store.specs.Images.{IsDurable, IsBetween, StandsForEither, latest}
 use Rattle.ts_store.specs.Stands.{IsSound, content_of}
 
--- a store: its engine, its journal, the event at which the disk failed, the disk as it was at the start, the
+-- a store: its engine, its journal and the event at which the disk failed; the disk as it was at the start, the
 -- position at which it was opened, and whether it was armed since
 pub record StoreValue (D : Type 0) : Type 0 where
   pub engine : EngineValue

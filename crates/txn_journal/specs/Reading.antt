@@ -60,8 +60,8 @@ pub record BaseFollows (file : List ℕ) (mark : ℕ) (payloads : List (List ℕ
 
 -- ---- a reader
 
--- its disk, how its file begins, the version and length of the file, the place of the next commit byte, the payload
--- that was read last, and whether the end was found
+-- its disk, how its file begins, and the version and length of the file; the place of the next commit byte, the
+-- payload that was read last, and whether the end was found
 pub record Progress (D : Type 0) : Type 0 where
   pub disk : D
   pub standing : JournalState
