@@ -1,4 +1,4 @@
--- The bytes of an image are as many as are counted.
+-- An image has as many bytes as its size says.
 use Rattle.std.proofs.Common.{◌≡◌, ℕ, ◌+◌, ◌*◌, List, [], ◌∷◌, ◌++◌, length, length-append, Option, Some, None, ℤ, refl, arith}
 use Rattle.std.specs.Prelude.{sum_by}
 use Rattle.std.specs.List.{flat_map}
@@ -24,7 +24,7 @@ pub counted : {X : Type 0} (spell : X → List ℕ) (f : X → ℕ) → ((x : X)
 counted spell f each [] = refl
 counted spell f each (x ∷ xs) = omega (arith, length-append (spell x) (flat_map spell xs), each x, counted spell f each xs, sum_cons f x xs)
 
--- items of so many bytes each
+-- items with this many bytes each
 evenly : {X : Type 0} (spell : X → List ℕ) (n : ℕ) → ((x : X) → length (spell x) ≡ n) → (xs : List X) → length (flat_map spell xs) ≡ n * length xs
 evenly spell n each [] = omega arith
 evenly spell n each (x ∷ xs) = omega (arith, length-append (spell x) (flat_map spell xs), each x, evenly spell n each xs, more n (length xs))

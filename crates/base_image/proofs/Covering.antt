@@ -1,4 +1,4 @@
--- Ranges that rise cover a span of whole buckets exactly where each of its buckets lies in one of them.
+-- Ranges that rise cover a span of whole buckets if and only if each of its buckets lies in one of them.
 use Rattle.std.proofs.Common.{◌≡◌, ℕ, suc, ◌+◌, Bool, true, false, ◌&&◌, ◌||◌, not, cond, nat_lt, ℤ, ◌≤ℤ◌, ◌<ℤ◌, int_lt, int_le, List, [], ◌∷◌, drop, Some, refl, sym, ap, ◌∙◌, subst, arith}
 use Rattle.std.specs.Prelude.{is_some}
 use Rattle.std.specs.Int.{int_max}
@@ -25,7 +25,7 @@ use Rattle.ts_model.proofs.RangeLaws.{among, among-buckets_in}
 use Rattle.base_image.specs.Rising.{are_rising, cover_from, spans_of}
 use Rattle.base_image.proofs.Searching.{rising_head, rising_tail, below_later, lasts_hold}
 
--- ---- what is covered lies in a range
+-- ---- covered numbers lie in a range
 
 ended_before : (until from : ℤ) → int_le until from ≡ false → from <ℤ until
 ended_before until from e = grind (arith, ints)
@@ -53,7 +53,7 @@ covered from until b (s ∷ ss) c low high =
     ) (λ here. or_left (in_span s b) (lies_in ss b) (in_span-from_ends s b (omega (arith, ints)) (ended_before s.hi b here)))
     )
 
--- ---- and where a number isn't covered, a bucket lies in none
+-- ---- and if a number isn't covered, some bucket lies in no range
 
 record Gap (w : Width) (from until : ℤ) (ss : List Span) : Type 0 where
   bucket : ℤ
@@ -96,7 +96,7 @@ gap w from until (s ∷ ss) rise ends starts c =
     }
     )
 
--- ---- ranges that end at or below the first number play no part
+-- ---- ranges that end at or below the first number have no effect
 
 once_more : (from until : ℤ) (ss : List Span) → (int_le until from || cover_from from until ss) ≡ cover_from from until ss
 once_more from until [] = same (int_le until from)

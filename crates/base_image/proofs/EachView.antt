@@ -1,4 +1,4 @@
--- What is kept of each aggregate, read one after the other, as a loop does.
+-- The saved parts of each aggregate, read in order, as a loop does.
 use Rattle.std.proofs.Common.{◌≡◌, ℕ, List, [], ◌∷◌, ◌++◌, Result, Ok, Err, refl, sym, ap, ◌∙◌, append_assoc}
 use Rattle.std.proofs.lemmas.List.{append-nil}
 use Rattle.ts_model.specs.declared.images.SavedView.{SavedView}
@@ -13,7 +13,7 @@ use Rattle.base_image.specs.Reading.{saved_at, saved_each, shape_of}
 abbrev pub Views : Type 0
 Views = Result (List SavedView × List ℕ) (List ℕ)
 
--- what was read before, and what is still read
+-- the items read before, and those still to be read
 abbrev pub with_front : List SavedView → Views → Views
 with_front front read = go_on read (λ others end. Ok (front ++ others, end))
 

@@ -1,4 +1,5 @@
--- Formats: how values of a type are spelled, which of them are, and how they are read again. A reading is exact: it gives a value where its spelling stands in front, and nothing else.
+-- Formats: how values of a type are written, which values can be written, and how they are read. A reading is
+-- exact: it returns a value if its encoding is in front, and otherwise nothing.
 use Rattle.std.proofs.Common.{◌≡◌, ℕ, zero, suc, Bool, true, false, cond, List, [], ◌∷◌, ◌++◌, length, Result, Ok, Err, refl, sym, ap, subst, ◌∙◌, append_assoc, arith}
 use Rattle.std.specs.List.{flat_map, AllByRecursion}
 use Rattle.std.proofs.lemmas.List.{nil_from_length}
@@ -10,9 +11,9 @@ use Rattle.event_codec.proofs.NumberLaws.{any_four_format}
 use Rattle.base_image.specs.Reading.{checked_by}
 
 pub record IsExact {A : Type 0} (spelling : A → List ℕ) (fits : A → Type 0) (read : Reads A) : Type 0 where
-  -- what is read is spelled so
+  -- the encoding of a value read is in front
   pub takes : (bytes : List ℕ) (a : A) (left : List ℕ) → read bytes ≡ Ok (a, left) → Stands spelling fits bytes a left
-  -- what is spelled so is read, whatever follows
+  -- an encoding in front is read, with anything after it
   pub again : (a : A) (left : List ℕ) → fits a → read (spelling a ++ left) ≡ Ok (a, left)
 
 pub exact : {A : Type 0} {spelling : A → List ℕ} {fits : A → Type 0} {read : Reads A} → IsFormat spelling fits read → IsExact spelling fits read
@@ -29,7 +30,7 @@ gives_exact {A} a = record {
   again = λ b left h. let same : b ≡ a = h in cc;
 }
 
--- ---- what passes a test
+-- ---- values that pass a test
 
 module _ {A : Type 0} (test : A → Bool) (spell : A → List ℕ) (fits : A → Type 0) (p : Reads A) (first : IsExact spell fits p) where
   abbrev tested : A → Reads A
@@ -55,7 +56,7 @@ module _ {A : Type 0} (test : A → Bool) (spell : A → List ℕ) (fits : A →
     again = λ a left h. ap (λ (r : Read A). go_on r tested) (first.again a left h.0) ∙ ap (λ (t : Bool). cond t (done a left) (Err left)) h.1;
   }
 
--- ---- one after the other
+-- ---- in order
 
 module _ {A B : Type 0} (spell : A → List ℕ) (fits : A → Type 0) (p : Reads A) (spell_next : A → B → List ℕ) (fits_next : A → B → Type 0) (q : A → Reads B) (first : IsExact spell fits p) (next : (a : A) → fits a → IsExact (spell_next a) (fits_next a) (q a)) where
   abbrev spell_both : A × B → List ℕ
@@ -122,7 +123,7 @@ module _ {A B : Type 0} (f : A → B) (spell : A → List ℕ) (fits : A → Typ
   pub map_exact : IsExact seen holds (read_map f p)
   map_exact = record { takes = map_takes; again = map_again }
 
--- ---- so many items
+-- ---- a given number of items
 
 module _ {A : Type 0} (spell : A → List ℕ) (fits : A → Type 0) (p : Reads A) (first : IsExact spell fits p) where
   abbrev so_many : ℕ → List A → Type 0

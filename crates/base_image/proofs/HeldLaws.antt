@@ -87,7 +87,7 @@ appended_next t (Commit ops) es = ap (λ (rows : List Row). rows ++ appended_ove
 appended_next t (Cut v span) es = refl
 appended_next t (Built cut snap) es = refl
 
--- each row of a table, in order, passes where each that a commit appends does
+-- each row of a table passes if each row that a commit appends does
 pub all_by_commit : (p : Row → Bool) (t : ℕ) (es : List Event) → list_all (λ (e : Event). list_all p (appended_over t (e ∷ []))) es ≡ list_all p (in_order (appended_over t es))
 all_by_commit p t es = by_commit es ∙ sym (all_in_order p (appended_over t es))
   where

@@ -1,4 +1,4 @@
--- Lists that are walked from the front.
+-- Lists that are read from the front.
 use Rattle.std.proofs.Common.{◌≡◌, ◌-◌, ◌<◌, ◌≤◌, Bool, true, false, ◌&&◌, List, [], ◌∷◌, length, take, drop, get_or, refl, sym, ap, ◌∙◌, arith}
 use Rattle.std.specs.List.{list_all}
 use Rattle.std.proofs.lemmas.List.{take_all}
@@ -15,7 +15,7 @@ none_left (x ∷ xs) h = absurd (omega arith)
 
 -- ---- a test of all items, from the front
 
--- what is left tells whether all pass
+-- the rest shows whether all pass
 abbrev pub IsToldBy : {X : Type 0} → (X → Bool) → List X → List X → Type 0
 IsToldBy p all left = list_all p left ≡ list_all p all
 

@@ -1,4 +1,4 @@
--- The events that make a roster, one by one.
+-- The events that create a roster, one by one.
 use Rattle.std.proofs.Common.{◌≡◌, Bool, true, false, ◌&&◌, ◌||◌, cond, List, [], ◌∷◌, Option, Some, None, refl, sym, ap, ◌∙◌}
 use Rattle.ts_model.specs.declared.events.Event.{Event}
 use Rattle.ts_model.specs.declared.events.Event.TheVariants.{Table, Hyper, View, Mode, Commit, Cut, Built}
@@ -23,7 +23,7 @@ make_next true r (Commit ops) es = refl
 make_next true r (Cut v span) es = refl
 make_next true r (Built cut snap) es = refl
 
--- what is left tells what all events make
+-- the rest shows the roster that all events create
 pub record MakesRest (all : List Event) (begun : Bool) (made : Roster) (left : List Event) : Type 0 where
   pub allowed : make_relations no_relations all ≡ make_rest begun made left
   pub made_is : roster_over no_relations all ≡ roster_over made left

@@ -1,4 +1,4 @@
--- What passes on from each item to the next holds of each and every later one.
+-- A transitive relation of each item to the next relates each item to every later one.
 use Rattle.std.proofs.Common.{◌≡◌, ℕ, zero, suc, ◌+◌, ◌<◌, Bool, true, false, ◌&&◌, not, nat_lt, int_le, List, [], ◌∷◌, map, length, get_or, refl, sym, ap, ◌∙◌, subst, arith, tests}
 use Rattle.std.specs.Cmp.{IsTotalOrder, nat_cmp_total, upto}
 use Rattle.std.specs.List.{list_all, IsAllAdjacentAnswer, AllAdjacentBelow}
@@ -13,7 +13,7 @@ use Rattle.ts_model.specs.Valid.{all_rise, all_stand, spans_rise}
 use Rattle.ts_model.specs.declared.images.SavedLast.{SavedLast}
 use Rattle.base_image.specs.Rising.{spans_of}
 
--- each item and the next pass
+-- each item and the next pass the test
 abbrev pub neighbours : {X : Type 0} → (X → X → Bool) → List X → Bool
 neighbours e [] = true
 neighbours e (x ∷ []) = true
@@ -40,12 +40,12 @@ some_apart e (x ∷ y ∷ xs) (suc k) l h =
     ap (λ (t : Bool). e x y && t) (some_apart e (y ∷ xs) k (omega arith) (λ d. subst (λ n. false ≡ e (get_or (y ∷ xs) k d) (get_or (x ∷ y ∷ xs) n d)) next (h d)))
     ∙ none_after (e x y)
 
--- what a search for two adjacent items that don't pass answers
+-- the result of a search for two adjacent items that don't pass
 pub answer_is : {X : Type 0} (e : X → X → Bool) (xs : List X) (r : Bool) → IsAllAdjacentAnswer (λ x y b. b ≡ e x y) xs r → r ≡ neighbours e xs
 answer_is e xs true h = sym (all_neighbours e xs h)
 answer_is e xs false h = sym (some_apart e xs h.0 h.1 h.2)
 
--- each item and each later one pass
+-- each item and each later one pass the test
 abbrev pub pairs : {X : Type 0} → (X → X → Bool) → List X → Bool
 pairs e [] = true
 pairs e (x ∷ xs) = list_all (e x) xs && pairs e xs
@@ -106,7 +106,7 @@ stand_is : {K : Type 0} (cmp : K → K → Ordering) (xs : List K) → all_stand
 stand_is cmp [] = refl
 stand_is cmp (x ∷ xs) = ap (λ (t : Bool). list_all (λ y. not (is_gt (cmp x y))) xs && t) (stand_is cmp xs)
 
--- items stand in order
+-- items are in order
 pub stands : {K : Type 0} (cmp : K → K → Ordering) → IsTotalOrder cmp → (xs : List K) (r : Bool) → IsAllAdjacentAnswer (λ x y b. b ≡ not (is_gt (cmp x y))) xs r → r ≡ all_stand cmp xs
 stands {K} cmp total xs r h =
     let on : PassesOn (λ (x y : K). not (is_gt (cmp x y))) = λ x y z p q. ap not (upto total x y z (not-true _ p) (not-true _ q)) in

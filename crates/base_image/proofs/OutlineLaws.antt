@@ -1,4 +1,4 @@
--- The rows of a state, table by table, beside the image that holds them.
+-- The rows of a state, table by table, compared with the image that holds them.
 use Rattle.std.proofs.Common.{◌≡◌, ℕ, zero, suc, ◌+◌, ◌-◌, ◌*◌, ◌^◌, ◌<◌, ◌≤◌, ◌==◌, add-one, Bool, true, false, not, cond, List, [], ◌∷◌, ◌++◌, take, length, length-append, get_or, min, refl, sym, ap, ◌∙◌, append_assoc, subst, arith}
 use Rattle.std.specs.Prelude.{sum_by}
 use Rattle.std.specs.List.{AllByRecursion, count_by, flat_map}
@@ -30,7 +30,7 @@ use Rattle.base_image.proofs.TakingLaws.{one_more_held}
 
 -- ---- spans
 
--- what is made of one item more
+-- the results with one more item
 pub more_made : {X Y : Type 0} (f : X → List Y) (xs : List X) (i : ℕ) (x : X) → i < length xs → x ≡ get_or xs i x → flat_map f (take i xs) ++ f x ≡ flat_map f (take (i + 1) xs)
 more_made f xs i x l is = step xs i l is ∙ ap (λ n. flat_map f (take n xs)) (sym (add-one i))
   where
@@ -39,7 +39,7 @@ more_made f xs i x l is = step xs i l is ∙ ap (λ n. flat_map f (take n xs)) (
     step (y ∷ ys) zero l is = ap f is ∙ sym (append-nil (f y))
     step (y ∷ ys) (suc i) l is = append_assoc (f y) (flat_map f (take i ys)) (f x) ∙ ap (λ zs. f y ++ zs) (step ys i (omega arith) is)
 
--- what holds of all rows holds of those of a span
+-- what is true of all rows is true of those of a span
 pub all_in : (P : Row → Type 0) (s : Span) (rows : List Row) → AllByRecursion P rows → AllByRecursion P (rows_in s rows)
 all_in P s [] all = tt
 all_in P s (row ∷ rows) all =

@@ -157,7 +157,7 @@ each_exact (def ∷ defs) = map_exact put_before (λ x. bytes_of_saved_view x.0 
     back [] h = absurd h
     back (v ∷ vs) h = record { value = (v, vs); ok = h; same = refl; spelled = refl }
 
--- as many as a count tells
+-- as many as a count says
 abbrev pub AreViewsOf : List ViewDef → List SavedView → Type 0
 AreViewsOf defs vs = IsFour (length vs) × AreSavedOf defs vs
 
@@ -194,7 +194,7 @@ finished_exact = map_exact to_finished _ _ (pair any_eight (λ cut. any_eight)) 
 
 -- ---- images
 
--- events with the roster that they make
+-- events with the roster that they create
 abbrev pub MakeRoster : List Event × Roster → Type 0
 MakeRoster x = (Many IsFramed x.0 × (make_relations no_relations x.0 ≡ true)) × (x.1 ≡ roster_over no_relations x.0)
 
@@ -207,7 +207,7 @@ roster_exact = map_exact with_roster (many bytes_of_frame) (λ es. Many IsFramed
       back = λ x h. record { value = x.0; ok = h.0; same = ap (λ (r : Roster). (x.0, r)) (sym h.1); spelled = refl };
     })
 
--- an image whose parts are formed and fit one another as far as reading goes
+-- an image whose parts are in range and fit one another, as far as reading checks it
 pub record IsReadable (i : Image) : Type 0 where
   pub pos : IsEight i.pos
   pub roster : Many IsFramed i.roster
@@ -271,7 +271,7 @@ ended : (x y : Image × Roster) (left end : List ℕ) → at_end x left ≡ Ok (
 ended x y [] end h = (same_value x y [] end h, refl)
 ended x y (b ∷ left) end h = absurd cc
 
--- what is read is an image with its roster, and all of it
+-- reading returns an image with its roster, and reads all bytes
 pub image_read : (bytes : List ℕ) (x : Image × Roster) (end : List ℕ) → whole_image bytes ≡ Ok (x, end) → WithRoster x × (bytes ≡ image x.0)
 unfolding whole_image
 image_read bytes x end h =

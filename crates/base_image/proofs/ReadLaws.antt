@@ -1,4 +1,4 @@
--- What is read is a valid image, and each valid image is read.
+-- Reading returns a valid image, and each valid image is read.
 use Rattle.std.proofs.Common.{◌≡◌, ℕ, true, false, ◌&&◌, ◌==◌, List, [], ◌∷◌, length, Ok, Err, sym, ap, ◌∙◌}
 use Rattle.std.specs.List.{list_all, AllByRecursion}
 use Rattle.std.proofs.lemmas.Bool.{and_parts, true≢false, eqb-true}
@@ -45,7 +45,7 @@ formed i h = record {
   done = h.done;
 }
 
--- ---- what is valid and formed can be read
+-- ---- valid parts in range can be read
 
 group_sized : (def : ViewDef) (dirty : List Span) (g : SavedGroup) → IsGroup g → group_fits def dirty g ≡ true → IsGroupOf (shape_of def) g
 group_sized def dirty g is fits =
@@ -104,13 +104,13 @@ is_formed bytes i r end h = formed i (image_read bytes (i, r) end h).0.0
 pub is_spelled : (bytes : List ℕ) (i : Image) (r : Roster) (end : List ℕ) → whole_image bytes ≡ Ok ((i, r), end) → bytes ≡ image i
 is_spelled bytes i r end h = (image_read bytes (i, r) end h).1
 
--- another image than the one that was read isn't spelled so
+-- only the image that was read has these bytes
 pub not_another : (bytes : List ℕ) (j : Image) (r : Roster) (end : List ℕ) → whole_image bytes ≡ Ok ((j, r), end) → valid j ≡ false → (i : Image) → IsFormed i → valid i ≡ true → bytes ≡ image i → ⊥
 not_another bytes j r end h never i is ok spelled =
     let same : i ≡ j = ap (λ (x : Image × Roster). x.0) (same_value (i, image_roster i) (j, r) [] end (sym (image_again i (readable i is ok)) ∙ sym (ap whole_image spelled) ∙ h)) in
     true≢false (sym ok ∙ ap valid same ∙ never)
 
--- where nothing is read, no image is spelled so
+-- if nothing is read, no image has these bytes
 pub not_one : (bytes left : List ℕ) → whole_image bytes ≡ Err left → (i : Image) → IsFormed i → valid i ≡ true → bytes ≡ image i → ⊥
 not_one bytes left h i is ok spelled =
     let read : whole_image bytes ≡ Ok ((i, image_roster i), []) = ap whole_image spelled ∙ image_again i (readable i is ok) in

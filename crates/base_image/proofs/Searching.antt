@@ -1,4 +1,4 @@
--- What a binary search over a list that rises finds.
+-- The place that a binary search over a rising list finds.
 use Rattle.std.proofs.Common.{◌≡◌, ℕ, zero, suc, ◌+◌, ◌≤◌, Bool, true, false, ◌||◌, cond, nat_lt, ◌==◌, ℤ, ◌≤ℤ◌, ◌<ℤ◌, int_lt, int_le, List, [], ◌∷◌, map, length, get_or, Option, Some, None, refl, sym, ap, ◌∙◌, arith}
 use Rattle.std.specs.Prelude.{is_some, slice_get}
 use Rattle.std.specs.List.{list_all, list_any, prefix_len}
@@ -20,7 +20,7 @@ use Rattle.ts_model.specs.declared.images.SavedLast.{SavedLast}
 use Rattle.ts_model.specs.declared.refreshes.Waiting.{Waiting}
 use Rattle.base_image.specs.Rising.{are_rising, spans_of}
 
--- ---- any list whose front passes p, where q holds of nothing but the first item after that front
+-- ---- a list whose front passes p; q is true of the first item after that front only
 
 abbrev pub IsSearched : {X : Type 0} → (X → Bool) → (X → Bool) → List X → Type 0
 IsSearched p q [] = Unit {0}
@@ -35,7 +35,7 @@ parted p q (x ∷ xs) s zero (suc j) d le l h = s.0.0 (list_any_at p xs j d (ome
 parted p q (x ∷ xs) s (suc i) zero d le l h = absurd (omega arith)
 parted p q (x ∷ xs) s (suc i) (suc j) d le l h = parted p q xs s.1 i j d (omega arith) (omega arith) h
 
--- the place that splits the list is how many items pass from the front on
+-- the place that splits the list is the number of items at the front that pass
 pub place_is : {X : Type 0} (p : X → Bool) (xs : List X) (i : ℕ) → i ≤ length xs → IsPartitionPoint (λ y. p y ≡ true) (λ y. p y ≡ false) xs i → i ≡ prefix_len p xs
 place_is p [] i l h = omega arith
 place_is p (x ∷ xs) zero l h =
@@ -47,7 +47,7 @@ place_is p (x ∷ xs) (suc i) l h =
     let next : suc (prefix_len p xs) ≡ 1 + prefix_len p xs = omega arith in
     ap suc rest ∙ next ∙ sym (ap (λ b. cond b (1 + prefix_len p xs) 0) passes)
 
--- a test of an item, where there is one
+-- a test of an item, if there is one
 abbrev pub passes_there : {X : Type 0} → (X → Bool) → Option X → Bool
 passes_there q None = false
 passes_there q (Some x) = q x
@@ -108,7 +108,7 @@ outside_below s b l = grind (arith, ints)
 outside_above : (s : Span) (b : ℤ) → s.hi ≤ℤ b → in_span s b ≡ false
 outside_above s b l = grind (arith, ints)
 
--- what is below the end of a span lies in none of the later ones
+-- a number below the end of a span lies in none of the later spans
 pub below_later : (s : Span) (ss : List Span) (b : ℤ) → are_rising (s ∷ ss) ≡ true → b <ℤ s.hi → lies_in ss b ≡ false
 below_later s [] b e l = refl
 below_later s (t ∷ ss) b e l =
@@ -124,7 +124,7 @@ module _ {X : Type 0} (span : X → Span) (b : ℤ) where
   abbrev holds_it : X → Bool
   holds_it x = in_span (span x) b
 
-  -- where a later span ends at or below b, each earlier one does
+  -- if a later span ends at or below b, each earlier one does
   earlier_ends : (x : X) (xs : List X) → are_rising (map span (x ∷ xs)) ≡ true → list_any ends_below xs ≡ true → (span x).hi ≤ℤ b
   earlier_ends x [] e h = absurd (true≢false (sym h))
   earlier_ends x (y ∷ ys) e h =
@@ -154,7 +154,7 @@ module _ {X : Type 0} (span : X → Span) (b : ℤ) where
     spans_searched xs (rising_tail (span x) (map span xs) e),
   )
 
--- what spans hold, and what ranges of last refreshes do
+-- the numbers in spans, and those in ranges of last refreshes
 pub rising_same : (ss : List Span) → are_rising ss ≡ true → are_rising (map (λ (s : Span). s) ss) ≡ true
 rising_same ss e = ap are_rising (map-id ss) ∙ e
 

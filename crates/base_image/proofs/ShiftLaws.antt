@@ -1,4 +1,4 @@
--- A bucket starts where the remainder by the step is the shift.
+-- A bucket starts at each number whose remainder by the step is the shift.
 use Rattle.std.proofs.Common.{◌≡◌, ℤ, pos, ◌+ℤ◌, ◌-ℤ◌, ◌≤ℤ◌, ◌<ℤ◌, sym, ap, ◌∙◌, arith}
 use Rattle.std.specs.Int.{int_rem_euclid}
 use Rattle.std.specs.Ordering.{int_eq}

@@ -1,4 +1,4 @@
--- What is given of ranges, table by table and aggregate by aggregate, put together.
+-- The parts of an image, table by table, aggregate by aggregate and range by range, combined.
 use Rattle.std.proofs.Common.{◌≡◌, ℕ, zero, suc, nat_lt, get_or, ◌+◌, ◌<◌, ◌≤◌, Bool, true, false, ◌&&◌, ◌||◌, ℤ, ◌<ℤ◌, ◌≤ℤ◌, int_lt, List, [], ◌∷◌, ◌++◌, map, filter, cond, length, Option, Some, refl, sym, ap, ◌∙◌, subst, arith, append_assoc}
 use Rattle.std.specs.Prelude.{slice_get, unwrap_or}
 use Rattle.std.specs.List.{AllByRecursion, list_all}
@@ -62,7 +62,7 @@ widened ss ts (g ∷ gs) more l =
     let parts = and_parts (lies_in ss g.start) (lie ss gs) l in
     and_from (lies_in ts g.start) (lie ts gs) (more g.start parts.0) (widened ss ts gs more parts.1)
 
--- what lies in later ranges is above the end of the first
+-- numbers in later ranges are above the end of the first
 later_above : (w : Width) (s : Span) (ss : List Span) (b : ℤ) → AllByRecursion (IsWholeRange w) ss → RiseApart (s ∷ ss) → lies_in ss b ≡ true → s.hi <ℤ b
 later_above w s [] b whole rise l = absurd (true≢false (sym l))
 later_above w s (t ∷ ss) b whole rise l =
@@ -73,7 +73,7 @@ later_above w s (t ∷ ss) b whole rise l =
     omega (arith, ints)
     )
 
--- a range alone
+-- a single range
 alone : (s : Span) (b : ℤ) → lies_in (s ∷ []) b ≡ in_span s b
 alone s b = elim (in_span s b) as (λ (t : Bool). (t || false) ≡ t) [ true ↦ refl | false ↦ refl ]
 
@@ -195,7 +195,7 @@ one_more_kept h k vs v kept this =
 
 -- ---- groups of ranges, from the first range on
 
--- what is left of the ranges, and whatever groups are left in them come behind those of the ranges before
+-- the ranges left, whose groups all come after those of the earlier ranges
 pub record IsLeftSoFar (n : ℕ) (def : ViewDef) (h : History) (ranges left : List Span) (groups : List SavedGroup) : Type 0 where
   pub whole : AllByRecursion (IsWholeRange def.fold.width) left
   pub rise : RiseApart left
@@ -268,7 +268,7 @@ fewer_left t left rest info all is so_far =
 pub tables_end : (events before : List Event) (t : ℕ) (left all : List TableInfo) → left ≡ [] → events ++ table_events t left ≡ before ++ table_events 0 all → events ≡ before ++ table_events 0 all
 tables_end events before t left all none so_far = sym (append-nil events) ∙ sym (ap (λ xs. events ++ table_events t xs) none) ∙ so_far
 
--- one table more
+-- one more table
 held_more : (h : History) (t k : ℕ) → row_events h t (suc k) ≡ row_events h t k ++ held_events (t + k) (rows (t + k) h)
 held_more h t zero =
     let here : t + 0 ≡ t = omega arith in

@@ -1,4 +1,4 @@
--- What can be written.
+-- Images that can be written.
 use Rattle.std.proofs.Common.{◌≡◌, ◌-◌, ◌^◌, ◌<◌, List, [], ◌∷◌, length, min, ℤ, refl, arith}
 use Rattle.std.specs.Int.{w128, to_le_bytes, cast_unsigned}
 use Rattle.std.specs.List.{AllByRecursion}

@@ -34,7 +34,7 @@ use Rattle.base_image.proofs.Counts.{bytes_counted}
 use Rattle.base_image.proofs.MakingLaws.{make_next}
 use Rattle.base_image.proofs.Writable.{any_all}
 
--- ---- a history that begins with these relations and nothing else
+-- ---- a history of these relations only
 
 abbrev nothing_of : ViewDef → SavedView
 nothing_of def = nothing_saved
@@ -58,7 +58,7 @@ is_finish (Commit ops) = false
 is_finish (Cut v span) = false
 is_finish (Built cut snap) = true
 
--- an event that is no finish, and that fits these relations
+-- an event other than a finish that fits these relations
 formed_after : (es : List Event) (e : Event) → make_relations no_relations es ≡ true → is_finish e ≡ false → sound_in (roster_over no_relations es) e ≡ true → event_bytes e < 2 ^ 32 → IsFormedEvent e
 formed_after es e made other s l = sound_formed (resumed (relations_alone es)) e (alone_valid es made) (omega arith) (and_from _ _ (sound_here e other s) (lt-ltb (event_bytes e) bytes_limit l))
   where
@@ -92,7 +92,7 @@ split begun r (e ∷ es) ys h =
     let rest = split (begun || is_view e) (roster_after r e) es ys p.1 in
     record { front = make_next begun r e es ∙ and_from _ _ p.0 rest.front; back = rest.back }
 
--- what may come is no finish and fits the relations
+-- an event that may come next isn't a finish and fits the relations
 came : (r : Roster) (begun : Bool) (e : Event) → may_come r begun e ≡ true → (is_finish e ≡ false) × (sound_in r e ≡ true)
 came r begun (Table def) h =
     let p = and_parts (not begun) (may_follow r (Table def)) h in

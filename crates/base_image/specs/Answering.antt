@@ -1,4 +1,4 @@
--- What reading an image answers.
+-- The result of reading an image.
 use Rattle.ts_model.specs.declared.images.Image.{Image}
 use Rattle.base_image.specs.declared.read_outcome.ReadImage.{ReadImage}
 use Rattle.base_image.specs.declared.read_outcome.ReadImage.TheVariants as answers

@@ -1,4 +1,4 @@
--- How many bytes an image has.
+-- The number of bytes of an image.
 use Rattle.std.specs.Prelude.{ℕ, ◌+◌, ◌*◌, length, sum_by}
 use Rattle.ts_model.specs.Bytes.{event_bytes, value_bytes}
 use Rattle.ts_model.specs.declared.events.Event.{Event}

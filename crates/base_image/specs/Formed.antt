@@ -1,4 +1,4 @@
--- What can be encoded: images all of whose parts are in the range of their fields.
+-- Images that can be encoded: all their parts are in the range of their fields.
 use Rattle.std.specs.Prelude.{ℤ, negsuc, pos, ◌-◌, ◌^◌, length}
 use Rattle.std.specs.List.{AllByRecursion}
 use Rattle.ts_model.specs.declared.events.Event.{Event}
@@ -62,15 +62,15 @@ pub record IsFormed (i : Image) : Type 0 where
   pub waiting : Many IsWaiting i.waiting
   pub done : Many IsFinished i.done
 
--- ---- what can be written: a value of the code has numbers in range, so that only counts and events are asked for
+-- ---- images that can be written: conditions on counts and events, since all numbers of the code are in range
 
--- the counts of what is kept of an aggregate fit their fields
+-- the counts of the saved parts of an aggregate fit their fields
 pub record HasCounts (v : SavedView) : Type 0 where
   pub lasts : Many Any v.lasts
   pub dirty : Many Any v.dirty
   pub groups : Many Any v.groups
 
--- all counts of an image fit their fields, and its events have bytes
+-- all counts of an image fit their fields, and its events can be encoded
 pub record IsWritable (i : Image) : Type 0 where
   pub roster : Many IsFramed i.roster
   pub rows : Many IsFramed i.rows

@@ -4,6 +4,6 @@ use Rattle.ts_model.specs.declared.images.Image.{Image}
 use Rattle.base_image.specs.Counting.{image_bytes}
 use Rattle.base_image.specs.Spelling as spelling
 
--- an image has as many bytes as are counted
+-- an image has as many bytes as its size says
 abbrev pub BytesAreCounted : Type 0
 BytesAreCounted = (i : Image) → length (spelling.image i) ≡ image_bytes i

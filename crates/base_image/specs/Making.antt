@@ -1,4 +1,4 @@
--- The events that make the roster of an image, one by one.
+-- The events that create the roster of an image, one by one.
 use Rattle.std.specs.Prelude.{suc, Bool, true, false, ◌&&◌, not, ◌==◌, cond, List, length, Option, Some, None}
 use Rattle.ts_model.specs.declared.events.Event.{Event}
 use Rattle.ts_model.specs.declared.events.Event.TheVariants.{Table, Hyper, View, Mode, Commit, Cut, Built}
@@ -6,7 +6,7 @@ use Rattle.ts_model.specs.declared.rosters.Roster.{Roster}
 use Rattle.ts_model.specs.Roster.{no_relations, roster_over}
 use Rattle.ts_model.specs.Valid.{make_relations, make_views, may_follow}
 
--- an event makes an aggregate
+-- an event creates an aggregate
 abbrev pub is_view : Event → Bool
 is_view (Table def) = false
 is_view (Hyper t hyper) = false
@@ -16,7 +16,7 @@ is_view (Commit ops) = false
 is_view (Cut v span) = false
 is_view (Built cut snap) = false
 
--- an event may come next, where aggregates have begun or not
+-- an event may come next, given whether aggregates have begun
 abbrev pub may_come : Roster → Bool → Event → Bool
 may_come r begun (Table def) = not begun && may_follow r (Table def)
 may_come r begun (Hyper t hyper) = not begun && (suc t == length r.tables) && may_follow r (Hyper t hyper)
@@ -26,11 +26,11 @@ may_come r begun (Commit ops) = false
 may_come r begun (Cut v span) = false
 may_come r begun (Built cut snap) = false
 
--- what comes next, where aggregates have begun or not
+-- the rest of the events, given whether aggregates have begun
 abbrev pub make_rest : Bool → Roster → List Event → Bool
 make_rest false r es = make_relations r es
 make_rest true r es = make_views r es
 
--- the roster that events make, if they are those of an image
+-- the roster that events create, if they are those of an image
 abbrev pub made_roster : List Event → Option Roster
 made_roster es = cond (make_relations no_relations es) (Some (roster_over no_relations es)) None

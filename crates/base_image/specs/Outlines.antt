@@ -1,4 +1,4 @@
--- An image whose rows stay in the state that it is taken of, and how many these rows are.
+-- An image whose rows stay in the state from which it is taken, and the number of these rows.
 use Rattle.std.specs.Prelude.{◌≡◌, ℕ, zero, suc, ◌+◌, ◌-◌, ◌≤◌, ◌^◌, ◌==◌, not, cond, min, List, [], ◌∷◌, ◌++◌, length, filter, sum_by}
 use Rattle.std.specs.List.{flat_map}
 use Rattle.ts_bucket.specs.Spans.{in_span}
@@ -22,13 +22,13 @@ rows_in s rows = filter (λ row. in_span s row.at) rows
 abbrev pub span_rows : List Row → List Span → List Row
 span_rows rows spans = flat_map (λ s. rows_in s rows) spans
 
--- ---- how many rows there are
+-- ---- the number of rows
 
 -- their number and the number of their bytes, each capped at the greatest number of 64 bits
 abbrev pub tally_of : List Row → Tally
 tally_of rows = record { rows = min (length rows) (2 ^ 64 - 1); bytes = min (sum_by row_bytes rows) (2 ^ 64 - 1) }
 
--- of each of n tables from number t on, which have these rows
+-- the tally of each of n tables from number t on, which have these rows
 abbrev pub tallies : (ℕ → List Row) → ℕ → ℕ → List Tally
 tallies held t zero = []
 tallies held t (suc n) = tally_of (held t) ∷ tallies held (suc t) n
@@ -42,8 +42,8 @@ commits held t (suc n) = held_events t (held t) ++ commits held (suc t) n
 abbrev pub commit_bytes : Tally → ℕ
 commit_bytes tally = cond (tally.rows == 0) 0 (18 + tally.bytes)
 
--- what precedes the rows of a table: the count of the commit's bytes, that it is a commit of one insert, the table's
--- number, and how many rows there are
+-- the bytes before the rows of a table: the count of the commit's bytes, the marks of a commit of one insert,
+-- the table's number, and the number of rows
 abbrev pub commit_head : ℕ → Tally → List ℕ
 commit_head t tally = four (14 + tally.bytes) ++ (5 ∷ (four 1 ++ (1 ∷ (four t ++ four tally.rows))))
 

@@ -1,4 +1,4 @@
--- Reading an image from left to right: what is in front and the bytes after it, or nothing.
+-- Reading an image from left to right: the value in front and the bytes after it, or nothing.
 use Rattle.std.specs.Prelude.{ℕ, ◌^◌, nat_le, ◌==◌, ℤ, pos, ◌+ℤ◌, ◌*ℤ◌, Bool, cond, List, [], ◌∷◌, length, take, drop, Result, Ok, Err, Option}
 use Rattle.ts_bucket.specs.declared.spans.Span.{Span}
 use Rattle.ts_model.specs.Roster.{no_relations, roster_over}
@@ -16,7 +16,7 @@ use Rattle.ts_model.specs.declared.views.ViewDef.{ViewDef}
 use Rattle.event_codec.specs.Reading.{Reads, go_on, gives, pair, read_map, byte_where, put_before, items, second, any_four, any_eight, any_word, many_of, value_at, span_at, whole_event}
 use Rattle.base_image.specs.declared.shapes.Shape.{Shape}
 
--- what is read, if it passes a test
+-- the value that is read, if it passes a test
 abbrev pub checked_by : {A : Type 0} → (A → Bool) → Reads A → Reads A
 checked_by test p bytes = go_on (p bytes) (λ a left. cond (test a) (Ok (a, left)) (Err left))
 
@@ -31,7 +31,8 @@ wide_at = read_map to_wide (pair any_eight (λ low. any_word))
 
 -- ---- events
 
--- what was read of a part, with what is left after the part; or nothing was, and all is left from here on
+-- the value read from a part, with the rest after the part; or nothing was read, and everything from here on is
+-- left
 abbrev pub past_part : Result (Event × List ℕ) (List ℕ) → List ℕ → List ℕ → Result (Event × List ℕ) (List ℕ)
 past_part (Ok x) here rest = Ok (x.0, rest)
 past_part (Err end) here rest = Err here
@@ -105,7 +106,7 @@ finished_at = read_map to_finished (pair any_eight (λ cut. any_eight))
 
 -- ---- images
 
--- events that make a roster, with the roster
+-- events that create a roster, with the roster
 abbrev pub with_roster : List Event → List Event × Roster
 with_roster es = (es, roster_over no_relations es)
 
@@ -134,7 +135,7 @@ image_at =
     (pair (byte_where (λ b. b == 8)) (λ kind. pair any_eight (λ pos. pair roster_at (λ made. pair (many_of framed_at)
     (λ rows. pair (views_at made.1.views) (λ views. pair (many_of waiting_at) (λ waiting. many_of finished_at)))))))
 
--- what was read, if nothing is left
+-- the value that was read, if nothing is left
 abbrev pub at_end : {A : Type 0} → A → Reads A
 at_end a [] = Ok (a, [])
 at_end a (b ∷ bytes) = Err (b ∷ bytes)

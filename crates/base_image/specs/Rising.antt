@@ -14,7 +14,7 @@ are_rising ss = list_all (λ s. int_lt s.lo s.hi) ss && spans_rise ss
 abbrev pub spans_of : List SavedLast → List Span
 spans_of ls = map (λ (l : SavedLast). l.span) ls
 
--- spans that rise hold all numbers from one on and below another, told from left to right
+-- spans that rise hold all numbers from one on and below another, checked from left to right
 abbrev pub cover_from : ℤ → ℤ → List Span → Bool
 cover_from from until [] = int_le until from
 cover_from from until (s ∷ ss) =

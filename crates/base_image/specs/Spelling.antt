@@ -23,7 +23,7 @@ bytes_of_frame e = four (length (event e)) ++ event e
 abbrev pub sums : Sums → List ℕ
 sums s = eight s.count ++ (eight s.values ++ (wide s.sum ++ (value s.least ++ value s.most)))
 
--- the aggregate of a group decides how many keys and parts the group has
+-- the number of keys and parts of a group follows from its aggregate
 abbrev pub group : SavedGroup → List ℕ
 group g = signed_bytes g.start ++ (flat_map value g.keys ++ flat_map sums g.parts)
 

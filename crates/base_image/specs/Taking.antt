@@ -1,4 +1,4 @@
--- What a state gives of each aggregate of a history, so that the image of the history can be made.
+-- The parts of each aggregate in a state, from which the image of the history is built.
 use Rattle.std.specs.Prelude.{◌≡◌, ℕ, ◌<◌, true, List, length, map, ℤ, Option, Some, slice_get, unwrap_or}
 use Rattle.std.specs.List.{AllByRecursion, list_all}
 use Rattle.ts_bucket.specs.Bucket.{is_bucket}
@@ -28,7 +28,7 @@ pub record AreDirty (n : ℕ) (def : ViewDef) (h : History) (dirty : List Span) 
   pub rise : RiseApart dirty
   pub exact : (b : ℤ) → is_bucket def.fold.width b ≡ true → lies_in dirty b ≡ was_left n def h b
 
--- for the buckets of these ranges, in order, what the last refresh has left there
+-- for the buckets of these ranges, in order, the groups that the last refresh stored there
 pub record AreLeft (n : ℕ) (def : ViewDef) (h : History) (ranges : List Span) (groups : List SavedGroup) : Type 0 where
   pub rise : all_rise group_cmp (map group_of groups) ≡ true
   pub whole : list_all (λ g. is_bucket def.fold.width g.start) groups ≡ true
@@ -36,7 +36,7 @@ pub record AreLeft (n : ℕ) (def : ViewDef) (h : History) (ranges : List Span) 
   pub exact : (b : ℤ) → is_bucket def.fold.width b ≡ true → lies_in ranges b ≡ true
       → groups_among groups b ≡ groups_left n def h b (last n h b)
 
--- what is kept of the first k aggregates
+-- the saved parts of the first k aggregates
 pub record AreKept (h : History) (k : ℕ) (views : List SavedView) : Type 0 where
   pub as_many : length views ≡ k
   pub each : (n : ℕ) (def : ViewDef) → n < k → view_of (roster h) n ≡ Some def

@@ -1,4 +1,4 @@
-//! The image of a history, taken of a state that represents it.
+//! Takes the image of a history from a state that represents it.
 ghost use Rattle.std.specs.Prelude.{◌≡◌, [], ◌<◌, ◌∷◌, ◌++◌, length, IfOk, IsSome, Some};
 ghost use Rattle.std.specs.List.{AllByRecursion};
 ghost use Rattle.ts_bucket.specs.Ranges.{IsWholeRange, RiseApart};
@@ -28,7 +28,7 @@ fn row_events<I: Imaged>(alloc: Global, of: &I) -> Result<Seq<Event>, NoMemory>
     Ok(events)
 }
 
-/// The groups that the last refreshes of an aggregate have left in the buckets of these rising ranges.
+/// The groups that the last refreshes of an aggregate stored in the buckets of these rising ranges.
 fn groups_of_span<I: Imaged>(
     alloc: Global,
     of: &I,
@@ -53,7 +53,7 @@ fn groups_of_span<I: Imaged>(
     Ok(Seq::of(groups))
 }
 
-/// What is kept of an aggregate.
+/// The saved parts of an aggregate.
 fn saved_view<I: Imaged>(alloc: Global, of: &I, view: u32) -> Result<SavedView, NoMemory>
     requires view { (h : History) → I.stands of.now h → IsSome (view_of (roster h) view) }
     ensures saved { (h : History) (def : ViewDef) → I.stands of.now h → view_of (roster h) view ≡ Some def
@@ -70,7 +70,7 @@ fn saved_view<I: Imaged>(alloc: Global, of: &I, view: u32) -> Result<SavedView, 
     })
 }
 
-/// What is kept of each aggregate of a history.
+/// The saved parts of each aggregate of a history.
 pub(crate) fn saved_views<I: Imaged>(alloc: Global, of: &I) -> Result<Seq<SavedView>, NoMemory>
     ensures saved { (h : History) → I.stands of.now h → IfOk result (AreKept h (length (roster h).views)) }
 {

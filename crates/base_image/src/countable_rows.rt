@@ -1,4 +1,4 @@
-//! The rows of an image: whether they are held table by table, and are below watermarks.
+//! Checks the rows of an image: whether there is one commit per table, and the rows are below watermarks.
 ghost use Rattle.std.specs.Prelude.{◌≡◌, ◌&&◌, ◌∷◌, [], is_some, not, true};
 ghost use Rattle.std.specs.List.{list_all};
 ghost use Rattle.ts_bucket.specs.Bucket.{is_time};

@@ -12,7 +12,7 @@ use event_codec::{ReadError, Reader, put_event_bytes, put_four};
 use ts_model::Event;
 use ts_schema::NoMemory;
 
-/// Reads an event of so many bytes.
+/// Reads an event of `count` bytes.
 fn read_body(count: u32, reader: &mut Reader<'_>) -> Result<Event, ReadError>
     ensures { Gives result (frame_body count reader.old) reader.new }
 {

@@ -1,4 +1,4 @@
-//! What is kept of columns, and saved groups.
+//! Checks saved columns and saved groups.
 ghost use Rattle.std.specs.Prelude.{◌≡◌, true};
 ghost use Rattle.std.specs.List.{list_all};
 ghost use Rattle.ts_bucket.specs.WholeSpans.{is_below};
@@ -11,7 +11,7 @@ use crate::searches::is_inside;
 use ts_bucket::Span;
 use ts_model::{SavedGroup, Sums, ViewDef};
 
-/// A group is of fewer rows than this.
+/// A group has fewer rows than this.
 const ROWS_LIMIT: u64 = 4_611_686_018_427_387_904;
 
 /// The greatest number of 64 bits, and one more than that.
@@ -19,7 +19,7 @@ const GREATEST: i128 = 9_223_372_036_854_775_807;
 
 const PAST_GREATEST: i128 = 9_223_372_036_854_775_808;
 
-/// Whether there is a least or a greatest value exactly if there are values.
+/// Whether there is a least or a greatest value if and only if there are values.
 fn is_told(count: u64, value: Option<i64>) -> bool
     ensures { result ≡ is_told count value }
 {
@@ -64,7 +64,7 @@ fn parts_are_fit(parts: &[Sums]) -> bool
     parts.iter().all(|part| sums_are_fit(part))
 }
 
-/// Whether groups are of dirty buckets and rise.
+/// Whether groups are of dirty buckets and in strict order.
 pub fn groups_are_fit(def: &ViewDef, dirty: &[Span], groups: &[SavedGroup]) -> bool
     requires rising { are_rising dirty.now ≡ true }
     ensures { result ≡ groups_fit def.now dirty.now groups.now }

@@ -1,4 +1,4 @@
-//! Groups, their keys, and what is kept of their columns.
+//! Groups, their keys, and the saved parts of their columns.
 ghost use Rattle.std.specs.Prelude.{◌≡◌, ◌++◌, OnOk};
 ghost use Rattle.event_codec.specs.Growing.{Grows};
 ghost use Rattle.event_codec.specs.Spelling.{value};

@@ -1,11 +1,10 @@
-//! States of a history of which an image can be taken.
+//! States of a history from which an image can be taken.
 use ts_bucket::Span;
 use ts_model::{Finished, Roster, SavedGroup, SavedLast, Waiting};
 use ts_schema::{NoMemory, Row, Seq};
 
-/// A state of a history, which gives what the image of the history is made of. It need not store a history:
-/// `stands` relates what it holds to the histories that it represents, and each of its promises is for all of
-/// them.
+/// A state of a history, from which the image of the history is built. It need not store a history: `stands`
+/// relates its contents to the histories that it represents, and each clause is true for all of them.
 pub trait Imaged {
     ghost use Rattle.std.specs.Prelude.{◌≡◌, ◌≤◌, ℕ, List, [], ◌∷◌, length, Some, IsSome, IfOk};
     ghost use Rattle.ts_bucket.specs.Ranges.{IsWholeRange};
@@ -20,7 +19,7 @@ pub trait Imaged {
     ghost use Rattle.base_image.specs.Outlines.{rows_in, span_rows};
     ghost use Rattle.base_image.specs.Taking.{AreDirty, AreLasts, AreLeft};
 
-    /// What it holds represents this history.
+    /// Its contents represent this history.
     ghost stands: { Self → History → Type 0 };
 
     /// The rows of each table, by its number.
@@ -63,7 +62,7 @@ pub trait Imaged {
         ensures dirty { (h : History) (def : ViewDef) → stands self.now h → view_of (roster h) view ≡ Some def
             → IfOk result (AreDirty view def h) };
 
-    /// Returns the groups that the last refreshes of an aggregate have left in the buckets of a span of whole
+    /// Returns the groups that the last refreshes of an aggregate stored in the buckets of a span of whole
     /// buckets, in order.
     fn groups(&self, view: u32, span: Span) -> Result<Seq<SavedGroup>, NoMemory>
         requires view { (h : History) → stands self.now h → IsSome (view_of (roster h) view) }

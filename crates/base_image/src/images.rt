@@ -33,7 +33,7 @@ fn put_refreshes(image: &Image, out: &mut Vec<u8>) -> Result<(), NoMemory>
     put_many(&image.done, out)
 }
 
-/// Appends what comes after the rows.
+/// Appends the part after the rows.
 #[tactic(auto, using(event_codec::proofs::GrowthLaws::grows_on, std::proofs::lemmas::List::append_assoc))]
 pub(crate) fn put_behind(image: &Image, out: &mut Vec<u8>) -> Result<(), NoMemory>
     requires { IsWritable image.now }
@@ -45,7 +45,7 @@ pub(crate) fn put_behind(image: &Image, out: &mut Vec<u8>) -> Result<(), NoMemor
     put_refreshes(image, out)
 }
 
-/// Appends what comes before the rows.
+/// Appends the part before the rows.
 #[tactic(auto, using(event_codec::proofs::GrowthLaws::grows_by, event_codec::proofs::GrowthLaws::grows_on, std::proofs::lemmas::List::append_assoc))]
 pub(crate) fn put_front(image: &Image, out: &mut Vec<u8>) -> Result<(), NoMemory>
     requires { IsWritable image.now }
@@ -84,7 +84,7 @@ fn read_kind(reader: &mut Reader<'_>) -> Result<u8, ReadError>
     Ok(*byte)
 }
 
-/// Reads the events that make a roster, and makes it.
+/// Reads the events that create a roster, and builds the roster.
 #[tactic(auto, unfolding(crate::specs::Reading::roster_at))]
 fn read_roster(reader: &mut Reader<'_>) -> Result<(Seq<Event>, Roster), ReadError>
     ensures { Gives result (roster_at reader.old) reader.new }
@@ -96,7 +96,7 @@ fn read_roster(reader: &mut Reader<'_>) -> Result<(Seq<Event>, Roster), ReadErro
     }
 }
 
-/// Reads an image, and makes its roster.
+/// Reads an image, and builds its roster.
 #[tactic(auto, unfolding(crate::specs::Reading::image_at))]
 fn read_image(reader: &mut Reader<'_>) -> Result<(Image, Roster), ReadError>
     ensures { Gives result (image_at reader.old) reader.new }

@@ -1,6 +1,6 @@
-//! Checkpoint images: how the image of a history is taken of a state that represents it, and the bytes of an
-//! image: how many there are, how they are written, and how they are read from left to right. What is read is
-//! a valid image, and no other image has these bytes.
+//! Checkpoint images. An image of a history is taken from a state that represents it. The rest is about the
+//! bytes of an image: their number, how they are written, and how they are read from left to right. Reading
+//! returns a valid image, and no other image has these bytes.
 #![tactic(auto)]
 
 mod capture;

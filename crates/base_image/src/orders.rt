@@ -1,4 +1,4 @@
-//! Whether rows, groups, refreshes and spans are in order. Each is compared only with the next one.
+//! Checks that rows, groups, refreshes and spans are in order. Each is compared only with the next one.
 ghost use Rattle.std.specs.Prelude.{◌≡◌, map, not, nat_lt, int_le};
 ghost use Rattle.std.specs.Ordering.{is_gt, is_lt, nat_cmp};
 ghost use Rattle.partial_agg.specs.Groups.{group_cmp};
@@ -48,14 +48,14 @@ fn precedes(group: &SavedGroup, next: &SavedGroup) -> bool
     order_of(group, next).is_lt()
 }
 
-/// Whether groups rise.
+/// Whether groups are in strict order.
 pub fn groups_rise(groups: &[SavedGroup]) -> bool
     ensures { result ≡ all_rise group_cmp (map group_of groups.now) }
 {
     groups.is_sorted_by(|group: &SavedGroup, next: &SavedGroup| precedes(group, next))
 }
 
-/// Whether the cuts of refreshes that wait rise.
+/// Whether the cuts of pending refreshes rise.
 pub fn waiting_rise(waiting: &[Waiting]) -> bool
     ensures { result ≡ all_rise nat_cmp (map (λ w. w.cut) waiting.now) }
 {

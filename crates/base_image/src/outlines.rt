@@ -51,7 +51,7 @@ pub fn outline_of<I: Imaged>(alloc: Global, of: &I) -> Result<Outline, NoMemory>
 }
 
 impl Outline {
-    /// Returns how many bytes the image has, or 2^64 - 1 if there are more. Takes no memory.
+    /// Returns the number of bytes of the image, or 2^64 - 1 if there are more. Takes no memory.
     pub fn size(&self) -> u64
         ensures size { (held : ℕ → List RowValue) → IsOutline held self.now
             → result ≡ min (length (spelling.image (whole held self.now))) (2 ^ 64 - 1) }
@@ -60,8 +60,8 @@ impl Outline {
     }
 
     /// Appends the bytes of the image, which is valid and has fewer than 2^32 of them. Reads the rows from the
-    /// state that the outline was taken of, one span at a time. If memory runs out, `out` may have some of the
-    /// bytes.
+    /// state from which the outline was taken, one span at a time. If memory runs out, `out` may have some of
+    /// the bytes.
     pub fn put<I: Imaged>(&self, of: &I, out: &mut Vec<u8>) -> Result<(), NoMemory>
         requires outline { IsOutline (I.held of.now) self.now }
         requires valid { valid (whole (I.held of.now) self.now) ≡ true }

@@ -19,7 +19,7 @@ pub trait Part {
     /// Whether its counts fit their fields.
     ghost fits: { Self → Type 0 };
 
-    /// The reading of its bytes from the front, if groups have this shape.
+    /// The reading of its bytes from the front, for groups of this shape.
     ghost reading: { Shape → Reads Self };
 
     /// Appends its bytes.
@@ -28,7 +28,7 @@ pub trait Part {
         ensures put { OnOk result (out.new.items ≡ out.old.items ++ spelling self.now) }
         ensures grows { Grows out.old.items out.new.items };
 
-    /// Reads it.
+    /// Reads a value.
     fn read(shape: Shape, reader: &mut Reader<'_>) -> Result<Self, ReadError>
         ensures read { Gives result (reading shape reader.old) reader.new };
 }
@@ -57,7 +57,7 @@ pub fn put_many<T: Part>(items: &Seq<T>, out: &mut Vec<u8>) -> Result<(), NoMemo
     put_items(items.items(), out)
 }
 
-/// Reads so many items.
+/// Reads `count` items.
 pub fn read_items<T: Part + Drop>(
     shape: Shape,
     count: usize,
@@ -72,7 +72,7 @@ pub fn read_items<T: Part + Drop>(
     Ok(items)
 }
 
-/// Reads a count of four bytes and so many items.
+/// Reads a count of four bytes and that many items.
 pub fn read_many<T: Part + Drop>(shape: Shape, reader: &mut Reader<'_>) -> Result<Seq<T>, ReadError>
     ensures { Gives result (many_of (T.reading shape) reader.old) reader.new }
 {

@@ -14,7 +14,7 @@ use event_check::span_is_fit;
 use ts_bucket::{MAX_TIME, MIN_TIME, Span, Width};
 use ts_model::{SavedLast, ViewDef};
 
-/// How far `b` is above a multiple of the step of a width.
+/// The distance from a multiple of the step of a width up to `b`.
 fn remainder(w: Width, b: i64) -> i64
     ensures { result ≡ int_rem_euclid b w.step }
 {
@@ -41,7 +41,7 @@ fn last_is_fit(def: &ViewDef, pos: u64, last: &SavedLast) -> bool
     span_is_fit(last.span, Some(def)) && last.pos < pos
 }
 
-/// Whether each of these is so.
+/// Whether this is true of each of these last refreshes.
 fn each_last_is_fit(def: &ViewDef, pos: u64, lasts: &[SavedLast]) -> bool
     ensures { result ≡ list_all (λ l. span_fits l.span (Some def.now) && nat_lt l.pos pos) lasts.now }
 {

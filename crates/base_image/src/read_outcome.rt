@@ -17,7 +17,7 @@ use ts_model::Image;
 pub enum ReadImage {
     /// The bytes are those of this valid image.
     Image(Image),
-    /// The bytes are those of no valid image.
+    /// The bytes aren't those of a valid image.
     BadImage,
     /// Memory ran out.
     NoMemory,

@@ -1,4 +1,4 @@
-//! Refreshes that wait, and those that were finished.
+//! Pending refreshes, and finished ones.
 ghost use Rattle.std.specs.Prelude.{◌≡◌};
 ghost use Rattle.base_image.specs.Formed.{Any};
 ghost use Rattle.base_image.specs.Reading.{finished_at, waiting_at};

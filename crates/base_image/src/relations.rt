@@ -1,4 +1,4 @@
-//! The events that make the roster of an image, and the roster.
+//! The events that create the roster of an image, and the roster.
 ghost use Rattle.std.specs.Prelude.{◌≡◌, IfOk};
 ghost use Rattle.base_image.specs.Making.{is_view, made_roster, may_come};
 ghost use Rattle.ts_model.specs.Roster.{no_relations};
@@ -8,7 +8,7 @@ use std::alloc::Global;
 use ts_model::{Event, Roster};
 use ts_schema::{NoMemory, Seq};
 
-/// Whether an event may come next among those that make a roster. `begun` says whether aggregates have begun.
+/// Whether an event may come next among those that create a roster. `begun` is whether aggregates have begun.
 fn may_come(roster: &Roster, begun: bool, event: &Event) -> bool
     ensures { result ≡ may_come roster.now begun event.now }
 {
@@ -26,7 +26,7 @@ fn may_come(roster: &Roster, begun: bool, event: &Event) -> bool
     }
 }
 
-/// Whether an event makes an aggregate.
+/// Whether an event creates an aggregate.
 fn is_view(event: &Event) -> bool
     ensures { result ≡ is_view event.now }
 {
@@ -51,7 +51,7 @@ fn no_relations(alloc: Global) -> Roster
     }
 }
 
-/// Returns the roster that these events make, or `None` if they aren't those of an image.
+/// Returns the roster that these events create, or `None` if they aren't those of an image.
 pub fn roster_of(alloc: Global, events: &[Event]) -> Result<Option<Roster>, NoMemory>
     ensures { IfOk result (λ made. made ≡ made_roster events.now) }
 {

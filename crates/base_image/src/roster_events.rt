@@ -1,4 +1,4 @@
-//! The events that make a roster, and the commits that hold rows.
+//! The events that create a roster, and the commits that hold rows.
 ghost use Rattle.std.specs.Prelude.{◌≡◌, ◌≤◌, ◌∷◌, ◌++◌, length, map, IfOk};
 ghost use Rattle.ts_model.specs.declared.events.Event.TheVariants.{Table, View};
 ghost use Rattle.image_laws.specs.Images.{held_events, hyper_events, roster_events, table_events};
@@ -7,7 +7,7 @@ use std::alloc::Global;
 use ts_model::{Event, Hyper, Op, Roster, TableInfo, ViewDef};
 use ts_schema::{NoMemory, Row, Seq, SharedSlice};
 
-/// Appends the event that makes a table a hypertable, if it is one.
+/// Appends the event that turns a table into a hypertable, if it is one.
 fn push_hyper(events: &mut Seq<Event>, table: u32, hyper: Option<Hyper>) -> Result<(), NoMemory>
     ensures pushed { IfOk result (λ _. events.new ≡ events.old ++ hyper_events table hyper) }
 {
@@ -17,7 +17,7 @@ fn push_hyper(events: &mut Seq<Event>, table: u32, hyper: Option<Hyper>) -> Resu
     }
 }
 
-/// Appends the event that makes a table, and the one that makes it a hypertable, if it is one.
+/// Appends the event that creates a table, and the one that turns it into a hypertable, if it is one.
 fn push_table(events: &mut Seq<Event>, table: u32, info: &TableInfo) -> Result<(), NoMemory>
     ensures pushed { IfOk result (λ _.
         events.new ≡ events.old ++ Table info.now.def ∷ hyper_events table info.now.hyper) }
@@ -26,7 +26,7 @@ fn push_table(events: &mut Seq<Event>, table: u32, info: &TableInfo) -> Result<(
     push_hyper(events, table, info.hyper)
 }
 
-/// Appends the events that make these tables.
+/// Appends the events that create these tables.
 fn push_tables(events: &mut Seq<Event>, tables: &[TableInfo]) -> Result<(), NoMemory>
     requires few { length tables.now ≤ 64 }
     ensures pushed { IfOk result (λ _. events.new ≡ events.old ++ table_events 0 tables.now) }
@@ -41,7 +41,7 @@ fn push_tables(events: &mut Seq<Event>, tables: &[TableInfo]) -> Result<(), NoMe
     Ok(())
 }
 
-/// Appends the events that make these aggregates.
+/// Appends the events that create these aggregates.
 fn push_views(events: &mut Seq<Event>, views: &[ViewDef]) -> Result<(), NoMemory>
     ensures pushed { IfOk result (λ _. events.new ≡ events.old ++ map View views.now) }
 {
@@ -51,7 +51,7 @@ fn push_views(events: &mut Seq<Event>, views: &[ViewDef]) -> Result<(), NoMemory
     Ok(())
 }
 
-/// Returns the events that make a roster.
+/// Returns the events that create a roster.
 pub fn roster_events(alloc: Global, roster: &Roster) -> Result<Seq<Event>, NoMemory>
     requires few { length roster.now.tables ≤ 64 }
     ensures made { IfOk result (λ events. events ≡ roster_events roster.now) }

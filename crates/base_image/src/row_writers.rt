@@ -21,7 +21,7 @@ const COMMIT_KIND: u8 = 5;
 /// The byte that inserts begin with.
 const INSERT_KIND: u8 = 1;
 
-/// How many bytes a commit of one insert has before its rows.
+/// The number of bytes of a commit of one insert before its rows.
 const HEAD: u32 = 14;
 
 /// Appends the rows of these spans.
@@ -55,7 +55,7 @@ fn put_rows<I: Imaged>(of: &I, table: u32, out: &mut Vec<u8>) -> Result<(), NoMe
     put_spans(of, table, spans.items(), out)
 }
 
-/// Appends what precedes the rows of an insert.
+/// Appends the bytes before the rows of an insert.
 #[tactic(auto, using(std::proofs::lemmas::List::append_assoc, event_codec::proofs::GrowthLaws::grows_by, event_codec::proofs::GrowthLaws::grows_not, event_codec::proofs::GrowthLaws::grows_on))]
 fn put_insert_head(table: u32, rows: u32, out: &mut Vec<u8>) -> Result<(), NoMemory>
     ensures put { OnOk result (out.new.items ≡ out.old.items ++ (1 ∷ (four table ++ four rows))) }
@@ -66,7 +66,7 @@ fn put_insert_head(table: u32, rows: u32, out: &mut Vec<u8>) -> Result<(), NoMem
     put_four(out, rows)
 }
 
-/// Appends what precedes the rows of a table.
+/// Appends the bytes before the rows of a table.
 #[tactic(auto, using(std::proofs::lemmas::List::append_assoc, event_codec::proofs::GrowthLaws::grows_by, event_codec::proofs::GrowthLaws::grows_not, event_codec::proofs::GrowthLaws::grows_on))]
 fn put_head(table: u32, tally: Tally, out: &mut Vec<u8>) -> Result<(), NoMemory>
     requires few_bytes { 14 + tally.bytes < 2 ^ 32 }

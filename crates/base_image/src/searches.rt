@@ -18,7 +18,7 @@ fn holds(span: Span, b: i64) -> bool
     span.lo <= b && b < span.hi
 }
 
-/// How many spans end at or below `b`.
+/// The number of spans that end at or below `b`.
 fn spans_below(spans: &[Span], b: i64) -> usize
     requires rising { are_rising spans.now ≡ true }
     ensures place { result ≡ prefix_len (λ s. int_le s.hi b) spans.now }
@@ -37,7 +37,7 @@ pub fn is_inside(spans: &[Span], b: i64) -> bool
     }
 }
 
-/// How many ranges of last refreshes end at or below `b`.
+/// The number of ranges of last refreshes that end at or below `b`.
 pub fn lasts_below(lasts: &[SavedLast], b: i64) -> usize
     requires rising { are_rising (spans_of lasts.now) ≡ true }
     ensures place { result ≡ prefix_len (λ l. int_le l.span.hi b) lasts.now }
@@ -57,7 +57,7 @@ pub fn has_last(lasts: &[SavedLast], b: i64) -> bool
     }
 }
 
-/// How many refreshes that wait have a cut below this one.
+/// The number of pending refreshes with a cut below this one.
 fn cuts_below(waiting: &[Waiting], cut: u64) -> usize
     requires rising { all_rise nat_cmp (map (λ w. w.cut) waiting.now) ≡ true }
     ensures place { result ≡ prefix_len (λ w. nat_lt w.cut cut) waiting.now }
@@ -65,7 +65,7 @@ fn cuts_below(waiting: &[Waiting], cut: u64) -> usize
     waiting.partition_point(|refresh| refresh.cut < cut)
 }
 
-/// Whether a refresh with this cut waits.
+/// Whether a refresh with this cut is pending.
 pub fn waits(waiting: &[Waiting], cut: u64) -> bool
     requires rising { all_rise nat_cmp (map (λ w. w.cut) waiting.now) ≡ true }
     ensures { result ≡ list_any (λ w. w.cut == cut) waiting.now }

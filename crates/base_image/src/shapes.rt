@@ -1,9 +1,9 @@
-//! How many keys and parts the groups of an aggregate have.
+//! The numbers of keys and parts of an aggregate's groups.
 ghost use Rattle.std.specs.Prelude.{◌≡◌, length};
 
 use ts_model::ViewDef;
 
-/// How many keys and parts the groups of an aggregate have. Their bytes don't contain these numbers.
+/// The numbers of keys and parts of an aggregate's groups. Their bytes don't contain these numbers.
 #[derive(Clone, Copy, Debug, PartialEq, Eq)]
 pub struct Shape {
     /// The keys.

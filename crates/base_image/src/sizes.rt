@@ -1,4 +1,4 @@
-//! How many bytes an image has, or the greatest number of 64 bits if there are more.
+//! The number of bytes of an image, or the greatest number of 64 bits if there are more.
 ghost use Rattle.std.specs.Prelude.{◌≡◌, ◌-◌, ◌^◌, ◌*◌, length, min, sum_by};
 ghost use Rattle.base_image.specs.Counting.{framed_bytes, group_bytes, image_bytes, saved_bytes, sums_bytes};
 ghost use Rattle.base_image.specs.Spelling as spelling;
@@ -76,7 +76,7 @@ fn bytes_of_events(events: &[Event]) -> u64
     total
 }
 
-/// Returns how many bytes an image has, or 2^64 - 1 if there are more. Takes no memory.
+/// Returns the number of bytes of an image, or 2^64 - 1 if there are more. Takes no memory.
 #[tactic(auto, using(crate::proofs::Counts::bytes_counted))]
 pub fn size(image: &Image) -> u64
     ensures size { result ≡ min (length (spelling.image image.now)) (2 ^ 64 - 1) }

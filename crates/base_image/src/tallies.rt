@@ -1,4 +1,4 @@
-//! How many rows the tables of a state have, and how many bytes these have in an image.
+//! The number of rows of a state's tables, and the number of their bytes in an image.
 ghost use Rattle.std.specs.Prelude.{◌≡◌, ◌≤◌, ◌-◌, ◌^◌, ◌==◌, ◌++◌, [], length, List, min, not, sum_by, IfOk};
 ghost use Rattle.std.specs.List.{count_by};
 ghost use Rattle.ts_schema.specs.declared.rows.Row.{Row as RowValue};
@@ -18,9 +18,9 @@ use ts_schema::{NoMemory, Row, Seq};
 /// bits.
 #[derive(Clone, Copy, Debug, PartialEq, Eq)]
 pub struct Tally {
-    /// How many rows there are.
+    /// The number of rows.
     pub rows: u64,
-    /// How many bytes they have in an image.
+    /// The number of their bytes in an image.
     pub bytes: u64,
 }
 
@@ -83,7 +83,7 @@ fn has_rows(tally: &Tally) -> bool
     tally.rows != 0
 }
 
-/// How many of these tables have rows.
+/// The number of these tables that have rows.
 pub fn count_held(tallies: &[Tally]) -> usize
     ensures { result ≡ count_by (λ tally. not (tally.rows == 0)) tallies.now }
 {

@@ -14,7 +14,7 @@ use crate::waiting_checks::{finishes_are_fit, waits_are_fit};
 use ts_model::limits::LAST_POSITION;
 use ts_model::{Event, Image, Roster, SavedView, ViewDef};
 
-/// Whether an image at this position may keep this of an aggregate, if these commits hold the rows.
+/// Whether an image at this position may keep these parts of an aggregate, if these commits hold the rows.
 #[tactic(auto, using(crate::proofs::Covering::lasts_rising, crate::proofs::Covering::dirty_rising))]
 fn view_is_kept(pos: u64, def: &ViewDef, rows: &[Event], view: &SavedView) -> bool
     requires timed { list_all is_timed rows.now ≡ true }
@@ -31,7 +31,7 @@ fn view_is_kept(pos: u64, def: &ViewDef, rows: &[Event], view: &SavedView) -> bo
         && table_is_marked(def, view, rows)
 }
 
-/// Whether an image at this position may keep these, one for each of these aggregates.
+/// Whether an image at this position may keep these parts, one for each of these aggregates.
 fn views_are_kept(pos: u64, defs: &[ViewDef], rows: &[Event], views: &[SavedView]) -> bool
     requires timed { list_all is_timed rows.now ≡ true }
     ensures { result ≡ views_kept pos (λ t. in_order (appended_over t rows.now)) defs.now views.now }

@@ -1,4 +1,4 @@
-//! What is kept of an aggregate.
+//! The saved parts of an aggregate.
 ghost use Rattle.std.specs.Prelude.{◌≡◌, ◌++◌, OnOk, length};
 ghost use Rattle.event_codec.specs.Growing.{Grows};
 ghost use Rattle.event_codec.specs.Spelling.{span};
@@ -99,7 +99,7 @@ impl Part for SavedView {
     }
 }
 
-/// Reads what is kept of each of these aggregates.
+/// Reads the saved parts of each of these aggregates.
 fn read_each(defs: &[ViewDef], reader: &mut Reader<'_>) -> Result<Seq<SavedView>, ReadError>
     ensures { Gives result (saved_each defs.now reader.old) reader.new }
 {
@@ -112,7 +112,7 @@ fn read_each(defs: &[ViewDef], reader: &mut Reader<'_>) -> Result<Seq<SavedView>
     Ok(views)
 }
 
-/// Reads the number of aggregates, which must be that of `defs`, and what is kept of each.
+/// Reads the number of aggregates, which must be that of `defs`, and the saved parts of each.
 #[tactic(auto, unfolding(crate::specs::Reading::views_at))]
 pub fn read_views(defs: &[ViewDef], reader: &mut Reader<'_>) -> Result<Seq<SavedView>, ReadError>
     ensures { Gives result (views_at defs.now reader.old) reader.new }

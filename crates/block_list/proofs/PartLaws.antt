@@ -1,4 +1,4 @@
--- Laws of parts: each says where its items stand.
+-- Laws of parts: each says where its items are.
 use Rattle.std.proofs.Common.{◌≡◌, ℕ, zero, suc, ◌+◌, ◌-◌, ◌<◌, ◌≤◌, true, false, nat_le, List, [], ◌∷◌, ◌++◌, length, take, drop, get_or, ◌⊎◌, inl, inr, refl, sym, ap, ◌∙◌, subst, arith}
 use Rattle.std.specs.List.Sorted.{IsPartitionPoint, IsPartitionedBy}
 use Rattle.std.proofs.lemmas.Bool.{cases_lt}
@@ -19,7 +19,7 @@ module _ {X : Type 0} where
       append_nil [] = refl
       append_nil (x ∷ xs) = ap (λ ys. x ∷ ys) (append_nil xs)
 
-  -- each part says how many items stand before it
+  -- each part says how many items are before it
   pub starts_at : (n : ℕ) (bs : List (PartValue X)) (k : ℕ) (d : PartValue X) → AreParts n bs → k < length bs → (get_or bs k d).start ≡ n + length (items_of (take k bs))
   starts_at n [] k d h l = absurd (omega arith)
   starts_at n (b ∷ bs) zero d h l = let e : b.start ≡ n = h.0 in omega arith

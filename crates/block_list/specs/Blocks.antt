@@ -8,11 +8,11 @@ use Rattle.std.specs.Coded.{Coded, code_by, coded×, coded_ℕ, coded_list}
 abbrev pub block_len : ℕ
 block_len = 64
 
--- the greatest number of items that stand in parts
+-- the greatest number of items that are in parts
 abbrev pub most_items : ℕ
 most_items = 2 ^ 62
 
--- a part: how many items stand before it, and its own
+-- a part: how many items are before it, and its own
 pub record PartValue (X : Type 0) : Type 0 where
   pub start : ℕ
   pub items : List X
@@ -28,16 +28,16 @@ module _ {X : Type 0} where
   items_of [] = []
   items_of (p ∷ ps) = p.items ++ items_of ps
 
-  -- each part says how many items stand before it, where n stand before the first
+  -- each part says how many items are before it, if n are before the first
   abbrev pub AreParts : ℕ → List (PartValue X) → Type 0
   AreParts n [] = Unit {0}
   AreParts n (p ∷ ps) = (p.start ≡ n) × AreParts (n + length p.items) ps
 
-  -- parts, and how many items they have: not more than can be counted
+  -- parts, and how many items they have, which is at most what can be counted
   abbrev pub AreCounted : ℕ → List (PartValue X) → Type 0
   AreCounted n ps = AreParts 0 ps × (n ≡ length (items_of ps)) × (n ≤ most_items)
 
-  -- what is shared, where something is
+  -- what is shared, if something is
   abbrev pub shared_if : {Z : Type 0} → Option (Arc (List X) Z) → List X
   shared_if None = []
   shared_if (Some xs) = arc_value xs

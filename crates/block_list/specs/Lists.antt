@@ -3,7 +3,7 @@ use Rattle.std.specs.Prelude.{ℕ, ◌-◌, min, List, ◌++◌, take, drop, ref
 use Rattle.block_list.specs.Blocks.{block_len}
 use Rattle.std.specs.Coded.{Coded, code_by, coded×, coded_ℕ, coded_list}
 
--- its items in order, and for how many more there is room
+-- its items in order, and how many more fit
 pub record ListValue (X : Type 0) : Type 0 where
   pub items : List X
   pub room : ℕ
@@ -13,7 +13,7 @@ list_value_code {X} x =
     code_by (List X × ℕ) (coded× (coded_list x) coded_ℕ) (λ v. (v.items, v.room))
     (λ p. record { items = p.0; room = p.1 }) (λ _. refl)
 
--- how many more items fit after so many in a vector of this capacity, up to a whole block
+-- how many more items fit after this many in a vector of this capacity, up to a whole block
 abbrev pub room_of : ℕ → ℕ → ℕ
 room_of len capacity = min capacity block_len - len
 

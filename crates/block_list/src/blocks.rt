@@ -5,8 +5,8 @@ ghost use Rattle.block_list.specs.Blocks.{block_len};
 use crate::parts::Items;
 use std::marker::Model;
 
-/// The greatest number of items of a block. A change copies the items of the blocks where it begins and ends, and a
-/// block costs the list some 60 bytes: with 64 items neither is much beside the items themselves.
+/// The greatest number of items of a block. A change copies the items of the blocks where it begins and ends,
+/// and a block costs the list about 60 bytes. With 64 items both are small compared with the items themselves.
 pub const BLOCK_LEN: usize = 64;
 
 /// Items that never change, 64 at most.

@@ -14,7 +14,7 @@ use std::sync::Arc;
 use ts_schema::NoMemory;
 
 /// A list under construction: runs of other lists, whose blocks it shares, and new items. Contracts see it as
-/// the list of the items so far. After a call that runs out of memory nothing is known of it.
+/// the list of the items so far. Its state is unknown after a call that runs out of memory.
 #[derive(Drop, Debug)]
 pub struct Builder<T> {
     alloc: Global,
@@ -58,7 +58,7 @@ impl<T: Clone + Drop> Builder<T> {
         Ok(())
     }
 
-    /// Appends items again.
+    /// Appends clones of items.
     pub fn push_all(&mut self, items: &[T]) -> Result<(), NoMemory>
         requires faithful { (x y : T) → T.is_clone x y → x ≡ y }
         ensures pushed { IfOk result (λ _. self.new ≡ self.old ++ items.now) }
@@ -98,8 +98,8 @@ impl<T: Clone + Drop> Builder<T> {
         is_merged(before, shelf.count(), after, SHELF_LEN)
     }
 
-    /// Appends the items of a list from a place on, below another place, as many as stand together
-    /// in a block. Gives the place up to which they are appended.
+    /// Appends the items of one block, from a place of a list on and below another place. Returns the place up
+    /// to which it appended them.
     fn append_block(&mut self, list: &BlockList<T>, at: usize, to: usize) -> Result<usize, NoMemory>
         requires order { at < to }
         requires within { to ≤ length list.now.items }
@@ -145,10 +145,10 @@ impl<T: Clone + Drop> Builder<T> {
         Ok(end)
     }
 
-    /// Appends the items of a list from place `from` on and below place `to`. Shares the inner nodes and
-    /// blocks that are whole there, but merges small ones with their neighbors. It costs the items of the
-    /// blocks at both places, the blocks of the inner nodes at both places and beside them, and the number of
-    /// inner nodes.
+    /// Appends the items of a list from place `from` on and below place `to`. Shares the inner nodes and blocks
+    /// that are whole there, but merges small ones with their neighbors. The cost grows with the items of the
+    /// blocks at both places and with the number of inner nodes. It also grows with the blocks of the inner
+    /// nodes there and next to them.
     pub fn append(&mut self, list: &BlockList<T>, from: usize, to: usize) -> Result<(), NoMemory>
         requires order { from ≤ to }
         requires within { to ≤ length list.now.items }
@@ -186,7 +186,7 @@ impl<T: Clone + Drop> Builder<T> {
     }
 }
 
-/// Makes a block of the newest items, so that none is left.
+/// Moves the newest items into a block, so that none is left.
 fn close_block<T: Drop>(
     alloc: Global,
     closed: &mut NodeBuilder<T>,
@@ -206,12 +206,12 @@ fn close_block<T: Drop>(
 
 /// Whether a block of `len` items, or an inner node of `len` blocks, is merged with the open ones before it.
 /// One holds at most `most`. Otherwise it is shared. If none are open, a small one is opened, unless the one
-/// after it wouldn't fit: so appending a list again opens nothing.
+/// after it wouldn't fit: so appending a list a second time opens nothing.
 ///
-/// Blocks, and likewise inner nodes, are half full on average, except the last one: a smaller one has a
+/// Blocks, and likewise inner nodes, are half full on average, except the last one. A smaller one has a
 /// neighbor with which it doesn't fit into one. Blocks of different inner nodes aren't merged, so this leaves
-/// out two blocks of each inner node. However often items are replaced, there are on average at least 32
-/// blocks per inner node and 30 items per block.
+/// out two blocks of each inner node. However often items are replaced, there are on average at least 32 blocks
+/// per inner node and 30 items per block.
 fn is_merged(before: usize, len: usize, after: usize, most: usize) -> bool {
     if 0 < before {
         before.saturating_add(len) <= most

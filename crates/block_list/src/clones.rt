@@ -1,10 +1,10 @@
-//! Items again.
+//! Clones of items.
 ghost use Rattle.std.specs.Prelude.{◌≡◌, ◌++◌, IfOk};
 
 use std::alloc::Global;
 use ts_schema::NoMemory;
 
-/// Appends items again.
+/// Appends clones of items.
 pub(crate) fn push_clones<T: Clone>(items: &mut Vec<T>, more: &[T]) -> Result<(), NoMemory>
     requires faithful { (x y : T) → T.is_clone x y → x ≡ y }
     ensures { IfOk result (λ _. items.new.items ≡ items.old.items ++ more.now) }
@@ -13,7 +13,7 @@ pub(crate) fn push_clones<T: Clone>(items: &mut Vec<T>, more: &[T]) -> Result<()
     Ok(())
 }
 
-/// Two lists of items again, one after the other.
+/// The clones of two lists of items, concatenated.
 pub(crate) fn concat<T: Clone + Drop>(
     alloc: Global,
     first: &[T],

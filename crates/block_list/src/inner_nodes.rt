@@ -20,7 +20,7 @@ pub(crate) type InnerNode<T> = Parts<Block<T>>;
 /// Inner nodes, in order.
 type Shelves<T> = Parts<InnerNode<T>>;
 
-/// Blocks in inner nodes that grow: all inner nodes but the last are closed, and the last is open.
+/// Blocks in inner nodes that grow: all inner nodes except the last are closed, and the last is open.
 #[derive(Drop, Debug)]
 pub(crate) struct NodeBuilder<T> {
     alloc: Global,
@@ -48,7 +48,7 @@ impl<T: Drop> NodeBuilder<T> {
         }
     }
 
-    /// How many blocks the open inner node has: too few to make it full.
+    /// The number of blocks that the open inner node has: too few to make it full.
     pub(crate) fn open_blocks(&self) -> usize {
         self.last.count()
     }
@@ -72,7 +72,7 @@ impl<T: Drop> NodeBuilder<T> {
         self.shelves.push(shelf)
     }
 
-    /// The blocks, shared from here on.
+    /// Shares the blocks.
     pub(crate) fn share(self) -> Result<Blocks<T>, NoMemory>
         ensures { IfOk result (λ blocks. blocks ≡ self) }
     {
@@ -138,7 +138,7 @@ impl<T> Blocks<T> {
         Blocks { shelves: None }
     }
 
-    /// How many items there are.
+    /// The number of items.
     pub(crate) fn len(&self) -> usize
         ensures len { result ≡ length self.now }
         ensures small { result ≤ most_items }
@@ -149,7 +149,7 @@ impl<T> Blocks<T> {
         }
     }
 
-    /// The same blocks again. It is a count.
+    /// A copy of the blocks, which only counts one more sharer.
     pub(crate) fn copy(&self) -> Result<Blocks<T>, NoMemory>
         ensures { IfOk result (λ copy. copy ≡ self.now) }
     {
@@ -161,7 +161,7 @@ impl<T> Blocks<T> {
         })
     }
 
-    /// The items from place `i` on that stand in the same block.
+    /// The items from place `i` on that are in the same block.
     pub(crate) fn run_at(&self, i: usize) -> &[T]
         requires { i < length self.now }
         ensures { IsRunFrom self.now i result.now }

@@ -1,11 +1,11 @@
-//! The items of a list, one after another.
+//! The items of a list, in order.
 ghost use Rattle.std.specs.Prelude.{◌≡◌, ◌-◌, ◌≤◌, length, take, drop};
 ghost use Rattle.std.specs.Iterator.{YieldsFirstRef, item_count};
 
 use crate::lists::BlockList;
 use std::marker::Model;
 
-/// The items of a list that are left. Contracts see it as the list of them.
+/// The remaining items of a list. Contracts see it as the list of them.
 #[derive(Drop)]
 pub struct Iter<'a, T> {
     list: &'a BlockList<T>,
@@ -40,7 +40,7 @@ impl<'a, T> Iter<'a, T> {
         }
     }
 
-    /// How many items are left.
+    /// The number of items left.
     pub fn len(&self) -> usize
         ensures len { result ≡ length self.now }
     {

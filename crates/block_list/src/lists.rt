@@ -16,11 +16,10 @@ use std::marker::Model;
 use std::sync::Arc;
 use ts_schema::NoMemory;
 
-/// A list of items in blocks of at most 64, which are in inner nodes of at most 64 blocks. Contracts see it
-/// as the list of its items, and how many more there is room for.
+/// A list of items in blocks of at most 64, which are in inner nodes of at most 64 blocks. Contracts see it as
+/// the list of its items, and how many more fit.
 ///
-/// Copies share its inner nodes. They don't share the items pushed since the last `share`: a copy copies
-/// those.
+/// Copies share its inner nodes. They don't share the items pushed since the last `share`: a copy copies those.
 #[derive(Drop, Debug)]
 pub struct BlockList<T> {
     alloc: Global,
@@ -59,7 +58,7 @@ impl<T> BlockList<T> {
         }
     }
 
-    /// How many items there are.
+    /// The number of items.
     pub fn len(&self) -> usize
         ensures len { result ≡ length self.now.items }
         ensures few { result < 2 ^ 63 }
@@ -74,12 +73,12 @@ impl<T> BlockList<T> {
         self.len() == 0
     }
 
-    /// The allocator that the list was made with.
+    /// The allocator that the list was created with.
     pub fn allocator(&self) -> Global {
         self.alloc
     }
 
-    /// Items from place `i` on, counted from 0: one at least, and as many as stand in one block.
+    /// Items from place `i` on, counted from 0: one at least, and as many as are in one block.
     pub fn run_at(&self, i: usize) -> &[T]
         requires { i < length self.now.items }
         ensures run { IsRunFrom self.now.items i result.now }
@@ -87,7 +86,7 @@ impl<T> BlockList<T> {
         run_in(&self.blocks, items_if(&self.newest), &self.own, i)
     }
 
-    /// Items from place `at` on and below place `end`: one at least, and as many as stand in one block.
+    /// Items from place `at` on and below place `end`: one at least, and as many as are in one block.
     pub(crate) fn run_below(&self, at: usize, end: usize) -> &[T]
         requires order { at < end }
         requires within { end ≤ length self.now.items }
@@ -106,14 +105,14 @@ impl<T> BlockList<T> {
         &self.run_at(i)[0]
     }
 
-    /// The items, one after another.
+    /// The items, in order.
     pub fn iter(&self) -> Iter<'_, T>
         ensures items { result ≡ self.now.items }
     {
         self.range(0, self.len())
     }
 
-    /// The items from place `from` on and below place `to`, one after another.
+    /// The items from place `from` on and below place `to`, in order.
     pub fn range(&self, from: usize, to: usize) -> Iter<'_, T>
         requires order { from ≤ to }
         requires within { to ≤ length self.now.items }
@@ -124,8 +123,8 @@ impl<T> BlockList<T> {
 }
 
 impl<T: Clone + Drop> BlockList<T> {
-    /// The same list again. Counts one more sharer, and copies only the items pushed since the last `share`.
-    /// The room of the copy may differ.
+    /// A copy of the list. Counts one more sharer, and copies only the items pushed since the last `share`. The
+    /// copy may have a different capacity.
     pub fn copy(&self) -> Result<BlockList<T>, NoMemory>
         requires faithful { (x y : T) → T.is_clone x y → x ≡ y }
         ensures items { IfOk result (λ copy. copy.items ≡ self.now.items) }
@@ -138,8 +137,8 @@ impl<T: Clone + Drop> BlockList<T> {
         })
     }
 
-    /// The items from place `from` on and below place `to`, in the blocks that they are in, as a list
-    /// that shares them. It costs what a `copy` does.
+    /// The items from place `from` on and below place `to`, in the blocks that they are in, as a list that
+    /// shares them. It costs as much as a `copy`.
     pub fn slice(&self, from: usize, to: usize) -> Result<Slice<T>, NoMemory>
         requires order { from ≤ to }
         requires within { to ≤ length self.now.items }
@@ -149,9 +148,9 @@ impl<T: Clone + Drop> BlockList<T> {
         Ok(Slice::of(self.copy()?, from, to))
     }
 
-    /// The same list with all items shared, so that a copy of it only counts one more sharer. It costs a
-    /// block and, once per block of new items, the blocks of the last inner node and the number of inner
-    /// nodes.
+    /// The same list with all items shared, so that a copy of it only counts one more sharer. The cost is that
+    /// of a block. Once per block of new items, it also grows with the blocks of the last inner node and the
+    /// number of inner nodes.
     pub fn share(&self) -> Result<BlockList<T>, NoMemory>
         requires faithful { (x y : T) → T.is_clone x y → x ≡ y }
         ensures items { IfOk result (λ shared. shared.items ≡ self.now.items) }
@@ -170,8 +169,8 @@ impl<T: Clone + Drop> BlockList<T> {
         Ok(BlockList::of_blocks(alloc, blocks, newest))
     }
 
-    /// The blocks of the items, and one more block after them. It costs the items that aren't shared, the
-    /// blocks of the last inner node, and the number of inner nodes.
+    /// The blocks of the items, and one more block after them. The cost grows with the items that aren't
+    /// shared, the blocks of the last inner node, and the number of inner nodes.
     fn in_blocks(&self) -> Result<(Blocks<T>, Arc<Block<T>>), NoMemory>
         requires faithful { (x y : T) → T.is_clone x y → x ≡ y }
         ensures items { IfOk result (λ (blocks, newest). blocks ++ arc_value newest ≡ self.now.items) }
@@ -202,7 +201,7 @@ impl<T: Clone + Drop> BlockList<T> {
         Ok(())
     }
 
-    /// Puts an item at the end, for which there is room. It takes no memory.
+    /// Appends an item, for which there is room. It takes no memory.
     pub fn push_reserved(&mut self, item: T)
         requires { 1 ≤ self.old.room }
         ensures items { self.new.items ≡ self.old.items ++ item ∷ [] }
@@ -211,7 +210,7 @@ impl<T: Clone + Drop> BlockList<T> {
         self.own.push_reserved(item);
     }
 
-    /// Puts an item at the end.
+    /// Appends an item.
     pub fn push(&mut self, item: T) -> Result<(), NoMemory>
         requires faithful { (x y : T) → T.is_clone x y → x ≡ y }
         ensures pushed { IfOk result (λ _. self.new.items ≡ self.old.items ++ item ∷ []) }
@@ -222,9 +221,9 @@ impl<T: Clone + Drop> BlockList<T> {
         Ok(())
     }
 
-    /// The list with these items instead of those from place `from` on and below place `to`. It costs the
-    /// items of the blocks at both places, the new items, the blocks of the inner nodes at both places and
-    /// beside them, and the number of inner nodes.
+    /// The list with these items instead of those from place `from` on and below place `to`. The cost grows
+    /// with the new items, the items of the blocks at both places and the number of inner nodes. It also grows
+    /// with the blocks of the inner nodes there and next to them.
     pub fn replace(&self, from: usize, to: usize, items: &[T]) -> Result<BlockList<T>, NoMemory>
         requires order { from ≤ to }
         requires within { to ≤ length self.now.items }

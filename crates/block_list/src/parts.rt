@@ -11,7 +11,7 @@ use ts_schema::NoMemory;
 /// The greatest number of items in parts.
 const MOST_ITEMS: usize = 4_611_686_018_427_387_904;
 
-/// What has items in runs: a block, or parts that have items themselves.
+/// A source of items in runs: a block, or parts that have items themselves.
 pub(crate) trait Items {
     ghost use Rattle.std.specs.Prelude.{List};
 
@@ -21,7 +21,7 @@ pub(crate) trait Items {
     // The items, in order.
     ghost items: { Self → List Self.Item };
 
-    /// How many items there are.
+    /// The number of items.
     fn len(&self) -> usize
         ensures len { result ≡ length (items self.now) }
         ensures small { result ≤ most_items };
@@ -63,7 +63,7 @@ impl<S: Items> Part<S> {
         self.start
     }
 
-    /// What has its items.
+    /// The holder of its items.
     pub(crate) fn items(&self) -> &Arc<S>
         ensures { S.items (arc_value result.now) ≡ self.now.items }
     {
@@ -123,7 +123,7 @@ impl<S: Items> Parts<S> {
         }
     }
 
-    /// How many parts there are.
+    /// The number of parts.
     pub(crate) fn count(&self) -> usize {
         self.parts.len()
     }

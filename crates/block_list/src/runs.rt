@@ -9,7 +9,7 @@ use crate::parts::Items;
 use std::sync::Arc;
 use ts_schema::NoMemory;
 
-/// The items of a block, where there is one.
+/// The items of a block, if there is one.
 pub(crate) fn items_if<T>(block: &Option<Arc<Block<T>>>) -> &[T]
     ensures { result.now ≡ shared_if block.now }
 {
@@ -19,7 +19,7 @@ pub(crate) fn items_if<T>(block: &Option<Arc<Block<T>>>) -> &[T]
     }
 }
 
-/// The items from place `i` on of the one of two lists in which it is.
+/// The items from place `i` on, of the one of two lists that holds this place.
 fn run_in_two<'a, T>(first: &'a [T], second: &'a [T], i: usize) -> &'a [T]
     requires { i < length (first.now ++ second.now) }
     ensures { IsRunFrom (first.now ++ second.now) i result.now }
@@ -32,7 +32,7 @@ fn run_in_two<'a, T>(first: &'a [T], second: &'a [T], i: usize) -> &'a [T]
     }
 }
 
-/// The items from place `i` on of blocks and two lists after them, as many as stand together.
+/// The items from place `i` on, up to the end of their run, of blocks and two lists after them.
 pub(crate) fn run_in<'a, T>(
     blocks: &'a Blocks<T>,
     first: &'a [T],
@@ -50,7 +50,7 @@ pub(crate) fn run_in<'a, T>(
     }
 }
 
-/// A block again, where there is one.
+/// A copy of a block, if there is one.
 pub(crate) fn copy_if<T>(block: &Option<Arc<Block<T>>>) -> Result<Option<Arc<Block<T>>>, NoMemory>
     ensures { IfOk result (λ copy. shared_if copy ≡ shared_if block.now) }
 {
@@ -60,7 +60,7 @@ pub(crate) fn copy_if<T>(block: &Option<Arc<Block<T>>>) -> Result<Option<Arc<Blo
     }
 }
 
-/// The block that begins the items after a place, where there is one and it ends at or before `end`.
+/// The block that begins the items after a place, if there is one and it ends at or before `end`.
 fn block_first<T>(block: &Option<Arc<Block<T>>>, end: usize) -> Option<&Arc<Block<T>>>
     ensures { IfSome result (λ whole. IsRun (shared_if block.now) 0 end (arc_value whole.now)) }
 {

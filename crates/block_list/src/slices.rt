@@ -42,12 +42,12 @@ impl<T> Slice<T> {
         requires within { to ≤ length list.items }
         ensures items { result ≡ take (to - from) (drop from list.items) }
     {
-        // A length that is read has 64 bits.
+        // Reading the length tells the prover that it has 64 bits.
         let _most = list.len();
         Slice { list, from, to }
     }
 
-    /// How many items there are.
+    /// The number of items.
     pub fn len(&self) -> usize
         ensures len { result ≡ length self.now }
         ensures few { result < 2 ^ 63 }

@@ -101,7 +101,7 @@ start_at-rises Week n h = seconds_start-rises (n * 604800) (omega arith)
 start_at-rises Month n h = months_start-rises n h
 start_at-rises Year n h = months_start-rises (n * 12) (omega arith)
 
--- of rising buckets one holds a number
+-- one of rising buckets holds a number
 pub one_holds : (start : ℤ → ℤ) (t p q : ℤ) → Rises start → Holds start t p → Holds start t q → p ≤ℤ q
 one_holds start t p q rises h g =
     by_lt_z q p
@@ -138,7 +138,7 @@ months_start-not_above n p q some le =
     (λ lt. let less : months_start n p <ℤ months_start n q = months_start-rises n some p q lt in omega (arith, ints))
     (λ ge. let same : p ≡ q = omega (arith, signed_arith) in subst (λ z. months_start n p ≤ℤ months_start n z) same (at_most_itself (months_start n p)))
 
--- a later bucket isn't at or below what an earlier one holds
+-- a number in a bucket is below the start of any later one
 beyond : (n : ℕ) (t p q : ℤ) → 0 < n → p <ℤ q → t <ℤ months_start n (p +ℤ pos 1) → months_start n q ≤ℤ t → ⊥
 beyond n t p q some lt end low =
     let reach : months_start n (p +ℤ pos 1) ≤ℤ months_start n q = months_start-not_above n (p +ℤ pos 1) q some (omega (arith, signed_arith)) in
@@ -159,7 +159,7 @@ quotient_is n p q some low high =
     (λ lt. let reach : ((q +ℤ pos 1) *ℤ pos n) ≤ℤ (p *ℤ pos n) = multiples_stand (q +ℤ pos 1) p n some (omega (arith, signed_arith)) in absurd (omega (arith, ints)))
     (λ le. omega (arith, signed_arith)))
 
--- what that leaves
+-- the remainder
 nothing_left : (n : ℕ) (p r : ℤ) → up r + up p * n + down (p *ℤ pos n) ≡ down p * n + up (p *ℤ pos n) → down r ≡ 0 → r ≡ pos 0
 nothing_left n p r parts none_below = let product = product_is p (pos n) in omega (arith, ints, parts, product, none_below)
 

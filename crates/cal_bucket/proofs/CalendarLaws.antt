@@ -1,4 +1,4 @@
--- Laws of the calendar: months follow one another, and 400 years later all is the same.
+-- Laws of the calendar: months follow one another, and the calendar repeats after 400 years.
 use Rattle.std.proofs.Common.{◌≡◌, ℕ, zero, suc, ◌+◌, ◌-◌, ◌/◌, ◌%◌, ◌<◌, ◌≤◌, inl, inr, Bool, ◌||◌, cond, nat_eq, refl, sym, ap, subst, ◌∙◌, arith, ℤ, pos, negsuc, ◌+ℤ◌, ◌*ℤ◌, ◌<ℤ◌, ◌≤ℤ◌, unsigned_abs}
 use Rattle.std.proofs.lemmas.Bool.Decides.{nat_tests}
 use Rattle.std.proofs.lemmas.Int.{by_lt_z}
@@ -172,7 +172,7 @@ days_to-period (negsuc (suc n)) =
     let next : negsuc (suc n) +ℤ pos 1 ≡ negsuc n = omega (arith, signed_arith) in
     periodic-back (negsuc (suc n)) (subst IsPeriodic (sym next) (days_to-period (negsuc n)))
 
--- so j times 400 years have j times as many
+-- so j times 400 years have j times as many days
 pub days_to-periods : (k j : ℤ) → days_to (k +ℤ (j *ℤ pos 4800)) ≡ days_to k +ℤ (j *ℤ pos 146097)
 days_to-periods k (pos zero) =
     let none : k +ℤ (pos 0 *ℤ pos 4800) ≡ k = omega (arith, signed_arith) in

@@ -21,7 +21,7 @@ pub record Found (d : Date) (day : ℕ) : Type 0 where
   pub at_or_below : days_to (pos month) ≤ℤ pos day
   pub end_above : pos day <ℤ days_to (pos month +ℤ pos 1)
 
--- the date that stands so many days behind the first of January 2000
+-- the date that is this many days after the first of January 2000
 abbrev IsDayOfCycle : Date → ℕ → Type 0
 IsDayOfCycle d day = (day < 146097) × (day_count d.year d.month d.day ≡ 4_382_910 + day)
 
@@ -96,7 +96,7 @@ first_of_month d n year month day =
     = ap (λ x. day_count d.year d.month x) day ∙ ap (λ m. day_count d.year m 1) month ∙ ap (λ y. day_count y (n % 12 + 1) 1) year ∙ sym (days_after-first_day n) in
     omega (arith, signed_arith, is, first, day_count-2000)
 
--- and the first of them all
+-- and the first date
 first_of_all : (d : Date) → IsYmd (pos 2000) (pos 1) (pos 1) d → epoch_day d ≡ pos 10957
 first_of_all d ymd =
     let month : d.month ≡ 1 = omega (arith, signed_arith, ymd.1) in
@@ -131,7 +131,7 @@ number_of_month y from_year m from_month n h year year_is month month_is = omega
 
 -- ---- the first date of a month
 
--- the code's year and its place in the year, free of their casts
+-- the code's year and its place in the year, without their casts
 pub code_year : (month : ℤ) → IsInCycle month → to_z w16 (of_z w16 (to_z w64 (of_z w64 (pos 2000 +ℤ to_z w64 (of_z w64 (int_div (to_z w64 (of_z w64 month)) (pos 12))))))) ≡ pos 2000 +ℤ int_div month (pos 12)
 code_year month h =
     let low : pos 0 ≤ℤ month = h.0 in
@@ -191,7 +191,7 @@ start_found first start month year_of_it place_of_it nanos second h year_is plac
         let all : nanos ≡ pos days *ℤ pos 86_400_000_000_000 = nanos_is ∙ ap (λ z. z *ℤ pos 86_400_000_000_000) gap in
         omega (arith, ints)
 
--- ---- what the code computes, free of its casts
+-- ---- what the code computes, without its casts
 
 -- the code's number of the month is that of the date that jiff found
 pub record CodeMonth (second number : ℤ) : Type 0 where

@@ -25,13 +25,13 @@ cut_of t cycle rest p q = record {
   high = omega (arith, signed_arith);
 }
 
--- moved by whole spans of 400 years, a month starts so many seconds later
+-- a month that is moved by whole spans of 400 years starts this many seconds later
 pub start_moved : (k cycle : ℤ) → start_of (k +ℤ (cycle *ℤ pos 4800)) ≡ start_of k +ℤ (cycle *ℤ pos 12622780800)
 start_moved k cycle =
     let is : days_to (k +ℤ (cycle *ℤ pos 4800)) ≡ days_to k +ℤ (cycle *ℤ pos 146097) = days_to-periods k cycle in
     omega (arith, signed_arith)
 
--- so a month that holds what is left of a time, moved by the whole spans, holds the time
+-- so a month that holds the rest of a time, moved by the whole spans, holds the time
 pub month_moved : (t cycle rest m : ℤ) → Cut t cycle rest → IsMonthOf (pos 946684800 +ℤ rest) m → IsMonthOf t (m +ℤ (cycle *ℤ pos 4800))
 month_moved t cycle rest m cut month =
     let is : t ≡ (pos 946684800 +ℤ (cycle *ℤ pos 12622780800)) +ℤ rest = cut.is in
@@ -51,7 +51,7 @@ month_moved t cycle rest m cut month =
     at_end : (t a b cycle rest : ℤ) → t ≡ (pos 946684800 +ℤ (cycle *ℤ pos 12622780800)) +ℤ rest → b ≡ a +ℤ (cycle *ℤ pos 12622780800) → (pos 946684800 +ℤ rest) <ℤ a → t <ℤ b
     at_end t a b cycle rest is next high = omega (arith, signed_arith)
 
--- what starts a month near the times is far inside of 64 bits
+-- the start of a month near the times is far inside the range of 64 bits
 pub start_bounds : (k : ℤ) → IsNearMonth k → (min_time ≤ℤ (start_of k +ℤ pos 37871020800)) × (start_of k ≤ℤ max_time)
 start_bounds k h =
     let moved : k +ℤ pos 14401 ≡ (k +ℤ pos 1) +ℤ (pos 3 *ℤ pos 4800) = omega (arith, signed_arith) in
@@ -61,7 +61,7 @@ start_bounds k h =
     let low : min_time <ℤ start_of (k +ℤ pos 14401) = h.low in
     (omega (arith, signed_arith), h.high)
 
--- ---- what the code computes, free of its casts
+-- ---- what the code computes, without its casts
 
 pub code_cut : (t cycle rest : ℤ) → IsTrue (is_time t)
     → cycle ≡ int_div_euclid (to_z w64 (of_z w64 (to_z w64 (of_z w64 t) -ℤ pos 946684800))) (pos 12622780800)
@@ -74,7 +74,7 @@ code_cut t cycle rest h p q =
     let is : to_z w64 (of_z w64 (to_z w64 (of_z w64 t) -ℤ pos 946684800)) ≡ t -ℤ pos 946684800 = omega (arith, ints) in
     cut_of t cycle rest (p ∙ ap (λ z. int_div_euclid z (pos 12622780800)) is) (q ∙ ap (λ z. int_rem_euclid z (pos 12622780800)) is)
 
--- the code's number of the month is one of 64 bits, and the one that was meant
+-- the code's number of the month has 64 bits, and is the right one
 pub record CodeMonth (cycle m : ℤ) : Type 0 where
   pub fits : FitsSigned w64 (to_z w64 (of_z w64 (to_z w64 (of_z w64 cycle) *ℤ pos 4800)) +ℤ to_z w64 (of_z w64 m))
   pub is : to_z w64 (of_z w64 (to_z w64 (of_z w64 (to_z w64 (of_z w64 cycle) *ℤ pos 4800)) +ℤ to_z w64 (of_z w64 m))) ≡ m +ℤ (cycle *ℤ pos 4800)
@@ -91,7 +91,7 @@ code_month t cycle rest m h cut inside =
     let m_high : m <ℤ pos 4800 = inside.1 in
     record { fits = omega (arith, ints); is = omega (arith, ints) }
 
--- and holds the time, where it holds what is left of it
+-- and that month holds the time, if it holds the rest of the time
 pub code_holds : (t cycle rest m : ℤ) → Cut t cycle rest → IsMonthOf (pos 946684800 +ℤ to_z w64 (of_z w64 rest)) m → IsMonthOf t (m +ℤ (cycle *ℤ pos 4800))
 code_holds t cycle rest m cut month =
     let low : pos 0 ≤ℤ rest = cut.low in

@@ -1,5 +1,5 @@
--- Rows with the names of their buckets for their times, where the time is a column more: grouping them by buckets of
--- one number is grouping the rows by name.
+-- Rows whose times are replaced by the names of their buckets, with the time as one more column. Grouping them
+-- by buckets of one number is grouping the rows by name.
 use Rattle.std.proofs.Common.{◌≡◌, ℕ, zero, suc, ◌+◌, ◌&&◌, Bool, true, false, cond, List, [], ◌∷◌, ◌++◌, map, filter, flat_map, sym, ap, refl, ◌∙◌, arith, ℤ, pos, Option, Some}
 use Rattle.std.proofs.lemmas.Int.{ints}
 use Rattle.std.specs.Ordering.{int_cmp, int_eq, is_eq}
@@ -66,7 +66,7 @@ filter-map p f (x ∷ xs) = ap (λ ys. cond (p (f x)) (f x ∷ ys) ys) (filter-m
     chosen true = refl
     chosen false = refl
 
--- ---- moved rows have the same columns, one further
+-- ---- moved rows have the same columns, one place further
 
 pub field-moved : (name : ℤ → ℤ) (row : Row) (c : ℕ) → field_of (moved name row) (c + 1) ≡ field_of row c
 field-moved name row zero = refl

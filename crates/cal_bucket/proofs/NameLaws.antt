@@ -21,14 +21,14 @@ names_its_times unit n p b some start end t time low high =
     let held : Holds (start_at unit n) t p = record { at_or_below = subst (λ s. s ≤ℤ t) start low; end_above = end t time high } in
     sym (name_is unit n t p some held) ∙ sym start
 
--- places up to one that holds a time
+-- places up to that of a bucket that holds a time
 not_above : (start : ℤ → ℤ) → Rises start → (p q : ℤ) → p ≤ℤ q → start p ≤ℤ start q
 not_above start rises p q h =
     by_lt_z p q
     (λ lt. let up = rises p q lt in omega (arith, ints, up))
     (λ ge. let same : p ≡ q = omega (arith, signed_arith) in subst (λ x. start p ≤ℤ start x) same (omega (arith, ints)))
 
--- the bucket behind one that stands below the last
+-- the bucket after one that is below the last
 pub next_holds : (unit : CalUnit) (n : ℕ) (p q : ℤ) → 0 < n → p <ℤ q → HoldsATime (start_at unit n) p → Holds (start_at unit n) max_time q → HoldsATime (start_at unit n) (p +ℤ pos 1)
 next_holds unit n p q some below own last =
     let start = start_at unit n in
@@ -41,7 +41,7 @@ next_holds unit n p q some below own last =
     let bottom = own.ends in
     record { starts = omega (arith, ints, up, top); ends = omega (arith, ints, above, bottom) }
 
--- no time is behind the last bucket
+-- no time is after the last bucket
 pub last_holds_all : (unit : CalUnit) (n : ℕ) (p q t : ℤ) → 0 < n → q ≤ℤ p → Holds (start_at unit n) max_time q → IsTrue (is_time t) → t <ℤ start_at unit n (p +ℤ pos 1)
 last_holds_all unit n p q t some above last time =
     let start = start_at unit n in

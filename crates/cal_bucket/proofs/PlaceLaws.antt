@@ -66,7 +66,7 @@ not_late (pos n) h =
     omega (arith, signed_arith)
 not_late (negsuc n) h = omega (arith, ints)
 
--- far inside of the range of times
+-- far inside the range of times
 abbrev far_below : ℤ
 far_below = negsuc (2 ^ 61 + 2 ^ 30)
 
@@ -153,7 +153,8 @@ double_below : (q : ℤ) (s : ℕ) → 2 ≤ s → q <ℤ pos 0 → (q *ℤ pos 
 double_below (pos a) s h some = absurd (omega (arith, ints))
 double_below (negsuc a) s h some = let more : suc a + suc a ≤ suc a * s = doubles (suc a) s h in omega (arith, ints, more)
 
--- a place whose multiple isn't above the times isn't above them, and one whose next multiple isn't far below isn't below
+-- a place whose multiple isn't above the times isn't above them, and one whose next multiple isn't far below
+-- the times isn't below them
 in_range : (p : ℤ) → (pos 0 ≤ℤ p → p ≤ℤ max_time) → ((p +ℤ pos 1) <ℤ pos 0 → far_below ≤ℤ (p +ℤ pos 1)) → IsTrue (is_time p)
 in_range p high low =
     by_lt_z p (pos 0)

@@ -96,7 +96,7 @@ values_of_cells [] = refl
 values_of_cells (None ∷ vals) = ap (λ vs. None ∷ vs) (values_of_cells vals)
 values_of_cells (Some n ∷ vals) = ap (λ vs. Some n ∷ vs) (values_of_cells vals)
 
--- they show numbers of 64 bits
+-- the cells show numbers of 64 bits
 pub words_shown : (at : ℕ) (cells : List Datum) → ShowARow at cells → ShowWords cells
 words_shown at cells h =
     subst ShowWords (sym h.columns)

@@ -63,7 +63,7 @@ time_is_shown at cells shown =
 pub time_is : (at : ℕ) (cells : List Datum) → ShowARow at cells → unwrap_or (cell_at cells at) (pos 0) ≡ (row_shown at cells).at
 time_is at cells shown = ap (λ v. unwrap_or v (pos 0)) (time_cell at cells (cells_fit at cells shown).time)
 
--- the other cells, before the time and behind it
+-- the other cells, before the time and after it
 cell_before : (at : ℕ) (cells : List Datum) (k : ℕ) → at < length cells → k < at → get_or (map value_of cells) k None ≡ get_or (map number_of (take at cells) ++ map number_of (drop 1 (drop at cells))) k None
 cell_before zero cells k h below = absurd (omega (arith, below))
 cell_before (suc at) [] k h below = absurd (omega (arith, h))
@@ -145,7 +145,7 @@ module _ (plan : CalPlan) where
   rows_stand [] h = tt
   rows_stand (cells ∷ lower) h = (row_stands cells h.0, rows_stand lower h.1)
 
-  -- what is gathered by name shows what the plan does
+  -- the groups gathered by name show what the plan shows
   pub gathered_by_name : (lower : List (List Datum)) → AllByRecursion (ShowARow plan.at) lower → rows_shown shape (with_rows (cells_pass tests) (named_group plan shape) lower []) ≡ plan_rows plan lower
   gathered_by_name lower h =
       gathered_show (moved_fold plan.fold) shape (moved_fold-wide plan.fold) (cells_pass tests) (named_group plan shape) moved_row lower

@@ -11,7 +11,7 @@ use Rattle.cal_bucket.proofs.BucketLaws.{each_has_one_bucket}
 use Rattle.cal_bucket.proofs.PlaceLaws.{names_are_of_buckets}
 use borrow.Author.Differences.{up, down, product_is}
 
--- counted from a Monday by division, it is what the remainder leaves
+-- the start computed by division, counted from a Monday, is the one computed by remainder
 by_remainder : (seconds : ℕ) (t : ℤ) → 0 < seconds → seconds_start seconds (int_div_euclid (t -ℤ monday) (pos seconds)) ≡ t -ℤ int_rem_euclid (t -ℤ monday) (pos seconds)
 by_remainder seconds t some =
     joined (int_div_euclid (t -ℤ monday) (pos seconds)) (int_rem_euclid (t -ℤ monday) (pos seconds)) (int_rem_euclid-parts (t -ℤ monday) seconds some)

@@ -1,4 +1,4 @@
--- What a query by buckets of the calendar shows.
+-- The answer of a query by buckets of the calendar.
 use Rattle.std.specs.Prelude.{◌&&◌, List, map, filter, flat_map, ℤ}
 use Rattle.std.specs.Ordering.{int_cmp, int_eq}
 use Rattle.ts_num.specs.declared.values.Datum.{Datum}
@@ -10,7 +10,7 @@ use Rattle.cal_bucket.specs.declared.plans.CalPlan.{CalPlan}
 use Rattle.cal_bucket.specs.Places.{name_of}
 use Rattle.cal_bucket.specs.Rows.{row_shown}
 
--- the rows of the bucket that b names which pass every test, where each time has the name of its bucket
+-- the rows of the bucket with name b that pass every test, with each time's bucket given by its name
 abbrev pub rows_named : (ℤ → ℤ) → Fold → ℤ → List Row → List Row
 rows_named name fold b rows = filter (λ row. int_eq (name row.at) b && passes_all row fold.tests) rows
 

@@ -1,11 +1,11 @@
--- Buckets of the calendar: where they start, for each unit, and which one holds a time.
+-- Buckets of the calendar: their starts for each unit, and the bucket that holds a time.
 use Rattle.std.specs.Prelude.{◌≡◌, ℕ, ◌*◌, ◌≤◌, ℤ, pos, ◌+ℤ◌, ◌*ℤ◌, ◌≤ℤ◌, ◌<ℤ◌}
 use Rattle.ts_bucket.specs.Bucket.{min_time, max_time}
 use Rattle.cal_bucket.specs.declared.plans.CalUnit.{CalUnit}
 use Rattle.cal_bucket.specs.declared.plans.CalUnit.TheVariants.{Day, Week, Month, Year}
 use Rattle.cal_bucket.specs.Calendar.{start_of}
 
--- how many units a bucket may have
+-- the allowed numbers of units of a bucket
 abbrev pub IsNumber : ℕ → Type 0
 IsNumber n = (1 ≤ n) × (n ≤ 1200)
 
@@ -13,15 +13,15 @@ IsNumber n = (1 ≤ n) × (n ≤ 1200)
 abbrev pub monday : ℤ
 monday = pos 946857600
 
--- where bucket p of so many seconds starts, counted from that Monday
+-- the start of bucket p of this many seconds, counted from that Monday
 abbrev pub seconds_start : ℕ → ℤ → ℤ
 seconds_start seconds p = monday +ℤ (p *ℤ pos seconds)
 
--- where bucket p of so many months starts, counted from January 2000
+-- the start of bucket p of this many months, counted from January 2000
 abbrev pub months_start : ℕ → ℤ → ℤ
 months_start months p = start_of (p *ℤ pos months)
 
--- where bucket p of n units starts
+-- the start of bucket p of n units
 abbrev pub start_at : CalUnit → ℕ → ℤ → ℤ
 start_at Day n = seconds_start (n * 86400)
 start_at Week n = seconds_start (n * 604800)

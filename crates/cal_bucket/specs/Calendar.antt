@@ -1,4 +1,4 @@
--- The calendar: leap years, months, and where months start in seconds since 1970.
+-- The calendar: leap years, months, and the starts of months in seconds since 1970.
 use Rattle.std.specs.Prelude.{ℕ, zero, suc, ◌+◌, Bool, not, ◌&&◌, ◌||◌, ◌==◌, if◌then◌else◌, ℤ, pos, negsuc, neg_ℤ, ◌+ℤ◌, ◌*ℤ◌, ◌≤ℤ◌, ◌<ℤ◌, unsigned_abs}
 use Rattle.std.specs.Int.{int_div_euclid, int_rem_euclid}
 use Rattle.std.specs.Ordering.{int_eq}
@@ -8,11 +8,11 @@ use Rattle.ts_bucket.specs.Bucket.{min_time, max_time}
 abbrev pub divides : ℕ → ℤ → Bool
 divides n z = int_eq (int_rem_euclid z (pos n)) (pos 0)
 
--- every fourth year is a leap year, but of the centuries only every fourth
+-- every fourth year is a leap year, except for centuries, of which only every fourth is
 abbrev pub is_leap : ℤ → Bool
 is_leap year = (divides 4 year && not (divides 100 year)) || divides 400 year
 
--- how many days a month of a leap year or of another year has, by its place in the year: 0 is January
+-- the number of days of a month, in a leap year or another, by its place in the year: 0 is January
 abbrev pub days_of_month : Bool → ℕ → ℕ
 days_of_month leap place =
     if place == 1 then (if leap then 29 else 28)
@@ -26,7 +26,7 @@ year_of k = pos 2000 +ℤ int_div_euclid k (pos 12)
 abbrev pub place_of : ℤ → ℕ
 place_of k = unsigned_abs (int_rem_euclid k (pos 12))
 
--- how many days the month has
+-- the number of days of the month
 abbrev pub length_of : ℤ → ℕ
 length_of k = days_of_month (is_leap (year_of k)) (place_of k)
 
@@ -54,7 +54,8 @@ pub record IsMonthOf (t k : ℤ) : Type 0 where
   pub at_or_below : start_of k ≤ℤ t
   pub end_above : t <ℤ start_of (k +ℤ pos 1)
 
--- the month starts at or below the greatest time, and ends above the least one where 14,400 months more are counted
+-- the month starts at or below the greatest time, and ends above the least one if 14,400 months more are
+-- counted
 pub record IsNearMonth (k : ℤ) : Type 0 where
   pub low : min_time <ℤ start_of (k +ℤ pos 14401)
   pub high : start_of k ≤ℤ max_time

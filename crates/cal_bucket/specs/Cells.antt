@@ -1,4 +1,4 @@
--- What the code reads of a cell.
+-- The values that the code reads from a cell.
 use Rattle.std.specs.Prelude.{List, [], ◌∷◌, IsTrue, ⊤}
 use Rattle.ts_num.specs.declared.values.Datum.{Datum}
 use Rattle.ts_num.specs.declared.values.Datum.TheVariants.{Null, Int, Ratio}

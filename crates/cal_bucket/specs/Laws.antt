@@ -1,4 +1,4 @@
--- What is proved of the calendar and its buckets.
+-- The laws of the calendar and its buckets.
 use Rattle.std.specs.Prelude.{◌≡◌, ℕ, ◌+◌, ◌*◌, ◌<◌, ◌≤◌, List, length, map, true, ℤ, pos, ◌+ℤ◌, ◌*ℤ◌, ◌≤ℤ◌}
 use Rattle.std.specs.List.{AllByRecursion, list_all}
 use Rattle.jiff_core.specs.Calendar.{weekday_number}
@@ -25,7 +25,7 @@ use Rattle.cal_bucket.specs.Rows.{ShowARow}
 abbrev pub January2000 : Type 0
 January2000 = start_of (pos 0) ≡ pos 946684800
 
--- and each month, after it and before it, where the one before ends
+-- and each other month, later or earlier, starts where the previous one ends
 abbrev pub MonthsFollow : Type 0
 MonthsFollow = (k : ℤ) → start_of (k +ℤ pos 1) ≡ start_of k +ℤ pos (86400 * length_of k)
 
@@ -48,7 +48,7 @@ FourHundredYears = (k : ℤ) → start_of (k +ℤ pos 4800) ≡ start_of k +ℤ 
 
 -- ---- buckets
 
--- b is the greatest start of a month that n divides which isn't above t
+-- b is the greatest start, at or below t, of a month that n divides
 pub record IsGreatestStart (n : ℕ) (t b : ℤ) : Type 0 where
   pub month : ℤ
   pub divided : divides n month ≡ true
@@ -56,11 +56,11 @@ pub record IsGreatestStart (n : ℕ) (t b : ℤ) : Type 0 where
   pub not_above : b ≤ℤ t
   pub greatest : (k : ℤ) → divides n k ≡ true → start_of k ≤ℤ t → start_of k ≤ℤ b
 
--- a bucket of n months is named by that
+-- a bucket of n months has that name
 abbrev pub MonthBucketsAreGreatest : Type 0
 MonthBucketsAreGreatest = (n : ℕ) (t b : ℤ) → 0 < n → IsCalendarBucket Month n t b → IsGreatestStart n t b
 
--- buckets so many seconds wide, counted from a Monday
+-- buckets this many seconds wide, counted from a Monday
 abbrev pub width_of : ℕ → WidthValue
 width_of seconds = record { step = pos seconds; shift = monday }
 
@@ -91,7 +91,7 @@ NamesAreOfBuckets = (unit : CalUnit) (n : ℕ) (t : ℤ) → 0 < n → IsCalenda
 
 -- ---- rows
 
--- what a plan shows over all columns of a table's rows it shows over the rows
+-- a plan shows the same over all columns of a table's rows as over the rows
 abbrev pub ColumnsShowRows : Type 0
 ColumnsShowRows = (plan : CalPlan) (rows : List Row) → AllByRecursion (λ row. plan.at ≤ length row.vals) rows
     → plan_rows plan (map (all_columns plan.at) rows) ≡ rows_of_plan plan rows

@@ -6,7 +6,7 @@ use Rattle.cal_bucket.specs.declared.plans.CalUnit.TheVariants.{Day, Week, Month
 use Rattle.cal_bucket.specs.Calendar.{days_after}
 use Rattle.cal_bucket.specs.Buckets.{monday, start_at}
 
--- of the first n months from January 2000 on the last that starts on the day or before
+-- the last of the first n months from January 2000 on that starts on or before the day
 unfoldable pub last_month : ℕ → ℕ → ℕ
 last_month zero day = 0
 last_month (suc n) day = cond (nat_le (days_after n) day) n (last_month n day)

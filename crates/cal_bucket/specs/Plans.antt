@@ -4,7 +4,7 @@ use Rattle.cal_bucket.specs.declared.plans.CalPlan.{CalPlan}
 use Rattle.cal_bucket.specs.Buckets.{start_at}
 use Rattle.cal_bucket.specs.Places.{place_at}
 
--- where bucket p of a plan starts
+-- the start of bucket p of a plan
 abbrev pub starts : CalPlan → ℤ → ℤ
 starts plan = start_at plan.unit plan.number
 

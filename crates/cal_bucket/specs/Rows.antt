@@ -21,7 +21,7 @@ first_number (Null ∷ cells) = pos 0
 first_number (Int n ∷ cells) = n
 first_number (Ratio r ∷ cells) = pos 0
 
--- the row that these cells show, where the time column is at this place
+-- the row that these cells show, if the time column is at this place
 abbrev pub row_shown : ℕ → List Datum → Row
 row_shown at cells = record {
   at = first_number (drop at cells);
@@ -32,7 +32,7 @@ row_shown at cells = record {
 abbrev pub IsValue : Option ℤ → Type 0
 IsValue v = IfSome v (λ n. IsTrue (is_word n))
 
--- the cells show a row of a table: its columns in declared order, where the time column is at this place
+-- the cells show a row of a table: its columns in declared order, if the time column is at this place
 pub record ShowARow (at : ℕ) (cells : List Datum) : Type 0 where
   pub row : Row
   pub columns : cells ≡ all_columns at row

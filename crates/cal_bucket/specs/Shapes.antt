@@ -1,4 +1,4 @@
--- How the code groups by the cells of a row: each column has its place among them.
+-- Grouping by the cells of a row, as the code does it: each column has its place among them.
 use Rattle.std.specs.Prelude.{ℕ, ◌-◌, ◌==◌, nat_le, if◌then◌else◌, cond, List, map}
 use Rattle.ts_num.specs.declared.values.Datum.{Datum}
 use Rattle.partial_agg.specs.declared.groups.Group.{Group}
@@ -11,7 +11,7 @@ use Rattle.cal_bucket.specs.declared.plans.CalPlan.{CalPlan}
 use Rattle.cal_bucket.specs.Places.{name_of}
 use Rattle.cal_bucket.specs.Rows.{row_shown}
 
--- the place of a column, where the time is at this place: column 0 is the time, the others count from 1
+-- the place of a column, if the time is at this place: column 0 is the time, the others count from 1
 abbrev pub place_among : ℕ → ℕ → ℕ
 place_among at c = if c == 0 then at else cond (nat_le c at) (c - 1) c
 
@@ -26,6 +26,6 @@ test_among at test = record { col = place_among at test.col; cmp = test.cmp; num
 abbrev pub shape_of : ℕ → Fold → Shape
 shape_of at fold = record { keys = map (place_among at) fold.keys; aggs = map (agg_among at) fold.aggs }
 
--- what is needed of the group of one row, in the bucket that has the name
+-- the needed parts of the group of one row, in the bucket with this name
 abbrev pub named_group : CalPlan → Shape → List Datum → Group
 named_group plan shape cells = cells_at shape (name_of plan.unit plan.number (row_shown plan.at cells).at) cells

@@ -1,4 +1,4 @@
-//! What a query by buckets of the calendar shows.
+//! The answer of a query by buckets of the calendar.
 ghost use Rattle.std.specs.Prelude.{◌≡◌, [], IfOk, IsTrue};
 ghost use Rattle.std.specs.List.{AllByRecursion};
 ghost use Rattle.cal_bucket.specs.Answers.{plan_rows};
@@ -30,7 +30,7 @@ pub fn cal_answer(alloc: Global, plan: &CalPlan, lower: &Answer) -> Result<Answe
     })
 }
 
-/// The result rows, from the rows that an answer shows.
+/// The result rows, computed from the rows of an answer.
 fn answer_rows(alloc: Global, plan: &CalPlan, lower: &ResultRows) -> Result<ResultRows, NoMemory>
     requires number { IsNumber plan.now.number }
     requires shown { AllByRecursion (ShowARow plan.now.at) lower.now }
@@ -39,7 +39,7 @@ fn answer_rows(alloc: Global, plan: &CalPlan, lower: &ResultRows) -> Result<Resu
     let shape = shape_of(alloc, plan.at, &plan.fold)?;
     let tests = tests_among(alloc, plan.at, plan.fold.tests.items())?;
     let gathered = gather(alloc, plan, &shape, tests.as_slice(), lower)?;
-    // A length that is read has 64 bits, so no count and no sum of rows is too great.
+    // Reading the length tells the prover that it has 64 bits, so no count and no sum of rows is too large.
     let _rows = lower.len();
     match rows_of(alloc, &shape, gathered) {
         Ok(rows) => Ok(ResultRows::of_cells(alloc, rows)),

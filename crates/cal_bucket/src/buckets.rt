@@ -1,4 +1,4 @@
-//! The bucket of a time, by its place: how many buckets lie between it and bucket 0.
+//! The bucket of a time, by its place: the number of buckets from bucket 0 to it.
 ghost use Rattle.std.specs.Prelude.{◌≡◌, IsTrue, ◌≤◌, ℤ, pos, ◌+ℤ◌, ◌≤ℤ◌, ◌<ℤ◌};
 ghost use Rattle.ts_bucket.specs.Bucket.{is_time};
 ghost use Rattle.cal_bucket.specs.Named.{NamesItsTimes};
@@ -12,16 +12,16 @@ use ts_bucket::MAX_TIME;
 /// The start of Monday 2000-01-03, from which days and weeks count.
 const MONDAY: i64 = 946_857_600;
 
-/// A bucket by the times that it holds: those from its start on and below its end, or as far as times go.
+/// A bucket by the times that it holds: those from its start on and below its end, up to the greatest time.
 #[derive(Clone, Copy)]
 pub(crate) struct Bucket {
     pub(crate) start: i64,
     pub(crate) end: i64,
 }
 
-/// The start of the bucket of so many units, from 1 to 1,200, that holds the time `t`, both in seconds since 1970
-/// (UTC). Days and weeks count from Monday 2000-01-03, months and years from January 2000: these are the default
-/// origins of `time_bucket` in the API reference of TimescaleDB.
+/// The start of the bucket of `number` units, from 1 to 1,200, that holds the time `t`, both in seconds since
+/// 1970 (UTC). Days and weeks count from Monday 2000-01-03, months and years from January 2000. These are the
+/// default origins of `time_bucket` in the API reference of TimescaleDB.
 pub fn calendar_bucket(unit: CalUnit, number: u32, t: i64) -> i64
     requires number { IsNumber number }
     requires time { IsTrue (is_time t) }
@@ -38,7 +38,7 @@ pub(crate) fn no_bucket() -> Bucket
     Bucket { start: 0, end: 0 }
 }
 
-/// The bucket that holds the time `t`: the one at hand, or another.
+/// The bucket that holds the time `t`: the given one, or another.
 #[inline(always)]
 pub(crate) fn bucket_with(unit: CalUnit, number: u32, at_hand: Bucket, t: i64) -> Bucket
     requires number { IsNumber number }
@@ -67,7 +67,7 @@ fn bucket_of(unit: CalUnit, number: u32, t: i64) -> Bucket
     }
 }
 
-/// The end of a bucket that holds a time, or a number above all times that isn't above it.
+/// The end of a bucket that holds a time, or a number above all times that is at or below that end.
 fn place_end(unit: CalUnit, number: u32, place: i64) -> i64
     requires number { IsNumber number }
     requires time { HoldsATime (start_at unit number) place }

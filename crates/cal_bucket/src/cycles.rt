@@ -12,7 +12,7 @@ pub(crate) const CYCLE_MONTHS: i64 = 4_800;
 /// The seconds of 400 years.
 pub(crate) const CYCLE_SECONDS: i64 = 12_622_780_800;
 
-/// The month that holds a second of these years, where the first second is 0.
+/// The month that holds a second of these years. The first second is 0.
 pub(crate) fn month_of_second(second: i64) -> i64
     requires low { pos 0 ≤ℤ second }
     requires high { second <ℤ pos 12622780800 }

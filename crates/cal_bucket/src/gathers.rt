@@ -1,4 +1,4 @@
-//! The groups of the rows that an answer shows.
+//! The groups of the rows of an answer.
 ghost use Rattle.std.specs.Prelude.{◌≡◌, ◌+◌, ◌-◌, ◌^◌, ℕ, [], length, IfOk, OnOk, IsTrue};
 ghost use Rattle.std.specs.List.{AllByRecursion};
 ghost use Rattle.cell_groups.specs.Cells.{cells_pass};
@@ -36,7 +36,7 @@ pub(crate) fn gather<'a>(
     ensures gathered { IfOk result (λ gathered. AreGathered shape.now gathered) }
     ensures few { IfOk result (λ gathered. AreOfRows (length lower.now) (as_groups shape.now gathered.groups.items)) }
 {
-    // A length that is read has 64 bits, so no count and no sum of rows is too great.
+    // Reading the length tells the prover that it has 64 bits, so no count and no sum of rows is too large.
     let _rows = lower.len();
     let mut gathered = CellGroups::new(alloc);
     let mut bucket = no_bucket();
@@ -46,7 +46,7 @@ pub(crate) fn gather<'a>(
     Ok(gathered)
 }
 
-/// Adds a row, if it matches every test. `bucket` is that of a row before it, and then its own.
+/// Adds a row, if it matches every test. `bucket` is that of an earlier row, and afterwards that of this row.
 #[inline(always)]
 fn take_row<'a>(
     alloc: Global,
@@ -78,7 +78,7 @@ fn take_row<'a>(
     take_words(alloc, shape, i128::from(bucket.start), cells, gathered)
 }
 
-/// Takes a row of 64-bit numbers in, of which fewer than `2^64` never make a number too great.
+/// Adds a row of 64-bit numbers. Fewer than `2^64` of these never make a number too large.
 #[inline(always)]
 fn take_words<'a>(
     alloc: Global,

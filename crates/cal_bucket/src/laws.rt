@@ -1,9 +1,9 @@
-//! Laws of the calendar. Each is the clause of a function that does nothing.
+//! Laws of the calendar. Each law is the clause of a function that does nothing.
 ghost use Rattle.cal_bucket.specs.Laws.{DaysHaveAWidth, EachHasAMonth, EachHasOneBucket, EachHasOneMonth, FittingRowsAreShown, FourHundredYears};
 ghost use Rattle.cal_bucket.specs.Laws.{January2000, MonthBucketsAreGreatest, MonthsFollow, MonthsStartWithFirstDates};
 ghost use Rattle.cal_bucket.specs.Laws.{ColumnsShowRows, NamesAreOfBuckets, WeeksHaveAWidth, WeeksStartOnMondays};
 
-/// Months follow one another, both ways from January 2000.
+/// Months follow one another, in both directions from January 2000.
 pub fn months_follow()
     ensures first { January2000 }
     ensures next { MonthsFollow }
@@ -30,7 +30,7 @@ pub fn each_has_one_bucket()
     ensures { EachHasOneBucket }
 {}
 
-/// The name of a bucket of some months is the greatest possible start that isn't above the time.
+/// The name of a bucket of months is its start: the greatest possible one at or below the time.
 pub fn month_buckets_are_greatest()
     ensures { MonthBucketsAreGreatest }
 {}
@@ -42,12 +42,12 @@ pub fn weeks_start_on_mondays()
     ensures mondays { WeeksStartOnMondays }
 {}
 
-/// The name that answers use for the bucket of a time names that bucket.
+/// The name that answers use for the bucket of a time is the name of that bucket.
 pub fn names_are_of_buckets()
     ensures { NamesAreOfBuckets }
 {}
 
-/// What a plan shows over the columns of rows is what it shows over the rows.
+/// A plan shows the same over the columns of rows as over the rows.
 pub fn columns_show_rows()
     ensures { ColumnsShowRows }
 {}

@@ -1,5 +1,5 @@
-//! Buckets of the calendar: the month of a time, where a month starts, and the bucket of a time in days,
-//! weeks, months or years.
+//! Buckets of the calendar: the month of a time, the start of a month, and the bucket of a time in days, weeks,
+//! months or years.
 #![tactic(auto)]
 
 mod answers;

@@ -18,7 +18,8 @@ pub fn month_of(t: i64) -> i64
     cycle * CYCLE_MONTHS + month_of_second(seconds.rem_euclid(CYCLE_SECONDS))
 }
 
-/// The second since 1970 in which a month starts: that of a time, or one at most 14,400 months below.
+/// The second since 1970 in which a month starts. The month is that of a time, or at most 14,400 months before
+/// one.
 pub fn month_start(month: i64) -> i64
     requires { IsNearMonth month }
     ensures start { result ≡ start_of month }

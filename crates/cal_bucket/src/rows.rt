@@ -1,11 +1,11 @@
-//! The times of the rows that an answer shows.
+//! The times of the rows of an answer.
 ghost use Rattle.std.specs.Prelude.{◌≡◌, IsSomeAnd, IsTrue, pos, unwrap_or};
 ghost use Rattle.ts_bucket.specs.Bucket.{is_time};
 ghost use Rattle.cal_bucket.specs.Rows.{ShowARow, row_shown};
 
 use cell_groups::RowCells;
 
-/// The time that a cell shows.
+/// The time in a cell.
 #[inline(always)]
 fn time_shown(value: Option<i128>) -> i64
     requires { IsSomeAnd value (λ n. IsTrue (is_time n)) }
@@ -18,7 +18,7 @@ fn time_shown(value: Option<i128>) -> i64
     }
 }
 
-/// The time of the row that cells show.
+/// The time of a row, from its cells.
 #[inline(always)]
 pub(crate) fn time_of(at: u32, cells: &RowCells<'_>) -> i64
     requires { ShowARow at cells.now }

@@ -1,4 +1,4 @@
-//! A grouping of a table's rows, as one of the cells that show them.
+//! A grouping of a table's rows, as a grouping of their cells.
 ghost use Rattle.std.specs.Prelude.{◌≡◌, IfOk, map};
 ghost use Rattle.cal_bucket.specs.Shapes.{agg_among, place_among, shape_of, test_among};
 
@@ -7,8 +7,8 @@ use std::alloc::Global;
 use ts_model::{Agg, Fold};
 use ts_schema::{NoMemory, Seq, Test};
 
-/// The place of a column among the cells of a row in declared order, where the time is at place `at`. Column 0
-/// is the time, the others count from 1.
+/// The place of a column among the cells of a row in declared order, if the time is at place `at`. Column 0 is
+/// the time, the others count from 1.
 fn place_among(at: u32, col: u32) -> u32
     ensures { result ≡ place_among at col }
 {

@@ -3,7 +3,7 @@ use Rattle.std.proofs.Common.{◌≡◌, ℕ, zero, suc, ◌+◌, List, [], ◌�
 use Rattle.ts_num.specs.declared.values.Datum.{Datum}
 use Rattle.ts_model.specs.Results.{cell_at}
 
--- a cell behind some
+-- a cell after some
 pub cell_behind : (cells : List Datum) (skip place : ℕ) → cell_at cells (skip + place) ≡ cell_at (drop skip cells) place
 cell_behind cells zero place = ap (cell_at cells) (let e : 0 + place ≡ place = omega arith in e)
 cell_behind [] (suc skip) place = refl

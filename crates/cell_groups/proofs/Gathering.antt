@@ -36,7 +36,7 @@ ordered-set [] at g d h e = absurd (omega (arith, h))
 ordered-set (x ∷ gs) zero g d h e = with_group-twice g x (in_group_order gs) (equal_back x g e)
 ordered-set (x ∷ gs) (suc at) g d h e = ap (with_group x) (ordered-set gs at g d (omega (arith, h)) e) ∙ with_group-commutes x g (in_group_order gs)
 
--- a group that has taken in another of its place is that other merged with it
+-- adding a group to another of the same place is merging them
 pub added_is_merged : (g old new : Group) → group_cmp old g ≡ Equal → new.start ≡ old.start → new.keys ≡ old.keys → new.parts ≡ joined_parts old.parts g.parts → new ≡ merge_of g old
 added_is_merged g old new e start keys parts =
     let place = group_cmp-place old g e in
@@ -49,9 +49,9 @@ ordered-taken g gs at old new place is start keys parts =
     let whole : new ≡ merge_of g (get_or gs at old) = added_is_merged g old new tied start keys parts ∙ ap (merge_of g) is in
     ap (λ x. in_group_order (set gs at x)) whole ∙ ordered-set gs at g old place.within (place.same old)
 
--- ---- rows one after another
+-- ---- rows in order
 
--- a group put in first may be put in last
+-- a group inserted first may be inserted last
 group_last : (g : Group) (gs hs : List Group) → with_group g (with_groups gs hs) ≡ with_groups gs (with_group g hs)
 group_last g [] hs = refl
 group_last g (x ∷ gs) hs = with_group-commutes g x (with_groups gs hs) ∙ ap (with_group x) (group_last g gs hs)
@@ -65,7 +65,7 @@ rows_step passes own cells rows groups =
 -- ---- one more row
 
 module _ (shape : Shape) (b : ℤ) (cells : List Datum) (gs : List CellGroup) where
-  -- the place of a row's group, among what is kept
+  -- the place of a row's group among the stored groups
   place_kept : (at : ℕ) (was : CellGroup) → IsRowAt shape b cells gs at → IsAt (cells_at shape b cells) (as_groups shape gs) at
   place_kept at was place = record {
     within = let many = length-map gs (as_group shape) in let inside = place.within in omega (arith, many, inside);
@@ -82,7 +82,7 @@ module _ (shape : Shape) (b : ℤ) (cells : List Datum) (gs : List CellGroup) wh
       ∙ ordered-taken (cells_at shape b cells) (as_groups shape gs) at (as_group shape was) (as_group shape now) (place_kept at was place) before start (ap (keys_at shape.keys) first)
       (parts ∙ ap (joined_parts (parts_of shape.aggs was)) (as_row shape.aggs cells))
 
-  -- the group of a row, behind the others
+  -- the group of a row, after the others
   pub ordered-new : (g : CellGroup) → as_group shape g ≡ cells_at shape b cells → in_group_order (as_groups shape (gs ++ g ∷ [])) ≡ with_group (cells_at shape b cells) (in_group_order (as_groups shape gs))
   ordered-new g is =
       ap in_group_order (map-append (as_group shape) gs (g ∷ []))
@@ -101,7 +101,7 @@ module _ (shape : Shape) (b : ℤ) (cells : List Datum) (gs : List CellGroup) wh
   pub order-new : (g : CellGroup) → as_group shape g ≡ cells_at shape b cells → ComesLast shape b cells gs → AreInOrder (as_groups shape gs) → AreInOrder (as_groups shape (gs ++ g ∷ []))
   order-new g is last up = subst AreInOrder (sym (map-append (as_group shape) gs (g ∷ []))) (order_last shape b cells gs g is last up)
 
-  -- groups of so many rows are of one row more
+  -- groups of this many rows are groups of one more row
   module _ (n : ℕ) (rows : AreOfRows n (as_groups shape gs)) (words : ShowWords cells) where
     pub few-row : (at : ℕ) (was now : CellGroup) → IsRowAt shape b cells gs at → was ≡ get_or gs at was
         → parts_of shape.aggs now ≡ joined_parts (parts_of shape.aggs was) (as_parts shape.aggs (row_tallies shape.aggs cells)) → AreOfRows (n + 1) (as_groups shape (set gs at now))
@@ -135,7 +135,7 @@ alone_is shape b cells g start first none =
     ∙ ap (made b (keys_at shape.keys g.first)) parts
     ∙ ap (λ cs. made b (keys_at shape.keys cs) (row_needs shape.aggs cs)) first
 
--- no groups are gathered, of no rows
+-- without rows there are no groups
 pub none_gathered : (shape : Shape) (gathered : CellGroups) → gathered.groups.items ≡ [] → AreGathered shape gathered
 none_gathered shape gathered none = record {
   tallies = subst (HaveTallies shape.aggs) (sym none) tt;

@@ -1,4 +1,4 @@
--- Tallies hold what is needed of a column, and what is needed is as good as the whole for what is shown.
+-- Tallies store the part of a summary that a function needs, and that part determines what is shown.
 use Rattle.std.proofs.Common.{◌≡◌, ℕ, zero, suc, ◌+◌, ◌<◌, List, [], ◌∷◌, ◌++◌, map, length, get_or, set, take, drop, Option, Some, None, unwrap_or, ℤ, pos, ◌+ℤ◌, sym, refl, ap, ◌∙◌, arith}
 use Rattle.std.specs.Prelude.{IfSome}
 use Rattle.std.proofs.lemmas.Int.{ints}
@@ -33,7 +33,7 @@ needed_joined Min p q = refl
 needed_joined Max p q = refl
 needed_joined Avg p q = refl
 
--- the tally of one cell has what is needed of it
+-- the tally of one cell has the needed part
 as_sum : (v : Option ℤ) → as_part Sum (cell_tally Sum v) ≡ needed_summary Sum (summary (v ∷ []))
 as_sum None = refl
 as_sum (Some v) = let e : v ≡ v +ℤ pos 0 = omega (arith, ints) in ap (sum_part 1) e
@@ -48,7 +48,7 @@ as_cell Max None = refl
 as_cell Max (Some v) = refl
 as_cell Avg v = as_sum v
 
--- what is needed is all that is shown
+-- the needed part determines what is shown
 shown_needed : (fun : Fun) (p : Summary) → datum_of fun (needed_summary fun p) ≡ datum_of fun p
 shown_needed CountAll p = refl
 shown_needed Count p = refl
@@ -114,7 +114,7 @@ as_parts-set (x ∷ aggs) [] i a t h e = absurd (omega (arith, e))
 as_parts-set (x ∷ aggs) (y ∷ ts) zero a t h e = refl
 as_parts-set (x ∷ aggs) (y ∷ ts) (suc i) a t h e = ap (λ ps. as_part x.fun y ∷ ps) (as_parts-set aggs ts i a t (omega (arith, h)) (omega (arith, e)))
 
--- the tallies of one column more are merged
+-- the tallies of one more column are merged
 pub tallies_step : (aggs : List Agg) (mine theirs now next : List Tally) (i : ℕ) (a : Agg) (none old new : Tally) → length mine ≡ length aggs → length theirs ≡ length aggs → length now ≡ length aggs
     → as_parts aggs now ≡ take i (joined_parts (as_parts aggs mine) (as_parts aggs theirs)) ++ drop i (as_parts aggs mine) → i < length aggs → old ≡ get_or now i old
     → as_part (get_or aggs i a).fun new ≡ summary_of_both (as_part (get_or aggs i a).fun old) (as_part (get_or aggs i a).fun (get_or theirs i none)) → next ≡ set now i new
@@ -154,7 +154,7 @@ pub shown_row : (aggs : List Agg) (cells : List Datum) → map (cell_shown cells
 shown_row [] cells = refl
 shown_row (a ∷ aggs) cells = ap (λ ds. cell_shown cells a ∷ ds) (shown_row aggs cells)
 
--- what a group adds up to has a tally for each column
+-- the totals of a group have a tally for each column
 pub tallies_fit : (aggs : List Agg) (g : CellGroup) → HasTallies aggs g → length (tallies_of aggs g) ≡ length aggs
 tallies_fit aggs g h =
     elim g.tallies as (λ o. IfSome o (λ ts. length ts ≡ length aggs) → length (unwrap_or o (row_tallies aggs g.first)) ≡ length aggs) [
@@ -201,7 +201,7 @@ tallies_are (a ∷ aggs) (t ∷ ts) =
     ap (λ d. d ∷ tallies_shown aggs ts) (shown_tally a.fun t)
     ∙ ap (λ ds. datum_of a.fun (as_part a.fun t) ∷ ds) (tallies_are aggs ts)
 
--- what is needed of groups shows what the groups show
+-- the needed parts of groups show what the groups show
 pub needed_shown : (shape : Shape) (gs : List Group) → rows_shown shape (map (needed_group shape.aggs) gs) ≡ rows_shown shape gs
 needed_shown shape [] = refl
 needed_shown shape (g ∷ gs) =
@@ -209,7 +209,7 @@ needed_shown shape (g ∷ gs) =
     ap (λ ds. row ds ∷ rows_shown shape (map (needed_group shape.aggs) gs)) (parts_shown shape.aggs g.parts)
     ∙ ap (λ rows. row_shown shape g ∷ rows) (needed_shown shape gs)
 
--- what is kept of groups shows what is needed of them
+-- the stored groups show what the needed parts show
 pub kept_shown : (shape : Shape) (gs : List CellGroup) → map (group_shown shape) gs ≡ rows_shown shape (as_groups shape gs)
 kept_shown shape [] = refl
 kept_shown shape (g ∷ gs) =

@@ -1,4 +1,4 @@
--- Counts and sums of groups of so many rows can be kept.
+-- Counts and sums of groups of this many rows can be kept.
 use Rattle.std.proofs.Common.{◌≡◌, ℕ, zero, suc, ◌+◌, ◌*◌, ◌<◌, ◌≤◌, ◌^◌, List, [], ◌∷◌, ◌++◌, map, length, get_or, set, take, drop, Option, Some, None, ℤ, pos, negsuc, sym, refl, ap, ◌∙◌, subst, arith}
 use Rattle.std.specs.Prelude.{◌≤ℤ◌, neg_ℤ, int_le, FitsSigned}
 use Rattle.std.specs.Int.{w128}
@@ -62,7 +62,7 @@ all_kept n (p ∷ ps) few most words = (
   all_kept n ps few (omega (arith, most)) words.1,
 )
 
--- where all parts can be kept so can each
+-- if all parts can be kept, so can each
 kept_at : (ps qs : List Summary) (k : ℕ) (d e : Summary) → k < length ps → length ps ≡ length qs → AllByRecursion CanBeKept (joined_parts ps qs) → CanBeKept (summary_of_both (get_or ps k d) (get_or qs k e))
 kept_at [] qs k d e h same all = absurd (omega (arith, h))
 kept_at (p ∷ ps) [] k d e h same all = absurd (omega (arith, same))
@@ -202,7 +202,7 @@ words-with_group g (x ∷ hs) p h =
     (λ e. rw e (all_words_joined g.parts x.parts p h.0, h.1))
     (λ e. rw e (h.0, words-with_group g hs p h.1))
 
--- the last of what is left goes to what is merged
+-- the last group left is merged
 pub rows_merged : (n : ℕ) (rest : List Group) (g : Group) (hs : List Group) → AreOfRows n ((rest ++ g ∷ []) ++ hs) → AreOfRows n (rest ++ with_group g hs)
 rows_merged n [] g hs rows = record {
   few = omega (arith, taken_by-with_group g hs, more_taken g hs, rows.few);
@@ -215,14 +215,14 @@ rows_merged n (x ∷ rest) g hs rows =
     let after = more_taken x (rest ++ with_group g hs) in
     record { few = omega (arith, next.few, before, after, rows.few); words = (rows.words.0, next.words) }
 
--- what stands behind
+-- the groups after it
 pub rows_behind : (n : ℕ) (rest : List Group) (g : Group) (hs : List Group) → AreOfRows n ((rest ++ g ∷ []) ++ hs) → AreOfRows n (g ∷ hs)
 rows_behind n [] g hs rows = rows
 rows_behind n (x ∷ rest) g hs rows =
     let later : AreOfRows n ((rest ++ g ∷ []) ++ hs) = record { few = omega (arith, more_taken x ((rest ++ g ∷ []) ++ hs), rows.few); words = rows.words.1 } in
     rows_behind n rest g hs later
 
--- in another order they are of as many rows
+-- in another order they are of equally many rows
 abbrev add_taken : Group → ℕ → ℕ
 add_taken g n = taken_by g.parts + n
 

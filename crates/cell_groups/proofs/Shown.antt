@@ -1,4 +1,4 @@
--- The groups of rows of cells show what is needed of the groups of the rows that the cells represent.
+-- The groups of rows of cells show the needed parts of the groups of the rows that the cells represent.
 use Rattle.std.proofs.Common.{◌≡◌, List, [], ◌∷◌, ◌++◌, map, Bool, cond, sym, refl, ap, ◌∙◌}
 use Rattle.std.specs.List.{AllByRecursion}
 use Rattle.ts_num.specs.Aggregates.{shown_or_null}
@@ -24,12 +24,13 @@ use Rattle.cell_groups.specs.Groups.{needed_group, rows_shown}
 use Rattle.cell_groups.specs.TakenRows.{taken_in, with_rows}
 use Rattle.cell_groups.proofs.KeptSummaries.{needed_shown, needed_with_group}
 
--- cells represent a row of a fold: they pass the tests if it does, and they give what is needed of its group
+-- cells represent a row of a fold: they pass the tests if the row does, and they have the needed parts of its
+-- group
 pub record StandFor (fold : Fold) (aggs : List Agg) (passes : List Datum → Bool) (own : List Datum → Group) (row : List Datum → Row) (cells : List Datum) : Type 0 where
   pub tests : passes cells ≡ passes_all (row cells) fold.tests
   pub group : own cells ≡ needed_group aggs (row_group fold (row cells))
 
--- functions one after the other
+-- functions in order
 funs_of : List Agg → List Fun
 funs_of aggs = map (λ a. a.fun) aggs
 
@@ -54,7 +55,7 @@ module _ (fold : Fold) (shape : Shape) (wide : IsWidth fold.width) (passes : Lis
       more cells rows ∙ ap (taken_in passes own cells) (gathered_are rows h.1) ∙ taken_is cells (groups_of fold (map row rows)) h.0
       ∙ ap (map (needed_group shape.aggs)) (sym (groups_of-more fold wide (row cells) (map row rows)))
 
--- what is shown rests on the functions alone
+-- what is shown depends only on the functions
 shown_alike : (aggs others : List Agg) → map (λ a. a.fun) aggs ≡ map (λ a. a.fun) others → (ps : List Summary) → shown_each aggs ps ≡ shown_each others ps
 shown_alike [] [] e ps = refl
 shown_alike [] (b ∷ others) e ps = absurd (cc e)
@@ -71,7 +72,7 @@ rows_alike fold shape e (g ∷ gs) =
     let made : List Datum → List Datum = λ ds. Int g.start ∷ (map shown_or_null g.keys ++ ds) in
     ap (λ ds. made ds ∷ rows_shown shape gs) (shown_alike shape.aggs fold.aggs e g.parts) ∙ ap (λ rows. cells_of fold g ∷ rows) (rows_alike fold shape e gs)
 
--- so what is gathered shows the aggregation from scratch of those rows
+-- so the groups gathered show the aggregation from scratch of those rows
 pub gathered_show : (fold : Fold) (shape : Shape) (wide : IsWidth fold.width) (passes : List Datum → Bool) (own : List Datum → Group) (row : List Datum → Row) (rows : List (List Datum))
     → map (λ a. a.fun) shape.aggs ≡ map (λ a. a.fun) fold.aggs → AllByRecursion (StandFor fold shape.aggs passes own row) rows → rows_shown shape (with_rows passes own rows []) ≡ fold_rows fold (map row rows)
 gathered_show fold shape wide passes own row rows e h =

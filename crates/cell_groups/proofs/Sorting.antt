@@ -24,11 +24,11 @@ use Rattle.cell_groups.specs.TakenRows.{ComesLast, IsNotAfter, place_cmp}
 
 -- ---- sorted groups
 
--- none of these stands after a group
+-- none of these is after a group
 abbrev pub NoneAfter : Group → List Group → Type 0
 NoneAfter g xs = AllByRecursion (λ x. is_gt (group_cmp x g) ≡ false) xs
 
--- no group stands after a later one
+-- no group is after a later one
 abbrev pub Ascend : List Group → Type 0
 Ascend [] = ⊤
 Ascend (x ∷ xs) = AllByRecursion (λ y. is_gt (group_cmp x y) ≡ false) xs × Ascend xs
@@ -71,7 +71,8 @@ pub groups_last : (gs : List Group) (g : Group) (hs : List Group) → with_group
 groups_last [] g hs = refl
 groups_last (x ∷ gs) g hs = ap (with_group x) (groups_last gs g hs)
 
--- a group at or before another, and at or before the first of a list, stays so when the other is put into the list
+-- a group at or before another, and at or before the first of a list, stays so when the other is inserted into
+-- the list
 not_after_put : (x g : Group) (hs : List Group) → is_gt (group_cmp x g) ≡ false → IsNotAfter g hs → IsNotAfter x (with_group g hs)
 not_after_put x g [] p h = p
 not_after_put x g (y ∷ hs) p h =
@@ -84,7 +85,7 @@ all_put : (xs : List Group) (g : Group) (hs : List Group) → NoneAfter g xs →
 all_put [] g hs p h = tt
 all_put (x ∷ xs) g hs p h = (not_after_put x g hs p.0 h, all_put xs g hs p.1 h)
 
--- the next from the back: what is left ascends, and none of it stands after the first of what is merged
+-- the next group from the back: the groups left ascend, and none is after the first merged one
 pub record IsMerging (groups left merge_of : List Group) : Type 0 where
   pub onto : with_groups left merge_of ≡ in_group_order groups
   pub ascends : Ascend left
@@ -112,7 +113,7 @@ merging_step groups left merge_of rest next g m is made =
 
 -- ---- what is kept of groups
 
--- what is kept of sorted groups is sorted
+-- the stored form of sorted groups is sorted
 pub sorted_kept : (shape : Shape) (gs : List CellGroup) → IsSorted (place_cmp shape) gs → IsSorted group_cmp (as_groups shape gs)
 sorted_kept shape [] up = λ k d low h. absurd (omega (arith, h))
 sorted_kept shape (g ∷ gs) up = λ k d low h.
@@ -123,7 +124,7 @@ sorted_kept shape (g ∷ gs) up = λ k d low h.
     ∙ ap (λ y. is_lt (group_cmp (as_group shape (get_or (g ∷ gs) (k + 1) g)) y)) earlier
     ∙ up k g low (omega (arith, h, many))
 
--- ---- lists of which a fact holds throughout
+-- ---- lists with a property of each item
 
 pub all_push : {X : Type 0} (P : X → Type 0) (xs : List X) (y : X) → AllByRecursion P xs → P y → AllByRecursion P (xs ++ y ∷ [])
 all_push P [] y h p = (p, tt)
@@ -139,7 +140,7 @@ all_permuted P xs ys p h = recursion_from_All P ys (All-permutation P xs ys p (A
 
 -- ---- groups in order
 
--- what has the bucket and keys of a group stands where that stands
+-- a group with the same bucket and keys as another compares like it
 before_alike : (x y g : Group) → x.start ≡ y.start → x.keys ≡ y.keys → group_cmp x g ≡ group_cmp y g
 before_alike x y g start keys =
     ap (λ s. ordering_then (int_cmp s g.start) (values_cmp x.keys g.keys)) start
@@ -150,7 +151,7 @@ behind_alike g x y start keys =
     ap (λ s. ordering_then (int_cmp g.start s) (values_cmp g.keys x.keys)) start
     ∙ ap (λ ks. ordering_then (int_cmp g.start y.start) (values_cmp g.keys ks)) keys
 
--- so in its place the order stays
+-- so the order stays when it replaces the other
 pub order_set : (gs : List Group) (at : ℕ) (new d : Group) → at < length gs → new.start ≡ (get_or gs at d).start → new.keys ≡ (get_or gs at d).keys → AreInOrder gs → AreInOrder (set gs at new)
 unfolding IsStrictlySortedBy
 order_set [] at new d h start keys up = absurd (omega (arith, h))
@@ -161,7 +162,7 @@ order_set (x ∷ gs) (suc at) new d h start keys up = (
   order_set gs at new d (omega (arith, h)) start keys up.1,
 )
 
--- and behind the last
+-- and when it comes after the last
 order_push : (gs : List Group) (last : ℕ) (g d : Group) → length gs ≡ suc last → group_cmp (get_or gs last d) g ≡ Less → AreInOrder gs → AreInOrder (gs ++ g ∷ [])
 unfolding IsStrictlySortedBy
 order_push [] last g d e before up = absurd (omega (arith, e))

@@ -1,4 +1,4 @@
--- Groups that come in order: one more behind the last, or a row more in it.
+-- Groups in order: one more after the last, or one more row in the last.
 use Rattle.std.proofs.Common.{◌≡◌, ◌∙◌, ℕ, ℤ, List, [], ◌∷◌, ◌++◌, map, Option, Some, None, append-nil, refl, sym, ap, subst, arith}
 use Rattle.std.specs.Option.{option_to_list}
 use Rattle.std.specs.List.Sorted.{IsStrictlySortedBy}
@@ -23,7 +23,7 @@ use Rattle.cell_groups.proofs.Sorting.{all_last}
 
 -- ---- groups in order
 
--- a group behind the last
+-- a group after the last
 behind_last : (front : List Group) (h g : Group) → AreInOrder (front ++ h ∷ []) → group_cmp h g ≡ Less → with_group g (front ++ h ∷ []) ≡ (front ++ h ∷ []) ++ g ∷ []
 unfolding IsStrictlySortedBy
 behind_last [] h g up less = at_greater g h [] (less_back h g less)
@@ -31,7 +31,7 @@ behind_last (x ∷ front) h g up less =
     let before : group_cmp x g ≡ Less = less_trans x h g (all_last (λ y. group_cmp x y ≡ Less) front h up.0).1 less in
     at_greater g x (front ++ h ∷ []) (less_back x g before) ∙ ap (λ zs. x ∷ zs) (behind_last front h g up.1 less)
 
--- one of the place of the last
+-- a group with the place of the last one
 into_last : (front : List Group) (h g : Group) → AreInOrder (front ++ h ∷ []) → group_cmp h g ≡ Equal → with_group g (front ++ h ∷ []) ≡ front ++ merge_of g h ∷ []
 unfolding IsStrictlySortedBy
 into_last [] h g up same = at_equal g h [] (equal_back h g same)
@@ -59,9 +59,9 @@ all_written shape groups rows whole None put w =
     put ∙ append-nil rows ∙ w.shown ∙ ap (rows_shown shape) w.all.0 ∙ ap (rows_shown shape) (sym w.all.1)
 all_written shape groups rows whole (Some g) put w = put ∙ shown_more shape w.ended g rows w.shown ∙ ap (rows_shown shape) (sym w.all)
 
--- ---- where the rows stand
+-- ---- where the rows are
 
--- with no place where a row ends there is none
+-- without ends there are no rows
 pub no_rows : (ends : List ℕ) (cells : List Datum) → ends ≡ [] → parts 0 ends cells ≡ []
 no_rows ends cells none = ap (λ es. parts 0 es cells) none
 
@@ -72,7 +72,7 @@ pub same_rows : (ends ends' : List ℕ) (cells cells' : List Datum) → cells �
 same_rows ends ends' cells cells' same alike = ap (λ es. parts 0 es cells) alike ∙ ap (parts 0 ends') same
 
 module _ (shape : Shape) (b : ℤ) (cells : List Datum) (groups : List Group) (rows : List (List Datum)) where
-  -- the group of a row behind the last
+  -- the group of a row after the last
   pub next_written : (more : List (List Datum)) (last : Option CellGroup) (next : CellGroup) → as_group shape next ≡ cells_at shape b cells → last_cmp shape last b cells ≡ Less
       → more ≡ rows ++ map (group_shown shape) (option_to_list last) → AreWritten shape groups rows last
       → AreWritten shape (with_group (cells_at shape b cells) groups) more (Some next)

@@ -1,4 +1,4 @@
--- What is kept of a column of cells: what the function that is to be shown needs.
+-- The stored part of a summary of a column of cells: the part that the function shown needs.
 use Rattle.std.specs.Prelude.{ℕ, zero, suc, List, [], ◌∷◌, map, Option, Some, None, ℤ, pos}
 use Rattle.ts_num.specs.declared.values.Datum.{Datum}
 use Rattle.ts_num.specs.declared.values.Datum.TheVariants.{Int}
@@ -11,23 +11,23 @@ use Rattle.ts_model.specs.Results.{cell_at}
 
 -- ---- one column
 
--- what the number of rows needs of a summary
+-- the part of a summary that the number of rows needs
 abbrev pub count_part : ℕ → Summary
 count_part count = record { count = count; values = 0; sum = pos 0; least = None; most = None }
 
--- what a sum does
+-- that of a sum
 abbrev pub sum_part : ℕ → ℤ → Summary
 sum_part values sum = record { count = 0; values = values; sum = sum; least = None; most = None }
 
--- what a least number does
+-- that of a least number
 abbrev pub least_part : ℕ → Option ℤ → Summary
 least_part values least = record { count = 0; values = values; sum = pos 0; least = least; most = None }
 
--- what a greatest number does
+-- that of a greatest number
 abbrev pub most_part : ℕ → Option ℤ → Summary
 most_part values most = record { count = 0; values = values; sum = pos 0; least = None; most = most }
 
--- what a function needs of a summary
+-- the part of a summary that a function needs
 abbrev pub needed_summary : Fun → Summary → Summary
 needed_summary CountAll s = count_part s.count
 needed_summary Count s = sum_part s.values s.sum
@@ -36,12 +36,12 @@ needed_summary Min s = least_part s.values s.least
 needed_summary Max s = most_part s.values s.most
 needed_summary Avg s = sum_part s.values s.sum
 
--- the least or the greatest of so many numbers
+-- the least or the greatest of this many numbers
 abbrev pub bound_of : ℕ → ℤ → Option ℤ
 bound_of zero number = None
 bound_of (suc n) number = Some number
 
--- what a tally says of its column
+-- the summary of a column that a tally represents
 abbrev pub as_part : Fun → Tally → Summary
 as_part CountAll t = count_part t.values
 as_part Count t = sum_part t.values t.number
@@ -100,6 +100,6 @@ tallies_shown (a ∷ aggs) (t ∷ ts) = tally_shown a.fun t ∷ tallies_shown ag
 abbrev pub row_tallies : List Agg → List Datum → List Tally
 row_tallies aggs cells = map (λ a. cell_tally a.fun (cell_at cells a.col)) aggs
 
--- what is needed of one row
+-- the needed parts of one row
 abbrev pub row_needs : List Agg → List Datum → List Summary
 row_needs aggs cells = map (λ a. needed_summary a.fun (summary (cell_at cells a.col ∷ []))) aggs

@@ -1,4 +1,4 @@
--- Result rows of groups that come in order, each written as its group ends.
+-- Result rows of groups in order, each written when its group ends.
 use Rattle.std.specs.Prelude.{◌≡◌, ⊤, ℤ, List, [], ◌∷◌, ◌++◌, Option, Some, None}
 use Rattle.cell_rows.specs.Parts.{AreParts, parts}
 use Rattle.std.specs.declared.cmp.Ordering.{Ordering}
@@ -15,7 +15,7 @@ use Rattle.cell_groups.specs.Groups.{as_group, parts_of, rows_shown}
 use Rattle.cell_groups.specs.KeptSummaries.{as_parts, row_tallies}
 use Rattle.cell_groups.specs.TakenRows.{row_cmp}
 
--- the result rows that have been written, whose cells are in one list, row after row
+-- the result rows written so far, whose cells are in one list
 abbrev pub rows_written : WrittenGroups → List (List Datum)
 rows_written w = parts 0 w.ends.items w.cells.items
 
@@ -28,25 +28,25 @@ abbrev pub EndWith : Shape → List Group → Option CellGroup → List Group �
 EndWith shape ended None groups = (ended ≡ []) × (groups ≡ [])
 EndWith shape ended (Some g) groups = groups ≡ ended ++ as_group shape g ∷ []
 
--- groups in order, of which all but the last have been written
+-- groups in order, all of which except the last have been written
 pub record AreWritten (shape : Shape) (groups : List Group) (rows : List (List Datum)) (last : Option CellGroup) : Type 0 where
   pub ended : List Group
   pub all : EndWith shape ended last groups
   pub shown : rows ≡ rows_shown shape ended
   pub order : AreInOrder groups
 
--- the last group, if there is one, beside that of a row: none comes before it
+-- the last group, if there is one, compared with that of a row: no group counts as before it
 abbrev pub last_cmp : Shape → Option CellGroup → ℤ → List Datum → Ordering
 last_cmp shape None b cells = Less
 last_cmp shape (Some g) b cells = row_cmp shape g b cells
 
--- a group has taken in a row
+-- a row was added to a group
 pub record HasTaken (aggs : List Agg) (cells : List Datum) (old new : CellGroup) : Type 0 where
   pub start : new.start ≡ old.start
   pub first : new.first ≡ old.first
   pub parts : parts_of aggs new ≡ joined_parts (parts_of aggs old) (as_parts aggs (row_tallies aggs cells))
 
--- the last group has, if there is one
+-- a row was added to the last group, if there is one
 abbrev pub TakesRow : List Agg → List Datum → Option CellGroup → Option CellGroup → Type 0
 TakesRow aggs cells None new = ⊤
 TakesRow aggs cells (Some old) None = ⊥

@@ -27,7 +27,7 @@ impl<'a> Model for RowCells<'a> {
 }
 
 impl<'a> RowCells<'a> {
-    /// The cells of a row but its first `skip`.
+    /// The cells of a row except its first `skip`.
     #[inline(always)]
     pub fn of(row: ResultRow<'a>, skip: u32) -> RowCells<'a>
         ensures cells { result ≡ drop skip (row_cells row.entry) }
@@ -35,8 +35,8 @@ impl<'a> RowCells<'a> {
         RowCells { row, skip }
     }
 
-    /// The value of the cell at a place: the whole number that it shows, and none for NULL, for a mean and
-    /// where there is no cell.
+    /// The value of the cell at a place: the whole number that it shows. `None` for NULL, for a mean and for a
+    /// missing cell.
     #[inline(always)]
     #[tactic(auto, using(crate::proofs::CellLaws::cell_behind))]
     pub fn value_at(&self, place: u32) -> Option<i128>

@@ -22,15 +22,14 @@ use ts_schema::NoMemory;
 pub(crate) enum GroupSlot {
     /// At this place.
     At(usize),
-    /// Nowhere: it comes after all others, which are in order.
+    /// It isn't there, and it comes after all others, which are in order.
     End,
     /// It wasn't found.
     Unknown,
 }
 
-/// Groups while rows are added, in order as long as each new one comes after all others. `last`, `expected`
-/// and `places` only make it fast: each place that they give is checked before it is used, and a group may
-/// occur twice.
+/// Groups while rows are added, in order while each new one comes after all others. `last`, `expected` and
+/// `places` only make it fast: each place in them is checked before it is used, and a group may occur twice.
 #[derive(Drop)]
 pub struct CellGroups<'a> {
     /// The groups so far.
@@ -41,12 +40,12 @@ pub struct CellGroups<'a> {
     last: usize,
     /// The expected place of the group of the next row: as far from `last` as `last` is from the one before.
     expected: usize,
-    /// Where a group may be, by the hash of its bucket and keys.
+    /// The place at which a group may be, by the hash of its bucket and keys.
     places: HashMap<u64, usize>,
 }
 
 impl<'a> CellGroups<'a> {
-    /// No group.
+    /// No groups.
     pub fn new(alloc: Global) -> CellGroups<'a>
         ensures none { result.groups.items ≡ [] }
     {
@@ -60,8 +59,8 @@ impl<'a> CellGroups<'a> {
     }
 
     /// Adds a row to the group of its keys in the bucket that starts at `start`, or as a new group. For fewer
-    /// than `2^64` rows of 64-bit numbers no count and no sum is too great. After an error nothing is known
-    /// of the groups.
+    /// than `2^64` rows of 64-bit numbers no count and no sum is too large. After an error the groups are
+    /// undefined.
     pub fn take(
         &mut self,
         alloc: Global,
@@ -86,8 +85,8 @@ impl<'a> CellGroups<'a> {
         }
     }
 
-    /// Where the group of a row stands. It is looked for first where it is expected: in each bucket the same
-    /// keys come up, mostly in the same order.
+    /// Finds the group of a row. Tries the expected place first: the same keys occur in each bucket, mostly in
+    /// the same order.
     #[inline(always)]
     fn find(&self, shape: &Shape, start: i128, cells: &RowCells<'_>) -> GroupSlot
         ensures { IsPlace shape.now start cells.now self.now.groups.items result }
@@ -98,8 +97,7 @@ impl<'a> CellGroups<'a> {
         }
     }
 
-    /// The same where it isn't the one that was expected. That of the row before and the one behind it are looked
-    /// at next.
+    /// The same if it isn't the expected group. Tries the group of the row before and the one after it next.
     fn find_near(&self, shape: &Shape, start: i128, cells: &RowCells<'_>) -> GroupSlot
         ensures { IsPlace shape.now start cells.now self.now.groups.items result }
     {
@@ -110,7 +108,7 @@ impl<'a> CellGroups<'a> {
         }
     }
 
-    /// The same of a row that comes after the group of the row before.
+    /// The same for a row that comes after the group of the row before.
     fn find_after(&self, shape: &Shape, start: i128, cells: &RowCells<'_>) -> GroupSlot
         requires { IsAfter shape.now start cells.now self.now.groups.items self.now.last }
         ensures { IsPlace shape.now start cells.now self.now.groups.items result }
@@ -127,7 +125,7 @@ impl<'a> CellGroups<'a> {
         }
     }
 
-    /// The same where neither that group nor the one behind it is the row's.
+    /// The same if neither that group nor the next one is the row's.
     fn find_away(&self, shape: &Shape, start: i128, cells: &RowCells<'_>) -> GroupSlot
         ensures { IsPlace shape.now start cells.now self.now.groups.items result }
     {
@@ -172,7 +170,7 @@ impl<'a> CellGroups<'a> {
         self.put_last(group)
     }
 
-    /// Stores the places of the groups, which aren't in order from here on.
+    /// Stores the places of the groups, which are no longer in order.
     fn note_places(&mut self, shape: &Shape) -> Result<(), NoMemory>
         ensures groups { self.new.groups.items ≡ self.old.groups.items }
         ensures order { self.new.in_order ≡ false }

@@ -19,9 +19,9 @@ use ts_schema::{NoMemory, Seq};
 pub struct CellGroup<'a> {
     /// The start of its bucket.
     pub start: i128,
-    /// The cells of its first row that count.
+    /// The cells of its first row that are grouped or aggregated.
     pub first: RowCells<'a>,
-    /// What its columns add up to, from the second row on.
+    /// The tallies of its columns, from the second row on.
     pub tallies: Option<Seq<Tally>>,
 }
 
@@ -49,7 +49,7 @@ fn tallies_of_row(alloc: Global, aggs: &[Agg], cells: &RowCells<'_>) -> Result<S
     Ok(Seq::of(tallies))
 }
 
-/// Takes the tallies out of a group, of which its first row stays.
+/// Removes and returns the tallies of a group, which keeps its first row.
 fn take_tallies(
     alloc: Global,
     aggs: &[Agg],
@@ -66,7 +66,7 @@ fn take_tallies(
     }
 }
 
-/// Takes a row into a group.
+/// Adds a row to a group.
 pub(crate) fn take_row(
     alloc: Global,
     aggs: &[Agg],
@@ -89,7 +89,7 @@ pub(crate) fn take_row(
     Ok(())
 }
 
-/// Takes the rows of another group into a group.
+/// Adds the rows of another group to a group.
 pub(crate) fn take_group(
     alloc: Global,
     aggs: &[Agg],

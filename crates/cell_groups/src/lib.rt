@@ -1,15 +1,15 @@
-//! Groups of rows of an answer, taken straight from the rows' cells.
+//! Groups of rows of an answer, computed from the rows' cells.
 //!
 //! - `shapes`: which cells of a row group it, and which are aggregated.
 //! - `cells`: the cells of a row, read as values.
-//! - `tallies`: what the cells of a column add up to.
+//! - `tallies`: totals of the cells of a column.
 //! - `groups`: one group.
-//! - `group_lookup`: the groups of rows as they are taken in.
+//! - `group_lookup`: the groups of rows as they are added.
 //! - `orders`: groups put in order.
-//! - `prints`: numbers by which groups are found.
-//! - `results`: what groups show.
-//! - `written`: result rows of groups that come in order, each written as its group ends.
-//! - `stops`: why rows can't be taken in or shown.
+//! - `prints`: hashes by which groups are found.
+//! - `results`: the result rows of groups.
+//! - `written`: result rows of groups in order, each written when its group ends.
+//! - `stops`: why rows can't be added or shown.
 #![tactic(auto)]
 
 mod cells;

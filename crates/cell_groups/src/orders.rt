@@ -17,8 +17,8 @@ use std::alloc::Global;
 use std::cmp::Ordering;
 use std::collections::VecDeque;
 
-/// How a group compares with that of a row in the bucket that starts at `start`: by bucket, and then by keys,
-/// where NULL is greater than every number.
+/// Compares a group with that of a row in the bucket that starts at `start`: by bucket, and then by keys, with
+/// NULL greater than every number.
 #[inline(always)]
 pub(crate) fn order_beside(
     shape: &Shape,
@@ -70,7 +70,7 @@ fn order_of(shape: &Shape, a: &CellGroup<'_>, b: &CellGroup<'_>) -> Ordering
     order_beside(shape, a, b.start, &b.first)
 }
 
-/// Groups in order by bucket and keys, where those of the same bucket and keys are merged.
+/// Groups in order by bucket and keys; those of the same bucket and keys are merged.
 pub(crate) fn in_order<'a>(
     alloc: Global,
     shape: &Shape,
@@ -86,7 +86,7 @@ pub(crate) fn in_order<'a>(
     sort_groups(alloc, shape, gathered.groups)
 }
 
-/// The same groups in order, however they stand.
+/// The same groups in order, given in any order.
 fn sort_groups<'a>(
     alloc: Global,
     shape: &Shape,
@@ -101,7 +101,7 @@ fn sort_groups<'a>(
     Ok(Vec::from(merge_neighbours(alloc, shape, sorted)?))
 }
 
-/// The same of groups none of which stands before the one ahead of it.
+/// The same for groups none of which is before the one ahead of it.
 fn merge_neighbours<'a>(
     alloc: Global,
     shape: &Shape,
@@ -120,7 +120,7 @@ fn merge_neighbours<'a>(
     Ok(merged)
 }
 
-/// Puts a group before others in order, or into the first of them where that has its bucket and keys.
+/// Inserts a group before others in order, or merges it with the first of them if that has its bucket and keys.
 fn put_first<'a>(
     alloc: Global,
     shape: &Shape,

@@ -1,4 +1,4 @@
-//! Hashes: numbers that rows of the same bucket and keys share, and others seldom do.
+//! Hashes: rows of the same bucket and keys have the same one, and others seldom do.
 
 use crate::cells::RowCells;
 

@@ -1,4 +1,4 @@
-//! What groups show.
+//! The result rows of groups.
 ghost use Rattle.std.specs.Prelude.{◌≡◌, ◌++◌, ◌∷◌, ◌<◌, ◌^◌, ℕ, [], map, IfOk, IsOkUnless, OnOk};
 ghost use Rattle.cell_rows.specs.Parts.{AreParts, parts};
 ghost use Rattle.ts_num.specs.Aggregates.{shown_or_null};
@@ -36,7 +36,7 @@ pub fn rows_of(
     Ok(shown_rows(alloc, shape, groups.as_slice())?)
 }
 
-/// What groups show, row by row.
+/// The result rows of these groups, in the same order.
 fn shown_rows(
     alloc: Global,
     shape: &Shape,
@@ -54,14 +54,14 @@ fn shown_rows(
     Ok(CellRows::of(cells, ends))
 }
 
-/// How many cells a result row has.
+/// The number of cells of a result row.
 pub(crate) fn width_of(shape: &Shape) -> usize {
     1usize
         .saturating_add(shape.keys.len())
         .saturating_add(shape.aggs.len())
 }
 
-/// Appends the result row of a group where it stays: its cells, and the place where they end.
+/// Appends the result row of a group if the answer keeps it: its cells, and the place at which they end.
 #[inline]
 pub(crate) fn put_group(
     shape: &Shape,
@@ -98,7 +98,7 @@ fn put_keys(keys: &[u32], row: &RowCells<'_>, cells: &mut Vec<Datum>) -> Result<
     Ok(())
 }
 
-/// A number, or NULL where it is missing.
+/// A number, or NULL if it is missing.
 #[inline]
 fn number_or_null(value: Option<i128>) -> Datum
     ensures { result ≡ shown_or_null value }

@@ -1,11 +1,11 @@
-//! Why rows can't be taken in or shown.
+//! Why rows can't be added or shown.
 use std::alloc::{AllocError, AllocFailed};
 use ts_schema::NoMemory;
 
-/// Why rows can't be taken in or shown.
+/// Why rows can't be added or shown.
 #[derive(Clone, Copy, Debug, PartialEq, Eq)]
 pub enum Stop {
-    /// There was no memory.
+    /// It ran out of memory.
     NoMemory,
     /// A count takes more than 64 bits, or a sum more than 128.
     TooGreat,

@@ -1,4 +1,4 @@
-//! What the cells of a column add up to.
+//! Totals of the cells of a column.
 ghost use Rattle.std.specs.Prelude.{◌≡◌, ◌+◌, ◌<◌, pos, IfSome, IsOk, IsSome, OnOk, length, unwrap_or};
 ghost use Rattle.std.specs.List.{AllByRecursion};
 ghost use Rattle.ts_num.specs.Aggregates.{greater, lesser};
@@ -14,12 +14,12 @@ use ts_model::Agg;
 use ts_num::{Datum, Fun, lowest};
 use ts_schema::Seq;
 
-/// What the cells of a column add up to. How they add up rests on the function that is to be shown.
+/// The total of the cells of a column. What it counts depends on the function that is shown.
 #[derive(Clone, Copy, Debug)]
 pub struct Tally {
-    /// The number of cells that aren't NULL, or of all where rows are counted.
+    /// The number of cells that aren't NULL, or of all if rows are counted.
     pub values: u64,
-    /// The sum of the values, or the least or the greatest of them, where there are any.
+    /// The sum of the values, or the least or the greatest of them, if there are any.
     pub number: i128,
 }
 
@@ -37,7 +37,7 @@ pub(crate) fn tally_of(fun: Fun, value: Option<i128>) -> Tally
     }
 }
 
-/// The tally of one cell where its value counts.
+/// The tally of one cell if its value counts.
 #[inline(always)]
 fn tally_of_value(value: Option<i128>) -> Tally
     ensures { result ≡ cell_tally Sum value }
@@ -54,7 +54,7 @@ fn tally_of_value(value: Option<i128>) -> Tally
     }
 }
 
-/// The tally of the cells of both, where it can be kept.
+/// The tally of the cells of both, if it can be kept.
 #[inline(always)]
 fn both(fun: Fun, a: &Tally, b: &Tally) -> Option<Tally>
     ensures sum { IfSome result (λ t. as_part fun t ≡ summary_of_both (as_part fun a.now) (as_part fun b.now)) }
@@ -68,7 +68,7 @@ fn both(fun: Fun, a: &Tally, b: &Tally) -> Option<Tally>
     }
 }
 
-/// The same where rows are counted.
+/// The same if rows are counted.
 #[inline(always)]
 fn rows_of_both(a: &Tally, b: &Tally) -> Option<Tally>
     ensures sum { IfSome result (λ t. as_part CountAll t ≡ summary_of_both (as_part CountAll a.now) (as_part CountAll b.now)) }
@@ -78,7 +78,7 @@ fn rows_of_both(a: &Tally, b: &Tally) -> Option<Tally>
     Some(Tally { values, number: 0 })
 }
 
-/// The same where their sum is what counts.
+/// The same if they are summed.
 #[inline(always)]
 fn sum_of_both(a: &Tally, b: &Tally) -> Option<Tally>
     ensures sum { IfSome result (λ t. as_part Sum t ≡ summary_of_both (as_part Sum a.now) (as_part Sum b.now)) }
@@ -89,7 +89,7 @@ fn sum_of_both(a: &Tally, b: &Tally) -> Option<Tally>
     Some(Tally { values, number })
 }
 
-/// The same where the least is what counts.
+/// The same for the least value.
 #[inline(always)]
 fn least_of_both(a: &Tally, b: &Tally) -> Option<Tally>
     ensures sum { IfSome result (λ t. as_part Min t ≡ summary_of_both (as_part Min a.now) (as_part Min b.now)) }
@@ -99,7 +99,7 @@ fn least_of_both(a: &Tally, b: &Tally) -> Option<Tally>
     Some(tally_with(values, lesser_of(bound_of(a), bound_of(b))))
 }
 
-/// The same where the greatest is what counts.
+/// The same for the greatest value.
 #[inline(always)]
 fn most_of_both(a: &Tally, b: &Tally) -> Option<Tally>
     ensures sum { IfSome result (λ t. as_part Max t ≡ summary_of_both (as_part Max a.now) (as_part Max b.now)) }
@@ -109,7 +109,7 @@ fn most_of_both(a: &Tally, b: &Tally) -> Option<Tally>
     Some(tally_with(values, greater_of(bound_of(a), bound_of(b))))
 }
 
-/// The number of a tally, where it has one.
+/// The number of a tally, if it has one.
 #[inline(always)]
 fn bound_of(tally: &Tally) -> Option<i128>
     ensures { result ≡ bound_of tally.now.values tally.now.number }
@@ -120,7 +120,7 @@ fn bound_of(tally: &Tally) -> Option<i128>
     }
 }
 
-/// The tally of so many cells with this number.
+/// The tally of `values` cells with this number.
 #[inline(always)]
 fn tally_with(values: u64, number: Option<i128>) -> Tally
     ensures values { result.values ≡ values }
@@ -132,7 +132,7 @@ fn tally_with(values: u64, number: Option<i128>) -> Tally
     }
 }
 
-/// The lesser of two numbers. Where one is missing, it is the other.
+/// The lesser of two numbers. If one is missing, it is the other.
 #[inline(always)]
 fn lesser_of(a: Option<i128>, b: Option<i128>) -> Option<i128>
     ensures { result ≡ lesser a b }
@@ -144,7 +144,7 @@ fn lesser_of(a: Option<i128>, b: Option<i128>) -> Option<i128>
     }
 }
 
-/// The greater of two numbers. Where one is missing, it is the other.
+/// The greater of two numbers. If one is missing, it is the other.
 #[inline(always)]
 fn greater_of(a: Option<i128>, b: Option<i128>) -> Option<i128>
     ensures { result ≡ greater a b }
@@ -177,7 +177,7 @@ pub(crate) fn add_row(
     Ok(())
 }
 
-/// A tally with one more cell, where it can be kept.
+/// A tally with one more cell, if it can be kept.
 #[inline(always)]
 fn with_cell(fun: Fun, tally: &Tally, value: Option<i128>) -> Option<Tally>
     ensures sum { IfSome result (λ t. as_part fun t ≡ summary_of_both (as_part fun tally.now) (as_part fun (cell_tally fun value))) }
@@ -235,7 +235,7 @@ pub(crate) fn shown_alone(fun: Fun, value: Option<i128>) -> Datum
     }
 }
 
-/// The number of one cell, NULL where it has none.
+/// The number of one cell, NULL if it has none.
 #[inline(always)]
 fn number_alone(value: Option<i128>) -> Datum
     ensures { result ≡ tally_shown Sum (cell_tally Sum value) }
@@ -246,7 +246,7 @@ fn number_alone(value: Option<i128>) -> Datum
     }
 }
 
-/// The number of a tally, NULL where it has none.
+/// The number of a tally, NULL if it has none.
 fn number_shown(tally: &Tally) -> Datum
     ensures { result ≡ sum_shown tally.now.values tally.now.number }
 {
@@ -256,7 +256,7 @@ fn number_shown(tally: &Tally) -> Datum
     }
 }
 
-/// The mean of a tally, NULL where it has no value.
+/// The mean of a tally, NULL if it has no value.
 fn mean_of(tally: &Tally) -> Datum
     ensures { result ≡ mean_shown tally.now.values tally.now.number }
 {

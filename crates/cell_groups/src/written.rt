@@ -1,4 +1,4 @@
-//! Result rows of groups that come in order, each written as its group ends.
+//! Result rows of groups in order, each written when its group ends.
 ghost use Rattle.std.specs.Prelude.{◌≡◌, ◌++◌, ℕ, List, [], map, Some, false, true, IfOk, IfSome, OnOk};
 ghost use Rattle.std.specs.Option.{option_to_list};
 ghost use Rattle.std.specs.declared.cmp.Ordering.TheVariants.{Greater};
@@ -20,19 +20,19 @@ use ts_model::Agg;
 use ts_num::Datum;
 use ts_schema::NoMemory;
 
-/// The result rows of groups that come in order: that of each is written as the next group begins.
+/// The result rows of groups in order: the row of each is written when the next group begins.
 #[derive(Drop)]
 pub struct WrittenGroups<'a> {
-    /// The result rows of the groups before the last: their cells, one row after another.
+    /// The result rows of the groups before the last: their cells, in order.
     pub cells: Vec<Datum>,
-    /// Where each of these rows ends.
+    /// The place at which each of these rows ends.
     pub ends: Vec<usize>,
     /// The last group, if there is one.
     pub last: Option<CellGroup<'a>>,
 }
 
 impl<'a> WrittenGroups<'a> {
-    /// No group, and room for so many result rows.
+    /// No groups, with room for `rows` result rows.
     pub fn with_room(
         alloc: Global,
         shape: &Shape,
@@ -52,8 +52,8 @@ impl<'a> WrittenGroups<'a> {
         })
     }
 
-    /// Takes a row in, unless its group comes before the last one, and says whether it did: into the last group, or
-    /// as the next one, in the bucket that starts at `start`.
+    /// Adds a row to the last group, or as the next group, in the bucket that starts at `start`. Returns
+    /// whether it did: it adds nothing if the row's group comes before the last one.
     pub fn take(
         &mut self,
         alloc: Global,
@@ -83,7 +83,8 @@ impl<'a> WrittenGroups<'a> {
         }
     }
 
-    /// How the last group compares with that of a row. Where there is none, the row's comes behind it.
+    /// How the last group compares with that of a row. Without a last group, the row's group counts as after
+    /// it.
     fn order(&self, shape: &Shape, start: i128, cells: &RowCells<'_>) -> Ordering
         ensures { result ≡ last_cmp shape.now self.now.last start cells.now }
     {
@@ -93,7 +94,7 @@ impl<'a> WrittenGroups<'a> {
         }
     }
 
-    /// Takes a row into the last group.
+    /// Adds a row to the last group.
     fn add(&mut self, alloc: Global, aggs: &[Agg], cells: &RowCells<'_>) -> Result<(), Stop>
         requires { IfSome self.old.last (HasTallies aggs.now) }
         ensures taken { OnOk result (TakesRow aggs.now cells.now self.old.last self.new.last) }

@@ -1,4 +1,4 @@
--- One more part at the end, and how many parts there are.
+-- One more part at the end, and the number of parts.
 use Rattle.std.proofs.Common.{◌≡◌, ℕ, suc, ◌+◌, ◌-◌, ◌≤◌, List, [], ◌∷◌, ◌++◌, length, take, drop, refl, sym, ap, ◌∙◌, subst, arith}
 use Rattle.std.proofs.lemmas.List.{take-append-le, drop-append-le, length-append, length-drop, take_all, drop_all}
 use Rattle.cell_rows.specs.Parts.{parts, AreParts}

@@ -2,7 +2,7 @@
 use Rattle.std.specs.Prelude.{◌≡◌, ℕ, ◌-◌, ◌≤◌, List, [], ◌∷◌, length, take, drop}
 
 module _ {X : Type 0} where
-  -- the parts of a list that end at these places, where so many items stand before the list
+  -- the parts of a list that end at these places, with this many items before the list
   abbrev pub parts : ℕ → List ℕ → List X → List (List X)
   parts from [] cells = []
   parts from (end ∷ ends) cells = take (end - from) cells ∷ parts end ends (drop (end - from) cells)

@@ -1,4 +1,4 @@
-//! The rows, one after another.
+//! The rows, in order.
 ghost use Rattle.std.specs.Prelude.{◌≡◌};
 ghost use Rattle.std.specs.Iterator.{YieldsFirstRef, item_count};
 ghost use Rattle.cell_rows.specs.Parts.{AreParts, parts};

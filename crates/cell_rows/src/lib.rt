@@ -1,4 +1,4 @@
-//! Rows of cells in one vector, row after row, so that a row needs no separate memory.
+//! Rows of cells in one vector, so that a row needs no separate memory.
 #![tactic(auto)]
 
 mod iter;

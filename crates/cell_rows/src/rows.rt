@@ -10,9 +10,9 @@ use ts_schema::NoMemory;
 /// Rows of cells, of any length each. Contracts see them as a list of lists.
 #[derive(Drop, Debug)]
 pub struct CellRows<T> {
-    /// The cells of all rows, one row after another.
+    /// The cells of all rows, in order.
     cells: Vec<T>,
-    /// For each row the place where its cells end.
+    /// The place at which the cells of each row end.
     ends: Vec<usize>,
 }
 
@@ -28,7 +28,7 @@ impl<T> Model for CellRows<T> {
 }
 
 impl<T> CellRows<T> {
-    /// No row. It takes no memory.
+    /// No rows. It takes no memory.
     pub fn new(alloc: Global) -> CellRows<T>
         ensures rows { result ≡ [] }
     {
@@ -38,7 +38,7 @@ impl<T> CellRows<T> {
         }
     }
 
-    /// The rows whose cells are in `cells`, row after row. `ends` is where each row ends.
+    /// The rows whose cells are in `cells`, in order. `ends` is where each row ends.
     pub fn of(cells: Vec<T>, ends: Vec<usize>) -> CellRows<T>
         requires parts { AreParts 0 ends.items cells.items }
         ensures rows { result ≡ parts 0 ends.items cells.items }
@@ -46,7 +46,7 @@ impl<T> CellRows<T> {
         CellRows { cells, ends }
     }
 
-    /// How many rows there are.
+    /// The number of rows.
     pub fn len(&self) -> usize
         ensures len { result ≡ length self.now }
     {
@@ -60,7 +60,7 @@ impl<T> CellRows<T> {
         self.len() == 0
     }
 
-    /// The rows, one after another, each as a slice of its cells.
+    /// The rows, in order, each as a slice of its cells.
     pub fn iter(&self) -> Iter<'_, T>
         ensures rows { result ≡ self.now }
     {
@@ -69,7 +69,7 @@ impl<T> CellRows<T> {
 }
 
 impl<T: Copy + Drop> CellRows<T> {
-    /// Makes room for so many more rows of so many cells in all. It changes no row.
+    /// Makes room for this many more rows and for this many cells in them. Changes no row.
     pub fn reserve(&mut self, rows: usize, cells: usize) -> Result<(), NoMemory>
         ensures same { self.new ≡ self.old }
     {
@@ -78,7 +78,7 @@ impl<T: Copy + Drop> CellRows<T> {
         Ok(())
     }
 
-    /// Puts a row of these cells at the end.
+    /// Appends a row of these cells.
     pub fn push(&mut self, row: &[T]) -> Result<(), NoMemory>
         ensures pushed { IfOk result (λ _. self.new ≡ self.old ++ row.now ∷ []) }
         ensures kept { OnErr result (self.new ≡ self.old) }

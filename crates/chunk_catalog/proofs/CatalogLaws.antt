@@ -1,4 +1,4 @@
--- What the chunks in reach give is what all chunks give.
+-- The chunks in reach have all the versions of a result.
 use Rattle.std.proofs.Common.{◌≡◌, ℕ, ◌&&◌, Bool, true, false, cond, Option, Some, List, [], ◌∷◌, length, map, ℤ, ◌-◌, ◌^◌, negsuc, ◌+ℤ◌, ◌≤ℤ◌, ◌<ℤ◌, refl, sym, ◌∙◌, ap, arith}
 use Rattle.std.specs.List.{filter, list_all}
 use Rattle.std.specs.Prelude.{int_le, int_lt}
@@ -28,7 +28,7 @@ filter_step : (b : Bool) (q : Version → Bool) (v : Version) (xs ys : List Vers
 filter_step true q v xs ys out e = ap (λ zs. cond (q v) (v ∷ zs) zs) e
 filter_step false q v xs ys out e = rw (out refl) e
 
--- where no version out of reach passes, the versions in reach give all that pass
+-- if no version out of reach passes, all versions that pass are in reach
 pub filter_reached : (interval : ℤ) (q : Version → Bool) (r : TimeRange) (ps : List Placed)
     → ((x : Placed) → is_placed interval x ≡ true → in_reach r x.start ≡ false → q x.version ≡ false) → ArePlaced interval ps → filter q (versions_in r ps) ≡ filter q (versions_of ps)
 filter_reached interval q r [] out placed = refl
@@ -102,7 +102,7 @@ still_placed interval true true x died = refl
 still_placed interval true false x died = refl
 still_placed interval false t x died = refl
 
--- what a delete leaves is placed as before
+-- after a delete the versions are placed as before
 pub killed_placed : (interval : ℤ) (r : TimeRange) (p : ℕ) (tests : List Test) (ps : List Placed) → ArePlaced interval ps → ArePlaced interval (map (after_kill_in r p tests) ps)
 killed_placed interval r p tests [] h = refl
 killed_placed interval r p tests (x ∷ ps) h =
@@ -123,7 +123,7 @@ drop_step true false ended v xs ys rest p same ends e here = rw (sym here, sym s
 drop_step false true ended v xs ys rest p same ends e here = rw (sym ends, sym same) e
 drop_step false false ended v xs ys rest p same ends e here = rw (sym same) e
 
--- what a drop takes and leaves, by the chunks that end by n
+-- the versions that a drop takes and those that it leaves, by the chunks that end by n
 module _ (interval n : ℤ) (r : TimeRange) (wide : IsInterval interval) (ended : (s : ℤ) → negsuc (2 ^ 63 - 1) ≤ℤ s → in_reach r s ≡ int_le (s +ℤ interval) n) where
   ended_is : (x : Placed) → is_placed interval x ≡ true → in_reach r x.start ≡ int_le (chunk_start interval x.version.row.at +ℤ interval) n
   ended_is x placed =

@@ -1,4 +1,4 @@
--- Counts of looks that were cut off.
+-- Counts of scans that ended early.
 use Rattle.std.proofs.Common.{ℕ, ◌≡◌, ◌+◌, ◌≤◌, ◌<◌, ◌^◌, arith}
 use Rattle.ts_schema.specs.Counts.{raised_by, RaisedUpTo}
 

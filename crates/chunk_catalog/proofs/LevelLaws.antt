@@ -18,7 +18,7 @@ use Rattle.chunk_catalog.specs.Levels.{AreFew, Levels, AreLevel, FewLevels, Tree
 use Rattle.chunk_catalog.specs.Places.{Kept, Placed, in_chunk, placed_in, place}
 use Rattle.chunk_catalog.specs.SegmentTrees.{AreEven, IsFork}
 
--- what is at most the greater of two is at most one of them
+-- a number at most the greater of two is at most one of them
 either : {C : Type 0} (k a b : ℕ) → k ≤ max a b → (k ≤ a → C) → (k ≤ b → C) → C
 either {C} k a b h f g = elim (nat_le k a) as (λ t. nat_le k a ≡ t → C) [
   | true ↦ λ e. f (leb-true k a e)
@@ -28,7 +28,7 @@ either {C} k a b h f g = elim (nat_le k a) as (λ t. nat_le k a ≡ t → C) [
 doubled : (j n m : ℕ) → 2 ^ j ≤ n → 2 * n ≤ m → 2 ^ suc j ≤ m
 doubled j n m h e = omega (arith, pow-suc 2 j, h, e)
 
--- fewer levels of a larger size are few too
+-- fewer levels for a larger size are also few
 pub few_of : (l n l2 n2 : ℕ) → AreFew l n → l2 ≤ l → n ≤ n2 → AreFew l2 n2
 few_of l n l2 n2 few low wide k h = omega (arith, few k (omega (arith, h, low)), wide)
 
@@ -118,7 +118,7 @@ fork_killed l r l2 r2 n p hull old dead tests fork left right left_levels right_
       dead_is = dead_is ∙ sym (died_out-append l2.0 r2.0);
     }
 
--- the later part first, or in order: the greatest time is the same
+-- the greatest time is the same with the later part first
 pub later_back : (best l r : Option ℤ) → later_time (later_time best r) l ≡ later_time best (later_time l r)
 later_back best l r = sym (later_time-assoc best r l) ∙ ap (later_time best) (later_time-comm r l)
 
@@ -141,7 +141,7 @@ few_of_three la lb lc a b c fa fb fc k h =
 pub placed_length : (l r : List Placed) (s : ℤ) (vs : List Version) → length (l ++ in_chunk s vs ++ r) ≡ length l + length vs + length r
 placed_length l r s vs = omega (arith, length-append (l ++ in_chunk s vs) r, length-append l (in_chunk s vs), length-map vs (place s))
 
--- a chunk between two trees that are level
+-- a chunk between two level trees
 pub few_over : (l r : TreeValue) (chunk : Kept) → AreLevel l.1 r.1 → FewLevels l.1 (length l.0) → FewLevels r.1 (length r.0) → AreFew chunk.levels (2 * length chunk.versions) → 0 < length chunk.versions
     → FewLevels (tree_over l chunk r).1 (length (tree_over l chunk r).0)
 few_over l r chunk even left right here some =
@@ -162,7 +162,7 @@ sides_within l r chunk = (omega (arith, placed_length l.0 r.0 chunk.start chunk.
 pub few_counted : (levels : Levels) (size : ℕ) → FewLevels levels size → size < 2 ^ 64 → levels.chunks < 130
 few_counted levels size few small = lt_of_not-le (λ many. omega (arith, few.chunks 65 (omega (arith, many)), small))
 
--- versions that were put into a tree on one side of a chunk can still be counted
+-- versions that were inserted into a tree on one side of a chunk can still be counted
 pub countable_left : (whole l r new : List Placed) (chunk : Kept) (start : ℤ) (vs : List Version) → whole ≡ l ++ placed_in chunk ++ r → length whole + length vs < 2 ^ 64
     → HasMore (in_chunk start vs) l new → length (new ++ placed_in chunk ++ r) < 2 ^ 64
 countable_left whole l r new chunk start vs is few more =
@@ -173,7 +173,7 @@ pub countable_right : (whole l r new : List Placed) (chunk : Kept) (start : ℤ)
 countable_right whole l r new chunk start vs is few more =
     omega (arith, few, ap length is, placed_length l r chunk.start chunk.versions, placed_length l new chunk.start chunk.versions, length_more new r (in_chunk start vs) more, length-map vs (place start))
 
--- few levels of chunks and few of segments are low together
+-- few levels of chunks and few of segments are low in total
 pub low_levels : (levels : Levels) (size : ℕ) → FewLevels levels size → AreLow (levels.chunks + levels.segments) size
 low_levels levels size few k h =
     either (2 * k) levels.chunks levels.segments (omega (arith, h)) (λ p. omega (arith, few.chunks k p)) (few.segments k)

@@ -16,7 +16,7 @@ use Rattle.chunk_catalog.specs.Places.{Placed, in_chunk, versions_of, is_placed,
 use Rattle.chunk_catalog.specs.Parts.{AreIn, placed_row, placed_rows}
 use Rattle.ts_schema.proofs.Cases.{and_first, and_second, count-append}
 
--- a test passes all where it counts none that fails
+-- a test passes all items if it counts none that fails
 pub all_from_count : {X : Type 0} (p : X → Bool) (xs : List X) → count_by (λ x. not (p x)) xs ≡ 0 → list_all p xs ≡ true
 all_from_count p [] h = refl
 all_from_count p (x ∷ xs) h =
@@ -82,7 +82,7 @@ pub placed_kept : (interval : ℤ) (p : ℕ) (xs ys : List Row) → ((test : Row
 placed_kept interval p xs ys same test =
     count_map (placed_row interval p) test xs ∙ (same (λ row. test (placed_row interval p row)) ∙ sym (count_map (placed_row interval p) test ys))
 
--- the rows of one chunk leave those that are left and come to the tree
+-- the rows of one chunk move from the rows left to the tree
 pub part_step : (interval start : ℤ) (p : ℕ) (before after : List Placed) (old new part : List Row) → old ≡ new ++ part → AreIn interval start part
     → ((test : Placed → Bool) → count_by test after ≡ count_by test before + count_by test (in_chunk start (map (newborn p) part)))
     → (test : Placed → Bool) → count_by test after + count_by test (placed_rows interval p new) ≡ count_by test before + count_by test (placed_rows interval p old)
@@ -110,7 +110,7 @@ versions_more interval p before after rows more = λ test.
     ∙ (more (λ x. test x.version)
     ∙ omega (arith, sym (count_map (λ (x : Placed). x.version) test before), sym (count_map (λ (x : Placed). x.version) test (placed_rows interval p rows)), ap (count_by test) (placed_rows-versions interval p rows), count-append test (versions_of before) (map (newborn p) rows)))
 
--- one piece of rows more
+-- one more piece of rows
 pub piece_more : (p : ℕ) (start now new : List Version) (rows : List Row) (from to : ℕ) → from ≤ to → AsOften now (start ++ map (newborn p) (take from rows))
     → AsOften new (now ++ map (newborn p) (take (to - from) (drop from rows))) → AsOften new (start ++ map (newborn p) (take to rows))
 piece_more p start now new rows from to order was put =
@@ -141,12 +141,12 @@ times_behind (row ∷ rows) (suc k) e = times_behind rows k (and_second (is_time
 pub times_of_part : (rows : List Row) (from to : ℕ) → HaveTimes rows → HaveTimes (take (to - from) (drop from rows))
 times_of_part rows from to h = times_in_front (drop from rows) (to - from) (times_behind rows from h)
 
--- where all rows are in front, all are there
+-- if all rows are in front, all are inserted
 pub all_put : (p : ℕ) (start now : List Version) (rows : List Row) (from : ℕ) → length rows ≤ from → AsOften now (start ++ map (newborn p) (take from rows)) → AsOften now (start ++ map (newborn p) rows)
 all_put p start now rows from whole was =
     λ test. was test ∙ ap (λ rs. count_by test (start ++ map (newborn p) rs)) (take_all from rows whole)
 
--- a list is its items in front of a place and those from it on
+-- a list is its items before a place and those from it on
 pub two_parts : (rows : List Row) (n : ℕ) → rows ≡ take (n - 0) (drop 0 rows) ++ take (length rows - n) (drop n rows)
 two_parts rows n =
     let first : n - 0 ≡ n = omega arith in

@@ -19,7 +19,7 @@ use Rattle.chunk_catalog.specs.Places.{Placed, place, in_chunk, versions_of, ver
 use Rattle.chunk_catalog.proofs.ReachLaws.{lies}
 use Rattle.ts_schema.proofs.Cases.{and_first, and_second}
 
--- a chunk in reach gives all its versions, and another one none
+-- a chunk in reach has all its versions, and another one none
 pub reached_in : (r : TimeRange) (s : ℤ) (vs : List Version) → in_reach r s ≡ true → versions_in r (in_chunk s vs) ≡ vs
 reached_in r s [] h = refl
 reached_in r s (v ∷ vs) h = rw h (ap (λ ws. v ∷ ws) (reached_in r s vs h))
@@ -51,7 +51,7 @@ pub length_reached : (r : TimeRange) (xs ys zs : List Placed) → length (versio
 length_reached r xs ys zs =
     omega (arith, ap length (reached-append r (xs ++ ys) zs), length-append (versions_in r (xs ++ ys)) (versions_in r zs), ap length (reached-append r xs ys), length-append (versions_in r xs) (versions_in r ys))
 
--- what holds of parts holds of the whole
+-- what is true of parts is true of the whole
 pub ruleset places = (versions_of-in_chunk, versions_of-append, reached-append)
 
 pub reached_few : (r : TimeRange) (ps : List Placed) → length (versions_in r ps) ≤ length ps
@@ -62,7 +62,7 @@ reached_few r (x ∷ ps) =
       | false ↦ omega (arith, reached_few r ps)
     ]
 
--- where no start is in reach, nothing is seen and nothing dies
+-- if no start is in reach, no row is visible and none is deleted
 pub out_reached : (r : TimeRange) (ps : List Placed) → AreOut r ps → versions_in r ps ≡ []
 out_reached r [] h = refl
 out_reached r (x ∷ ps) h =
@@ -75,7 +75,7 @@ out_killed r p tests (x ∷ ps) h =
     let here : in_reach r x.start ≡ false = not-true (in_reach r x.start) (and_first (not (in_reach r x.start)) (list_all (λ y. not (in_reach r y.start)) ps) h) in
     rw here (ap (λ qs. x ∷ qs) (out_killed r p tests ps (and_second (not (in_reach r x.start)) (list_all (λ y. not (in_reach r y.start)) ps) h)))
 
--- a delete that takes nothing changes nothing
+-- a delete that takes no version changes none
 pub killed_nothing_in : (r : TimeRange) (p : ℕ) (tests : List Test) (ps : List Placed) → length (taken_at p tests (versions_in r ps)) ≡ 0 → map (after_kill_in r p tests) ps ≡ ps
 killed_nothing_in r p tests [] h = refl
 killed_nothing_in r p tests (x ∷ ps) h =
@@ -101,7 +101,7 @@ apart_out r h (x ∷ ps) apart inside =
     let here : in_reach r x.start ≡ false = apart x.start (and_first (in_hull h x.start) (list_all (λ y. in_hull h y.start) ps) inside) in
     rw here (apart_out r h ps apart (and_second (in_hull h x.start) (list_all (λ y. in_hull h y.start) ps) inside))
 
--- a joined hull holds what either holds
+-- a joined hull holds both
 pub in_joined_first : (g : HullValue) (b : Option HullValue) (h : HullValue) (t : ℤ) → Some h ≡ joined_hull (Some g) b → in_hull g t ≡ true → in_hull h t ≡ true
 in_joined_first g None h t e p = let same : h ≡ g = cc in rw same p
 in_joined_first g (Some k) h t e p =
@@ -149,7 +149,7 @@ starts_of_fork a b h s l r vs left right e =
     let here : StartsIn (Some h) (in_chunk s vs) = subst (λ k. StartsIn k (in_chunk s vs)) (sym e) (join_first (hull_at s) (joined_hull a b) (in_chunk s vs) (starts_here (record { least = s; most = s }) s vs point)) in
     both_parts h (l ++ in_chunk s vs) r (both_parts h l (in_chunk s vs) on_left here) on_right
 
--- where no chunk of a hull holds a time above the best, no version is later
+-- if no chunk of a hull holds a time above the best, no version is later
 pub past_all : (interval : ℤ) (best : Option ℤ) (h : HullValue) (ps : List Placed) → IsInterval interval
     → ((t : ℤ) → t <ℤ (h.most +ℤ interval) → later_time best (Some t) ≡ best) → StartsIn (Some h) ps → ArePlaced interval ps
     → (p : ℕ) → later_time best (latest_at p (versions_of ps)) ≡ best
@@ -174,7 +174,7 @@ past_chunk interval best s vs wide past placed p =
     let point : in_hull (record { least = s; most = s }) s ≡ true = grind (arith, ints) in
     ap (λ ws. later_time best (latest_at p ws)) (sym (versions_of-in_chunk s vs)) ∙ past_all interval best (record { least = s; most = s }) (in_chunk s vs) wide past (starts_here (record { least = s; most = s }) s vs point) placed p
 
--- the latest parts first, or in order: the greatest time is the same
+-- the greatest time is the same with the latest parts first
 pub later_first : (best l c r : Option ℤ) → later_time (later_time (later_time best r) c) l ≡ later_time best (later_time (later_time l c) r)
 later_first best l c r =
     sym (later_time-assoc (later_time best r) c l)

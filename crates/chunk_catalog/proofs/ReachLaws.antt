@@ -18,7 +18,7 @@ pub met_is : (interval first last lo hi s : ℤ) → lo <ℤ hi → int_le first
     → (int_le first s && int_le s last) ≡ (int_lt s hi && int_lt lo (s +ℤ interval) && int_lt lo hi)
 met_is interval first last lo hi s some f l = rw (f, l) (grind (arith, ints))
 
--- where a placed version lies
+-- the chunk and the time of a placed version
 pub record Lies (interval : ℤ) (x : Placed) : Type 0 where
   pub at_or_after : x.start ≤ℤ x.version.row.at
   pub before_end : x.version.row.at <ℤ (x.start +ℤ interval)
@@ -41,7 +41,7 @@ lies interval x h p =
       start_is = here;
     }
 
--- what two ranges hold is held by their common part
+-- a number in two ranges is in their common part
 pub both_hold : (a b : TimeRange) (first last t : ℤ) → first ≡ int_max a.first b.first → last ≡ int_min a.last b.last → in_reach a t ≡ true → in_reach b t ≡ true
     → (int_le first t && int_le t last) ≡ true
 both_hold a b first last t f l p q = rw (f, l) (grind (arith, ints))

@@ -21,7 +21,7 @@ use Rattle.chunk_catalog.specs.Reach.{HoldsPassing, in_reach}
 use Rattle.chunk_catalog.proofs.PlaceLaws.{in_joined_first, versions_of-append, versions_of-in_chunk}
 use Rattle.chunk_catalog.proofs.ReachLaws.{not_both}
 
--- a number between two of 64 bits is one
+-- a number between two of 64 bits has 64 bits
 fits_between : (a b t : ℤ) → FitsSigned w64 a → FitsSigned w64 b → a ≤ℤ t → t ≤ℤ b → FitsSigned w64 t
 fits_between a b (pos n) fa fb low high = record { sfits = omega (arith, ints, fa.sfits, fb.sfits, low, high) }
 fits_between a b (negsuc n) fa fb low high = record { sfits = omega (arith, ints, fa.sfits, fb.sfits, low, high) }
@@ -36,7 +36,7 @@ within_joined (x ∷ rows) k h e =
     let here : in_hull h x.at ≡ true = in_joined_first (record { least = x.at; most = x.at }) (joined_hull (hull_of rows) k) h x.at turned point in
     rw here (within_joined rows (joined_hull k (hull_at x.at)) h (e ∙ joined_hull-assoc k (hull_at x.at) (hull_of rows)))
 
--- where the hull of all times is out of the range of those that pass, nothing is taken
+-- if the hull of all times is out of the range of those that pass, nothing is taken
 module _ (r : TimeRange) (h : HullValue) (low : FitsSigned w64 h.least) (high : FitsSigned w64 h.most) (apart : (t : ℤ) → in_hull h t ≡ true → in_reach r t ≡ false) (tests : List Test) (holds : HoldsPassing tests r) (p : ℕ) where
   none_within : (vs : List Version) → list_all (λ row. in_hull h row.at) (rows_of vs) ≡ true → taken_at p tests vs ≡ []
   none_within [] inside = refl
@@ -63,7 +63,7 @@ none_reached r p tests (x ∷ ps) h =
       | false ↦ none_reached r p tests ps parts.1
     ]
 
--- the last death in two trees and a chunk between them
+-- the last delete in two trees and a chunk between them
 pub dead_over : (l r : List Placed) (s : ℤ) (vs : List Version) (d e mid f dead : Option ℕ) → d ≡ died_out (versions_of l) → e ≡ died_out vs → mid ≡ later_death d e
     → f ≡ died_out (versions_of r) → dead ≡ later_death mid f → dead ≡ died_out (versions_of (l ++ in_chunk s vs ++ r))
 dead_over l r s vs d e mid f dead first here middle last whole =

@@ -1,4 +1,4 @@
--- Laws of what is put into a part of a tree, and of a delete in its parts.
+-- Laws of what is inserted into a part of a tree, and of a delete in its parts.
 use Rattle.std.proofs.Common.{◌≡◌, ℕ, ◌+◌, ◌≤◌, Bool, ℤ, Option, List, ◌++◌, map, length, sym, ◌∙◌, ap, arith}
 use Rattle.std.specs.List.{count_by}
 use Rattle.std.proofs.lemmas.List.{map-append, length-append}
@@ -17,7 +17,7 @@ use Rattle.ts_schema.proofs.Cases.{count-append}
 count_three : (test : Placed → Bool) (l c r : List Placed) → count_by test (l ++ c ++ r) ≡ count_by test l + count_by test c + count_by test r
 count_three test l c r = omega (arith, count-append test (l ++ c) r, count-append test l c)
 
--- what one of three lists has more, all three together have more
+-- what is added to one of three lists is added to all three together
 pub more_first : (more l new c r whole : List Placed) → whole ≡ l ++ c ++ r → HasMore more l new → HasMore more whole (new ++ c ++ r)
 more_first more l new c r whole is added test = omega (arith, ap (count_by test) is, count_three test l c r, count_three test new c r, added test)
 
@@ -62,7 +62,7 @@ module _ (r : TimeRange) (p : ℕ) (tests : List Test) (l c e whole : List Place
       ∙ (ap (λ x. joined_hull x (hull_of (taken_at p tests (versions_in r e)))) (sym (hull_of-append (taken_at p tests (versions_in r l)) (taken_at p tests (versions_in r c))))
       ∙ (sym (hull_of-append (taken_at p tests (versions_in r l) ++ taken_at p tests (versions_in r c)) (taken_at p tests (versions_in r e))) ∙ ap hull_of (sym taken_over)))))
 
-  -- no more versions are removed than there are
+  -- at most all versions are removed
   pub few_over_all : (i j k : ℕ) → i ≡ length (taken_at p tests (versions_in r l)) → j ≡ length (taken_at p tests (versions_in r c)) → k ≡ length (taken_at p tests (versions_in r e))
       → i + j + k ≤ length whole
   few_over_all i j k first middle last =

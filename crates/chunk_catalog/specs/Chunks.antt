@@ -9,15 +9,17 @@ use Rattle.ts_schema.specs.declared.rows.Row.{Row}
 use Rattle.ts_schema.specs.Conditions.{passes_all}
 use Rattle.seg_rows.specs.Versions.{Version, visible_at, rows_of}
 
--- what contracts see of `Chunks`: how long a chunk is, every version that was ever put there, and how many levels of
--- chunks and of segments a look at a version goes through at most. A scan gives versions in the order of this list.
--- Where in it new versions stand is free: `put_shared` says only which versions there are, and how often each
+-- what contracts see of `Chunks`: the length of a chunk; every version that was ever inserted there; and the
+-- greatest numbers of levels on the path to a version. A scan returns versions in the order of this list. The
+-- places of new versions in it are unspecified: `put_shared` says only which versions there are, and how often
+-- each
 pub record ChunksValue : Type 0 where
   pub interval : ℤ
   pub versions : List Version
   pub levels : ℕ
 
--- levels that grow with the logarithm of so many versions: every fourth level doubles the least number of versions
+-- levels that grow with the logarithm of the number of versions: every fourth level doubles the least number of
+-- versions
 abbrev pub AreLow : ℕ → ℕ → Type 0
 AreLow levels count = (k : ℕ) → 4 * k ≤ levels → 2 ^ k ≤ 2 * count + 1
 

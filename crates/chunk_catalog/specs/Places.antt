@@ -11,7 +11,7 @@ use Rattle.ts_bucket.specs.Chunks.{chunk_start}
 use Rattle.chunk_catalog.specs.Reach.{in_reach}
 use Rattle.chunk_catalog.specs.declared.time_ranges.TimeRange.{TimeRange}
 
--- a chunk: its start, the versions that it keeps, and how many levels of segments there are
+-- a chunk: its start, the versions that it keeps, and the number of levels of segments
 pub record Kept : Type 0 where
   pub start : ℤ
   pub versions : List Version

@@ -14,7 +14,7 @@ in_reach r t = int_le r.first t && int_le t r.last
 abbrev pub HoldsPassing : List Test → TimeRange → Type 0
 HoldsPassing tests r = (row : Row) → FitsSigned w64 row.at → passes_all row tests ≡ true → in_reach r row.at ≡ true
 
--- the second range holds what the first does of the times of rows that pass a test
+-- the second range holds the times of rows that pass a test and that the first range holds
 abbrev pub Narrows : TimeRange → Test → TimeRange → Type 0
 Narrows times test r =
     (row : Row) → FitsSigned w64 row.at → in_reach times row.at ≡ true → passes_one row test ≡ true

@@ -1,4 +1,4 @@
--- A segment tree: its versions in order, how many levels it has, and what is true of it.
+-- A segment tree: its versions in order, its number of levels, and its invariant.
 use Rattle.std.specs.Prelude.{◌≡◌, ℕ, suc, zero, ◌*◌, ◌<◌, ◌≤◌, max, List, ◌++◌, length, Option}
 use Rattle.ts_bucket.specs.Spans.{HullValue}
 use Rattle.seg_rows.specs.Hulls.{hull_of}

@@ -1,4 +1,4 @@
--- A tree of chunks: its versions in the order of the chunks, how many levels it has, and what holds of it.
+-- A tree of chunks: its versions in the order of the chunks, its number of levels, and its invariant.
 use Rattle.chunk_catalog.specs.Levels.{TreeValue, no_tree, tree_over, IsOver}
 use Rattle.chunk_catalog.specs.declared.trees.Node.{Node}
 use Rattle.chunk_catalog.specs.declared.trees.Node.TheVariants.{Empty, Fork}

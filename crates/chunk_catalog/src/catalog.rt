@@ -16,17 +16,17 @@ use std::marker::Model;
 use ts_bucket::{Hull, MAX_TIME, MIN_TIME, Span};
 use ts_schema::{NoMemory, Row, Seq, SharedSlice, Steps, Test};
 
-/// No value holds more versions, which is far beyond any memory.
+/// The greatest number of versions of a value, which no memory could hold.
 const MOST_VERSIONS: u64 = 4_611_686_018_427_387_904;
 
-/// No segment of new rows has more of them, so that a later delete copies the positions of few.
+/// The greatest number of rows of a new segment. It bounds the positions that a later delete copies.
 const MANY: usize = 1024;
 
-/// A span that meets chunks with no more versions is not parted.
+/// A span that meets chunks with at most this many versions isn't split.
 const FEW_VERSIONS: u64 = 4096;
 
-/// Rows by the chunks that hold their times. Contracts see the interval and the list of all versions
-/// that were ever put there, removed or not.
+/// Rows by the chunks that hold their times. Contracts see the interval and the list of all versions that were
+/// ever inserted there, removed or not.
 #[derive(Drop)]
 pub struct Chunks {
     alloc: Global,
@@ -52,18 +52,18 @@ impl Model for Chunks {
     ghost invariant = { λ c. IsKept c.interval c.tree.0 c.count };
 }
 
-/// What a delete left of the chunks.
+/// The chunks after a delete.
 #[derive(Drop)]
 pub struct KilledChunks {
     /// The chunks after it.
     pub chunks: Chunks,
-    /// How many versions were deleted.
+    /// The number of versions deleted.
     pub removed: u64,
     /// The hull of their times.
     pub hull: Option<Hull>,
 }
 
-/// A span of times among which are those of all rows that pass every test.
+/// A span that holds the times of all rows that pass every test.
 pub fn passing_span(tests: &[Test]) -> Span
     ensures every { HoldsTimes tests.now result }
 {
@@ -94,7 +94,7 @@ fn time_end(last: i64) -> i64
 }
 
 impl Chunks {
-    /// No chunk yet. Each will hold `interval` times, from 1 to 2^50.
+    /// No chunks. Each chunk will hold `interval` times, from 1 to 2^50.
     pub fn new(alloc: Global, interval: i64) -> Chunks
         requires { IsInterval interval }
         ensures interval { result.interval ≡ interval }
@@ -108,7 +108,7 @@ impl Chunks {
         }
     }
 
-    /// The same chunks again.
+    /// A copy of the chunks.
     pub fn copy(&self) -> Result<Chunks, NoMemory>
         ensures same { IfOk result (λ copy. copy ≡ self.now) }
     {
@@ -120,8 +120,8 @@ impl Chunks {
         })
     }
 
-    /// What holds of all chunks, however they came to be: the trees in which they and their segments
-    /// hang have no more levels than the logarithm of the versions allows. Calls go down these trees.
+    /// States that the number of levels of the trees of chunks and segments grows with the logarithm of the
+    /// number of versions. Calls descend these trees, so this bounds their depth.
     pub fn levels_are_low(&self)
         ensures low { AreLow self.now.levels (length self.now.versions) }
     {
@@ -148,9 +148,9 @@ impl Chunks {
     }
 
     /// The chunks with rows inserted at a position, which is at least those of the earlier changes. Each row
-    /// has a time in the range of times. Takes the rows in pieces of up to 1,024: shares a piece whose times
-    /// are in order with the list, and copies and sorts any other. Fails as out of memory for more than 2^62
-    /// versions in all.
+    /// has a time in the range of times. Takes the rows in pieces of up to 1,024. A piece whose times are in
+    /// order is shared with the list, and any other is copied and sorted. Fails as out of memory for more than
+    /// 2^62 versions in all.
     pub fn put_shared(&self, rows: &SharedSlice<Row>, pos: u64) -> Result<Chunks, NoMemory>
         requires times { HaveTimes rows.now }
         ensures interval { IfOk result (λ chunks. chunks.interval ≡ self.now.interval) }
@@ -167,9 +167,9 @@ impl Chunks {
         Ok(chunks)
     }
 
-    /// A delete at a position, which is at least those of the earlier changes: the versions that are
-    /// visible there and pass every test die there. Chunks and segments that can't hold such a row, and
-    /// those of which nothing lives, aren't looked at.
+    /// Deletes, at a position at or above those of the earlier changes, the versions that are visible there and
+    /// pass every test. Doesn't read chunks and segments that can't hold such a row, or that have no version
+    /// left to delete.
     pub fn kill(&self, tests: &Seq<Test>, pos: u64) -> Result<KilledChunks, NoMemory>
         ensures interval { IfOk result (λ k. k.chunks.interval ≡ self.now.interval) }
         ensures after { IfOk result (λ k. k.chunks.versions ≡ map (after_kill pos tests.now) self.now.versions) }
@@ -191,9 +191,9 @@ impl Chunks {
         })
     }
 
-    /// A drop at a position, which is at least those of the earlier changes: the versions that are
-    /// visible there, of the chunks that end at or before `n`, die there. It is for callers that have no
-    /// tests; the statement `drop_chunks` is a delete by a test of the time, and so a `kill`.
+    /// Deletes, at a position at or above those of the earlier changes, the visible versions of the chunks that
+    /// end at or before `n`. This is for callers without tests. The statement `drop_chunks` is a delete by a
+    /// test of the time, and so it calls `kill`.
     pub fn drop_below(&self, n: i64, pos: u64) -> Result<KilledChunks, NoMemory>
         ensures interval { IfOk result (λ k. k.chunks.interval ≡ self.now.interval) }
         ensures after { IfOk result (λ k.
@@ -217,8 +217,8 @@ impl Chunks {
         })
     }
 
-    /// The rows of the span that are visible at a position. Ticks once per version, dead ones too, of
-    /// the chunks that meet the span.
+    /// The rows of the span that are visible at a position. Ticks once per version, even a deleted one, of the
+    /// chunks that meet the span.
     pub fn scan<L>(&self, pos: u64, span: Span, steps: &mut Steps<L>) -> Result<Seq<Row>, NoMemory>
         ensures rows { IfOk result (λ rows. rows ≡ rows_at pos span self.now.versions) }
         ensures wide { IsInterval self.now.interval }
@@ -230,7 +230,7 @@ impl Chunks {
         self.scan_part(pos, span, span, steps)
     }
 
-    /// The same of a part of the span. It looks at the same versions, and takes the rows of the part alone.
+    /// The same for a part of the span. Reads the same versions, and returns only the rows of the part.
     pub fn scan_part<L>(
         &self,
         pos: u64,
@@ -252,15 +252,15 @@ impl Chunks {
         Ok(rows)
     }
 
-    /// How many versions, dead ones too, are in the chunks that meet the span.
+    /// The number of versions, even deleted ones, in the chunks that meet the span.
     pub fn held(&self, span: Span) -> u64
         ensures held { result ≡ held_near self.now.interval span self.now.versions }
     {
         self.tree.held(span_reach(self.interval, span))
     }
 
-    /// A start of a chunk that parts a span, where the chunks that meet it have many versions and one begins
-    /// within.
+    /// The start of a chunk at which to split a span, if the chunks that meet the span have many versions and
+    /// one begins inside it.
     pub fn middle(&self, span: Span) -> Option<i64>
         ensures inside { IfSome result (λ t. (span.lo <ℤ t) × (t <ℤ span.hi)) }
     {
@@ -270,7 +270,7 @@ impl Chunks {
         self.tree.start_in(span)
     }
 
-    /// The greatest time that is visible at a position, and `None` exactly where no version is.
+    /// The greatest time that is visible at a position, and `None` if and only if no version is.
     pub fn last(&self, pos: u64) -> Option<i64>
         ensures last { result ≡ latest_at pos self.now.versions }
     {

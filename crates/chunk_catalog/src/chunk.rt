@@ -16,7 +16,7 @@ use std::marker::Model;
 use ts_bucket::{Hull, Span};
 use ts_schema::{NoMemory, Row, Seq, Steps, Test};
 
-/// The versions of a chunk, of which there is one at least, with its start.
+/// The versions of a chunk, at least one, with its start.
 #[derive(Drop)]
 pub struct Chunk {
     start: i64,
@@ -31,7 +31,7 @@ impl Model for Chunk {
     ghost view = { λ c. record { start = c.start; versions = c.pile.0; levels = c.pile.1 } };
 }
 
-/// What a delete made of a chunk.
+/// A chunk after a delete.
 #[derive(Drop)]
 pub struct KilledChunk {
     pub chunk: Chunk,
@@ -61,7 +61,7 @@ impl Chunk {
         self.start
     }
 
-    /// How many versions there are.
+    /// The number of versions.
     pub fn count(&self) -> u64
         ensures count { result ≡ length self.now.versions }
         ensures some { 0 < result }
@@ -77,7 +77,7 @@ impl Chunk {
         self.pile.died_out()
     }
 
-    /// The same chunk again.
+    /// A copy of the chunk.
     pub fn copy(&self) -> Result<Chunk, NoMemory>
         ensures same { IfOk result (λ copy. copy ≡ self.now) }
     {
@@ -100,7 +100,7 @@ impl Chunk {
         })
     }
 
-    /// A delete at a position, where all times that pass the tests lie in a range.
+    /// A delete at a position, if all times that pass the tests lie in a range.
     pub fn kill(
         &self,
         alloc: Global,
@@ -142,8 +142,7 @@ impl Chunk {
         self.pile.scan(pos, span, out, steps)
     }
 
-    /// A delete at a position, where the start lies in a range, and all times that pass the tests in
-    /// another one.
+    /// A delete at a position, if the start lies in a range, and all times that pass the tests in another one.
     #[tactic(auto, using(crate::proofs::PlaceLaws::reached_in, crate::proofs::PlaceLaws::reached_out, crate::proofs::PlaceLaws::killed_in, crate::proofs::PlaceLaws::killed_out, seg_rows::proofs::VersionLaws::parts))]
     pub fn kill_in(
         &self,
@@ -173,7 +172,7 @@ impl Chunk {
         })
     }
 
-    /// The same as `scan` where the start lies in a range, and nothing elsewhere.
+    /// The same as `scan` if the start lies in a range, and otherwise nothing.
     #[tactic(auto, using(crate::proofs::PlaceLaws::reached_in, crate::proofs::PlaceLaws::reached_out, crate::proofs::PlaceLaws::killed_in, crate::proofs::PlaceLaws::killed_out, seg_rows::proofs::VersionLaws::parts))]
     pub fn scan_in<L>(
         &self,
@@ -195,7 +194,7 @@ impl Chunk {
         }
     }
 
-    /// How many versions there are, where the start lies in a range.
+    /// The number of versions if the start lies in a range, and otherwise 0.
     #[tactic(auto, using(crate::proofs::PlaceLaws::reached_in, crate::proofs::PlaceLaws::reached_out, crate::proofs::PlaceLaws::killed_in, crate::proofs::PlaceLaws::killed_out, seg_rows::proofs::VersionLaws::parts))]
     pub fn count_in(&self, reach: TimeRange) -> u64
         ensures held { result ≡ length (versions_in reach (placed_in self.now)) }
@@ -207,8 +206,8 @@ impl Chunk {
         }
     }
 
-    /// The greatest of a time and the times that are visible at a position. Where the chunk holds no
-    /// later time, it isn't looked at.
+    /// The greatest of a time and the times that are visible at a position. If the chunk holds no later time,
+    /// it isn't read.
     pub fn last_of(&self, interval: i64, pos: u64, best: Option<i64>) -> Option<i64>
         requires interval { IsInterval interval }
         requires placed { ArePlaced interval (placed_in self.now) }

@@ -44,7 +44,7 @@ pub fn put_rows(
     Ok(tree)
 }
 
-/// The same rows by their times: themselves, where they stand so, and else copies.
+/// The same rows in the order of their times: the rows themselves if they are in order, and otherwise copies.
 fn rows_by_time(alloc: Global, rows: SharedSlice<Row>) -> Result<SharedSlice<Row>, NoMemory>
     ensures rows { IfOk result (λ sorted. AsOften sorted rows) }
 {
@@ -55,7 +55,7 @@ fn rows_by_time(alloc: Global, rows: SharedSlice<Row>) -> Result<SharedSlice<Row
     SharedSlice::of(alloc, Seq::of(sorted))
 }
 
-/// The same rows by their times.
+/// Sorts rows by their times.
 fn sorted_rows(rows: Seq<Row>) -> Result<Vec<Row>, NoMemory>
     ensures rows { IfOk result (λ sorted. AsOften sorted.items rows) }
 {
@@ -74,7 +74,7 @@ fn put_part(alloc: Global, tree: &Tree, part: Part, pos: u64) -> Result<Tree, No
     tree.with(alloc, part.start, segment)
 }
 
-/// Takes the last rows off, as many as are in one chunk.
+/// Removes and returns the last rows that are in one chunk.
 fn last_part(interval: i64, rows: &mut SharedSlice<Row>) -> Result<Part, NoMemory>
     requires interval { IsInterval interval }
     requires times { HaveTimes rows.old }
@@ -94,7 +94,7 @@ fn last_part(interval: i64, rows: &mut SharedSlice<Row>) -> Result<Part, NoMemor
     Ok(part)
 }
 
-/// The first of the last rows that are all in one chunk, of which this is the start.
+/// The place of the first of the last rows that are all in one chunk, which has this start.
 fn part_begin(interval: i64, start: i64, rows: &[Row]) -> usize
     requires interval { IsInterval interval }
     requires times { HaveTimes rows.now }
@@ -111,7 +111,7 @@ fn part_begin(interval: i64, start: i64, rows: &[Row]) -> usize
     from
 }
 
-/// Whether the chunk with this start holds the time of a row. It takes no division.
+/// Whether the chunk with this start holds the time of a row. It needs no division.
 fn is_in(interval: i64, start: i64, row: &Row) -> bool
     requires interval { IsInterval interval }
     requires start { IsStart interval start }

@@ -1,8 +1,8 @@
-//! Segments of a chunk in the order in which they came.
+//! Segments of a chunk in the order of their insertion.
 //!
-//! Small segments are joined as they gather, as in a binary counter: a row is copied about once for
-//! each doubling of the segment that holds it, up to the limit. Beyond it segments hang in a tree
-//! whose right side is no larger than its left, so that a new segment changes one path.
+//! Small segments are joined as they accumulate, as in a binary counter. A row is copied about once for each
+//! doubling of its segment, up to a limit. Larger segments are in a tree whose right side is at most as large
+//! as its left, so that a new segment changes one path.
 ghost use Rattle.std.specs.Prelude.{◌≡◌, ◌<◌, ◌+◌, ◌*◌, ◌^◌, ◌++◌, ℕ, List, [], true, length, map, IfOk, IfSome, OnOk, OnErr};
 ghost use Rattle.std.specs.Arc.{arc_value};
 ghost use Rattle.seg_rows.specs.Hulls.{hull_of};
@@ -21,15 +21,15 @@ use std::sync::Arc;
 use ts_bucket::{Hull, Span};
 use ts_schema::{NoMemory, Row, Seq, Steps, Test};
 
-/// Segments that together have at most so many versions are joined in any case.
+/// Segments that together have at most this many versions are always joined.
 const FEW: u64 = 16;
 
-/// No joined segment has more versions. With so many, a scan spends little on a segment beside its rows. To
-/// join larger segments would copy each row, although they share it with the list that came in, and store
-/// where each was inserted.
+/// The greatest number of versions of a joined segment. At this size, a scan spends little on a segment
+/// compared with its rows. Joining larger segments would copy each row, which they share with the inserted
+/// list, and store where each was inserted.
 const MANY: u64 = 64;
 
-/// Segments in order. Contracts see their versions, and how many levels there are.
+/// Segments in order. Contracts see their versions, and the number of levels.
 #[cycle(pile)]
 #[derive(Drop)]
 pub struct SegmentTree {
@@ -40,7 +40,7 @@ pub struct SegmentTree {
 #[derive(Drop)]
 enum Shape {
     Leaf(Segment),
-    /// The earlier segments, the later ones, how many versions there are, the hull of their times, and the
+    /// The earlier segments, the later ones, the number of versions, and the hull of their times. Also the
     /// position of the last delete, if all versions are deleted.
     Fork(Arc<SegmentTree>, Arc<SegmentTree>, u64, Option<Hull>, Option<u64>),
 }
@@ -64,7 +64,7 @@ impl Model for SegmentTree {
     ghost size_decreases = { λ a h. Prim.grind arith };
 }
 
-/// What a delete left of a segment tree.
+/// A segment tree after a delete.
 #[derive(Drop)]
 pub struct KilledSegmentTree {
     pub pile: SegmentTree,
@@ -84,7 +84,7 @@ impl SegmentTree {
         }
     }
 
-    /// How many versions there are.
+    /// The number of versions.
     pub fn count(&self) -> u64
         ensures count { result ≡ length self.now.0 }
         ensures some { 0 < result }
@@ -127,8 +127,8 @@ impl SegmentTree {
         }
     }
 
-    /// Whether a delete at a position takes nothing where all times that pass its tests lie in a
-    /// range: no version lives there, or none has such a time.
+    /// Whether a delete at a position takes nothing, if all times that pass its tests lie in a range. It takes
+    /// nothing if all versions are deleted, or none has such a time.
     fn is_spared(&self, times: TimeRange, pos: u64) -> bool
         ensures spared { result ≡ true → (tests : List Test) → HoldsPassing tests times →
             taken_at pos tests self.now.0 ≡ [] }
@@ -143,7 +143,7 @@ impl SegmentTree {
         has_died(self.died_out(), pos) || is_no_later(greatest_time(self.hull()), best)
     }
 
-    /// The same segment tree again.
+    /// A copy of the segment tree.
     pub fn copy(&self) -> Result<SegmentTree, NoMemory>
         ensures same { IfOk result (λ copy. copy ≡ self.now) }
     {
@@ -176,14 +176,14 @@ impl SegmentTree {
                     return beside(alloc, self.copy()?, SegmentTree::of(segment));
                 }
                 let right = right.append(alloc, segment)?;
-                // A count that is read has 64 bits.
+                // Reading the count tells the prover that it has 64 bits.
                 let _few = right.count();
                 beside(alloc, left.copy()?, right)
             }
         }
     }
 
-    /// The segment of a tree that is a single one, joined with that of another tree, if both are small.
+    /// The segment of a tree with a single one, joined with that of another such tree, if both are small.
     fn join_segments(&self, other: &SegmentTree) -> Result<Option<Segment>, NoMemory>
         ensures joined { IfOk result (λ joined. IfSome joined (λ s. s ≡ self.now.0 ++ other.now.0)) }
     {
@@ -193,7 +193,7 @@ impl SegmentTree {
         }
     }
 
-    /// A segment joined with that of a tree that is a single one, if both are small.
+    /// A segment joined with that of a tree with a single one, if both are small.
     fn joined_after(&self, first: &Segment) -> Result<Option<Segment>, NoMemory>
         ensures joined { IfOk result (λ joined. IfSome joined (λ s. s ≡ first.now ++ self.now.0)) }
     {
@@ -203,7 +203,7 @@ impl SegmentTree {
         }
     }
 
-    /// A delete at a position, where all times that pass the tests lie in a range.
+    /// A delete at a position, if all times that pass the tests lie in a range.
     #[tactic(auto, using(seg_rows::proofs::VersionLaws::parts, seg_rows::proofs::VersionLaws::kill_nothing, ts_schema::proofs::Cases::and_first, ts_schema::proofs::Cases::and_second, seg_rows::proofs::VersionLaws::taken_few))]
     pub fn kill(
         &self,
@@ -270,8 +270,8 @@ impl SegmentTree {
         }
     }
 
-    /// The greatest of a time and the times that are visible at a position. The later segments come
-    /// first, and those that hold no later time aren't looked at.
+    /// The greatest of a time and the times that are visible at a position. The later segments come first, and
+    /// those that hold no later time aren't read.
     #[tactic(auto, using(seg_rows::proofs::VersionLaws::parts))]
     pub fn last_of(&self, pos: u64, best: Option<i64>) -> Option<i64>
         ensures last { result ≡ later_time best (latest_at pos self.now.0) }
@@ -305,7 +305,7 @@ fn beside(alloc: Global, left: SegmentTree, right: SegmentTree) -> Result<Segmen
     requires countable { length left.0 + length right.0 < 2 ^ 64 }
     ensures versions { IfOk result (λ pile. pile.0 ≡ left.0 ++ right.0) }
 {
-    // A count that is read has 64 bits.
+    // Reading the count tells the prover that it has 64 bits.
     let _some = left.count();
     match left.join_segments(&right)? {
         Some(segment) => Ok(SegmentTree::of(segment)),
@@ -329,8 +329,8 @@ fn fork(alloc: Global, left: SegmentTree, right: SegmentTree) -> Result<SegmentT
     })
 }
 
-/// Two segments as one, where they are few, or where the first isn't much the larger and the limit
-/// isn't passed.
+/// Two segments joined into one, if they have few versions, or if the first isn't much larger and the limit
+/// isn't exceeded.
 fn joined_if_small(first: &Segment, second: &Segment) -> Result<Option<Segment>, NoMemory>
     ensures joined { IfOk result (λ joined. IfSome joined (λ s. s ≡ first.now ++ second.now)) }
 {
@@ -341,7 +341,7 @@ fn joined_if_small(first: &Segment, second: &Segment) -> Result<Option<Segment>,
     }
 }
 
-/// Whether segments of such sizes are joined.
+/// Whether segments of these sizes are joined.
 fn is_joined(first: u64, second: u64) -> bool {
     let both = first.saturating_add(second);
     both <= FEW || (both <= MANY && first / 2 <= second)

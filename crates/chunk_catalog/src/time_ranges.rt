@@ -12,7 +12,7 @@ ghost use Rattle.chunk_catalog.specs.Places.{NonePassesOutside};
 use ts_bucket::{Hull, Span};
 use ts_schema::{Cmp, Test};
 
-/// The numbers from `first` to `last`, both included. Where `first` is above `last`, there is none.
+/// The numbers from `first` to `last`, both included. There are none if `first` is above `last`.
 #[derive(Clone, Copy, Debug)]
 pub struct TimeRange {
     pub first: i64,
@@ -39,7 +39,7 @@ impl TimeRange {
     }
 }
 
-/// A number lowered by another one, or the least number of the type.
+/// A number minus another one, or the least number of the type.
 fn lower_by(t: i64, by: i64) -> i64
     requires { pos 0 ≤ℤ by }
     ensures floor { (s : ℤ) → i64.MIN ≤ℤ s → int_le result s ≡ int_le (t -ℤ by) s }
@@ -75,7 +75,7 @@ pub fn drop_reach(interval: i64, n: i64) -> TimeRange
     }
 }
 
-/// The starts of the chunks that may hold a row that passes tests, where its time lies in a range.
+/// The starts of the chunks that may hold a row that passes tests, if its time lies in a range.
 pub fn start_reach(interval: i64, times: TimeRange) -> TimeRange
     requires { IsInterval interval }
     ensures missed { (tests : List Test) → HoldsPassing tests times → NonePassesOutside interval tests result }
@@ -86,7 +86,7 @@ pub fn start_reach(interval: i64, times: TimeRange) -> TimeRange
     }
 }
 
-/// Times among which are those of all rows that pass every test.
+/// A range that holds the times of all rows that pass every test.
 pub fn test_times(tests: &[Test]) -> TimeRange
     ensures every { HoldsPassing tests.now result }
 {
@@ -113,7 +113,7 @@ fn narrow(times: TimeRange, test: &Test) -> TimeRange
     }
 }
 
-/// What two ranges have in common.
+/// The common part of two ranges.
 fn both(a: TimeRange, b: TimeRange) -> TimeRange
     ensures both { (t : ℤ) → in_reach a t ≡ true → in_reach b t ≡ true → in_reach result t ≡ true }
 {

@@ -1,4 +1,4 @@
-//! Chunks in the order of their starts, in a balanced tree of which a change copies one path.
+//! Chunks in the order of their starts, in a balanced tree. A change copies one path of it.
 ghost use Rattle.std.specs.Prelude.{◌≡◌, ◌<◌, ◌<ℤ◌, ◌+◌, ◌^◌, ◌++◌, ℕ, List, [], suc, max, true, length, map, IfOk, IfSome, OnOk, OnErr};
 ghost use Rattle.std.specs.Arc.{arc_value};
 ghost use Rattle.seg_rows.specs.Hulls.{hull_at, hull_of, joined_hull};
@@ -19,7 +19,7 @@ use std::sync::Arc;
 use ts_bucket::{Hull, Span};
 use ts_schema::{NoMemory, Row, Seq, Steps, Test};
 
-/// Chunks in order. Contracts see their versions, and how many levels there are.
+/// Chunks in order. Contracts see their versions, and the number of levels.
 #[cycle(tree)]
 #[derive(Drop)]
 pub struct Tree {
@@ -30,8 +30,8 @@ pub struct Tree {
 #[derive(Drop)]
 enum Node {
     Empty,
-    /// The chunks before this one, this one, the chunks after it, the hull of all their starts, how many
-    /// levels there are, and the position of the last delete, if all versions are deleted.
+    /// The chunks before this one, this one, the chunks after it, the hull of all their starts, and the number
+    /// of levels. Also the position of the last delete, if all versions are deleted.
     Fork(Arc<Tree>, Chunk, Arc<Tree>, Hull, u64, Option<u64>),
 }
 
@@ -53,7 +53,7 @@ impl Model for Tree {
     ghost size_decreases = { λ a h. Prim.grind arith };
 }
 
-/// What a delete made of a tree.
+/// A tree after a delete.
 #[derive(Drop)]
 pub struct KilledTree {
     pub tree: Tree,
@@ -69,7 +69,7 @@ impl Tree {
         Tree { node: Node::Empty }
     }
 
-    /// How many levels of chunks there are.
+    /// The number of levels of chunks.
     pub fn height(&self) -> u64
         ensures height { result ≡ self.now.1.chunks }
         ensures few { FewLevels self.now.1 (length self.now.0) }
@@ -110,8 +110,8 @@ impl Tree {
         }
     }
 
-    /// Whether a delete at a position takes nothing from the chunks whose starts lie in a range: no
-    /// version lives there, or there is no such chunk.
+    /// Whether a delete at a position takes nothing from the chunks whose starts lie in a range. It takes
+    /// nothing if all versions are deleted, or there is no such chunk.
     fn is_spared(&self, reach: TimeRange, pos: u64) -> bool
         ensures spared { result ≡ true → (tests : List Test) → taken_at pos tests (versions_in reach self.now.0) ≡ [] }
     {
@@ -139,7 +139,7 @@ impl Tree {
         }
     }
 
-    /// The same tree again.
+    /// A copy of the tree.
     pub fn copy(&self) -> Result<Tree, NoMemory>
         ensures same { IfOk result (λ copy. copy ≡ self.now) }
     {
@@ -188,8 +188,8 @@ impl Tree {
         }
     }
 
-    /// A delete at a position in the chunks whose starts lie in a range, where all times that pass the
-    /// tests lie in another one.
+    /// A delete at a position in the chunks whose starts lie in a range, if all times that pass the tests lie
+    /// in another one.
     #[tactic(auto, using(crate::proofs::PlaceLaws::out_reached, crate::proofs::PlaceLaws::out_killed))]
     pub fn kill(
         &self,
@@ -249,7 +249,7 @@ impl Tree {
         }
     }
 
-    /// How many versions the chunks have whose starts lie in a range.
+    /// The number of versions of the chunks whose starts lie in a range.
     #[tactic(auto, using(crate::proofs::PlaceLaws::places, crate::proofs::PlaceLaws::out_reached, crate::proofs::PlaceLaws::reached_few, seg_rows::proofs::VersionLaws::parts))]
     pub fn held(&self, reach: TimeRange) -> u64
         requires countable { length self.now.0 < 2 ^ 64 }
@@ -266,7 +266,7 @@ impl Tree {
         }
     }
 
-    /// The start of a chunk inside a span, of those the one nearest to the top.
+    /// The start of a chunk inside a span: the one nearest to the root.
     pub fn start_in(&self, span: Span) -> Option<i64>
         ensures inside { IfSome result (λ t. (span.lo <ℤ t) × (t <ℤ span.hi)) }
     {
@@ -285,8 +285,8 @@ impl Tree {
         }
     }
 
-    /// The greatest of a time and the times that are visible at a position. The latest chunks come
-    /// first, and those that hold no later time aren't looked at.
+    /// The greatest of a time and the times that are visible at a position. The latest chunks come first, and
+    /// those that hold no later time aren't read.
     #[tactic(auto, using(crate::proofs::PlaceLaws::places, crate::proofs::PlaceLaws::later_first, seg_rows::proofs::VersionLaws::parts))]
     pub fn last(&self, interval: i64, pos: u64, best: Option<i64>) -> Option<i64>
         requires interval { IsInterval interval }
@@ -307,7 +307,7 @@ impl Tree {
     }
 }
 
-/// A tree that a delete left alone.
+/// A tree that a delete didn't change.
 fn unchanged_tree(tree: Tree) -> KilledTree
     ensures tree { result.tree ≡ tree }
     ensures removed { result.removed ≡ 0 }
@@ -320,7 +320,7 @@ fn unchanged_tree(tree: Tree) -> KilledTree
     }
 }
 
-/// A tree as it became, or the old one where nothing was removed.
+/// A tree after a change, or the old one if nothing was removed.
 fn replace_if_changed(
     alloc: Global,
     old: &Arc<Tree>,
@@ -338,7 +338,7 @@ fn replace_if_changed(
     }
 }
 
-/// What deletes made of two trees and a chunk between them, as one tree.
+/// Two trees and a chunk between them after deletes, as one tree.
 fn after_kills(
     alloc: Global,
     left: &Arc<Tree>,
@@ -373,7 +373,7 @@ fn fork(left: Arc<Tree>, chunk: Chunk, right: Arc<Tree>) -> Tree
     requires countable { length (tree_over (arc_value left) chunk (arc_value right)).0 < 2 ^ 64 }
     ensures tree { result ≡ tree_over (arc_value left) chunk (arc_value right) }
 {
-    // A count that is read has 64 bits.
+    // Reading the count tells the prover that it has 64 bits.
     let _some = chunk.count();
     let starts = hull_with(&chunk, join_hulls(left.starts(), right.starts()));
     let height = left.height().max(right.height()) + 1;
@@ -386,7 +386,7 @@ fn fork(left: Arc<Tree>, chunk: Chunk, right: Arc<Tree>) -> Tree
     }
 }
 
-/// The least hull that holds the start of a chunk and what another hull holds.
+/// The least hull that holds the start of a chunk and another hull.
 fn hull_with(chunk: &Chunk, others: Option<Hull>) -> Hull
     ensures joined { Some result ≡ joined_hull (hull_at chunk.now.start) others }
 {
@@ -403,7 +403,7 @@ fn hull_with(chunk: &Chunk, others: Option<Hull>) -> Hull
     }
 }
 
-/// The same as `fork`, of copies.
+/// The same as `fork`, with copies.
 fn fork_of_copies(left: &Arc<Tree>, chunk: &Chunk, right: &Arc<Tree>) -> Result<Tree, NoMemory>
     requires even { AreLevel (arc_value left.now).1 (arc_value right.now).1 }
     requires countable { length (tree_over (arc_value left.now) chunk.now (arc_value right.now)).0 < 2 ^ 64 }
@@ -433,7 +433,7 @@ fn fork_with_segment(
     Ok(fork(Arc::try_clone(left)?, chunk, Arc::try_clone(right)?))
 }
 
-/// The same as `join_segments`, to be a part of another tree.
+/// The same as `fork`, as a shared part of another tree.
 fn share_fork(
     alloc: Global,
     left: &Arc<Tree>,
@@ -448,7 +448,7 @@ fn share_fork(
     Ok(Arc::new(alloc, fork_of_copies(left, chunk, right)?)?)
 }
 
-/// The same as `join_segments`, where one side may have two levels more than the other.
+/// The same as `fork`, if one side may have two more levels than the other.
 fn balance(
     alloc: Global,
     left: &Arc<Tree>,
@@ -470,7 +470,7 @@ fn balance(
     }
 }
 
-/// The same as `join_segments`, where the left side is the higher: a part of it moves to the right.
+/// The same as `fork`, if the left side is higher: a part of it moves to the right.
 fn lean_right(
     alloc: Global,
     left: &Arc<Tree>,
@@ -495,7 +495,7 @@ fn lean_right(
     }
 }
 
-/// Five parts in order as one tree: the second tree is spread over both sides.
+/// Five parts in order as one tree: the parts of the second tree go to both sides.
 fn spread_left(
     alloc: Global,
     first: &Arc<Tree>,
@@ -525,7 +525,7 @@ fn spread_left(
     }
 }
 
-/// The same as `join_segments`, where the right side is the higher: a part of it moves to the left.
+/// The same as `fork`, if the right side is higher: a part of it moves to the left.
 fn lean_left(
     alloc: Global,
     left: &Arc<Tree>,
@@ -550,7 +550,7 @@ fn lean_left(
     }
 }
 
-/// Five parts in order as one tree: the second tree is spread over both sides.
+/// Five parts in order as one tree: the parts of the second tree go to both sides.
 fn spread_right(
     alloc: Global,
     first: &Arc<Tree>,

@@ -1,4 +1,4 @@
--- The notes that a valid image gives cover each aggregate.
+-- The notes of a valid image cover each aggregate.
 use Rattle.std.proofs.Common.{◌≡◌, ℕ, zero, suc, ◌≤◌, Bool, true, false, ◌&&◌, ◌||◌, cond, nat_lt, nat_le, ◌==◌, List, [], ◌∷◌, ℤ, ◌+ℤ◌, ◌≤ℤ◌, Option, Some, None, refl, sym, ap, ◌∙◌, subst, arith}
 use Rattle.std.specs.Prelude.{is_some, is_none, unwrap_or, slice_get}
 use Rattle.std.specs.Int.{int_max}

@@ -21,7 +21,7 @@ use Rattle.coverage.specs.Coverage.{RisesFrom, is_upto}
 missed : (w : Width) (b threshold : ℤ) (hull : Hull) → (b +ℤ w.step) ≤ℤ threshold → int_lt hull.least threshold ≡ false → meets w b hull ≡ false
 missed w b threshold hull below above = grind (arith, ints)
 
--- in a bucket that ends at or below the threshold, a commit's hull is logged where it meets the bucket
+-- in a bucket that ends at or below the threshold, a commit's hull is logged if it meets the bucket
 pub log_touch-logged : (w : Width) (b : ℤ) (hull : Option Hull) (k : ℕ) (threshold : ℤ) (log : List Noted) → (b +ℤ w.step) ≤ℤ threshold → log_touch w b (log_after hull k threshold log) ≡ later (log_touch w b log) (cond (is_met w b hull) (Some k) None)
 log_touch-logged w b None k threshold log below = sym (later-none (log_touch w b log))
 log_touch-logged w b (Some hull) k threshold log below =
@@ -36,7 +36,7 @@ rises_below : (q r : ℕ) (p : Option ℕ) → is_before q p ≡ true → nat_lt
 rises_below q r None e f = refl
 rises_below q r (Some p) e f = grind (arith, nat_tests)
 
--- what rises from a position rises from each before it
+-- a log that rises from a position rises from each earlier one
 pub rises_from_before : (p : Option ℕ) (q : ℕ) (log : List Noted) → is_before q p ≡ true → RisesFrom (Some q) log → RisesFrom p log
 rises_from_before p q [] e r = tt
 rises_from_before p q (entry ∷ log) e r = (rises_below q entry.at p e r.0, r.1)
@@ -120,7 +120,7 @@ is_some-fed w b last p [] e = e
 is_some-fed w b last p (entry ∷ log) e =
     is_some-fed w b last (fed_one w b last entry p) log (elim (meets w b entry.hull && is_before entry.at last) as (λ t. is_some (cond t (Some entry.at) p) ≡ true) [ true ↦ refl | false ↦ e ])
 
--- an entry that meets the bucket is fed exactly where it is above the last refresh
+-- an entry that meets the bucket is fed if and only if it is above the last refresh
 fed_above : (last : Option ℕ) (q : ℕ) → is_some (above_last last (Some q)) ≡ is_before q last
 fed_above None q = refl
 fed_above (Some s) q = is_some-above s (Some q)
@@ -138,7 +138,8 @@ some_one w b last p entry =
     choice false None = refl
     choice false (Some q) = refl
 
--- something is pending after a log was fed exactly where something was pending, or the log touches the bucket above the last refresh
+-- something is pending after a log was fed if and only if something was pending, or the log touches the bucket
+-- above the last refresh
 pub some-fed : (w : Width) (b : ℤ) (last p : Option ℕ) (log : List Noted) → is_some (pending_after w b last log p) ≡ (is_some p || is_some (above_last last (log_touch w b log)))
 some-fed w b last p [] = sym (ap (λ q. is_some p || is_some q) (above_last-nothing last) ∙ or-false (is_some p))
 some-fed w b last p (entry ∷ log) =
@@ -165,7 +166,7 @@ pub fresh-fed : (w : Width) (b : ℤ) (last p : Option ℕ) (log : List Noted) �
 fresh-fed w b last p [] e = e
 fresh-fed w b last p (entry ∷ log) e = fresh-fed w b last (fed_one w b last entry p) log (fresh_one w b last p entry e)
 
--- and not after what the log reaches
+-- and not after the last position of the log
 pub past-fed : (m : ℕ) (w : Width) (b : ℤ) (last p : Option ℕ) (log : List Noted) → is_above m p ≡ false → is_upto m log ≡ true → is_above m (pending_after w b last log p) ≡ false
 past-fed m w b last p [] past upto = past
 past-fed m w b last p (entry ∷ log) past upto =
@@ -180,11 +181,11 @@ pub above-pending : (s : ℕ) (last p q : Option ℕ) → is_above s last ≡ fa
 above-pending s last p q low =
     above-later s p (above_last last q) ∙ (ap (later (above s p)) (above-above_last s last q low) ∙ sym (above-later s p q))
 
--- with an empty log it is what is pending
+-- with an empty log the pending position is what is pending
 pub pending-alone : (last p : Option ℕ) → later p (above_last last None) ≡ p
 pending-alone last p = ap (later p) (above_last-nothing last) ∙ later-none p
 
--- it is above the last refresh, where what is pending is
+-- the pending position is above the last refresh, if what is pending is
 pub fresh-pending : (last p q : Option ℕ) → above_last last p ≡ p → above_last last (later p (above_last last q)) ≡ later p (above_last last q)
 fresh-pending last p q e =
     above_last-later last p (above_last last q) ∙ (ap (λ x. later x (above_last last (above_last last q))) e ∙ ap (later p) (above_last-twice last q))

@@ -1,4 +1,5 @@
--- Laws of histories that coverage needs: where cuts are, when an aggregate is there, and that nothing is from later.
+-- Laws of histories that coverage needs: where cuts are, when an aggregate exists, and that nothing has a later
+-- position.
 use Rattle.std.proofs.Common.{◌≡◌, ℕ, suc, Bool, true, false, ◌&&◌, ◌||◌, cond, nat_le, ◌==◌, List, [], ◌∷◌, ℤ, Option, Some, None, refl, sym, ap, ◌∙◌, subst, arith}
 use Rattle.std.proofs.lemmas.Bool.{true≢false, and_parts, or_from, eqb-true}
 use Rattle.ts_bucket.specs.Positions.{later, is_above}
@@ -22,7 +23,7 @@ use Rattle.ts_model.specs.Saved.{pos_in, is_dirty}
 use Rattle.ts_model.specs.Valid.{is_number, image_roster}
 use Rattle.ts_model.proofs.ValidLaws.{valid_is, among_at, span_within, absent_kept}
 
--- ---- nothing is from later
+-- ---- nothing has a later position
 
 -- the last touch is not after the history
 pub touched_past : (n : ℕ) (def : ViewDef) (h : History) (b : ℤ) → is_above (position h) (last_touch n def h b) ≡ false
@@ -34,9 +35,9 @@ touched_past n def (h ▸ Commit ops) b =
     (elim (touches def ops h b) as (λ t. is_above (suc (position h)) (cond t (Some (suc (position h))) None) ≡ false) [ true ↦ is_above-at (suc (position h)) (suc (position h)) (omega arith) | false ↦ refl ])
 touched_past n def (h ▸ x) b = is_above-greater (position h) (suc (position h)) (last_touch n def h b) (omega arith) (touched_past n def h b)
 
--- ---- an aggregate that isn't there
+-- ---- a missing aggregate
 
--- an aggregate that isn't there after an event wasn't there before it
+-- a missing aggregate after an event wasn't there before it
 absent_in : (was now : Option ViewDef) → ((def : ViewDef) → was ≡ Some def → KeepsView def now) → now ≡ None → was ≡ None
 absent_in None now keeps e = refl
 absent_in (Some def) now keeps e = let there = (keeps def refl).there in absurd (cc)
@@ -44,7 +45,7 @@ absent_in (Some def) now keeps e = let there = (keeps def refl).there in absurd 
 pub absent_before : (h : History) (e : Event) (n : ℕ) → view_of (roster (h ▸ e)) n ≡ None → view_of (roster h) n ≡ None
 absent_before h e n none = absent_in (view_of (roster h) n) (view_of (roster (h ▸ e)) n) ((relations_further (roster h) e).views n) none
 
--- a cut of another aggregate is none of this
+-- a cut of another aggregate isn't a cut of this one
 pub other_cut : (here mine : Bool) (span : Span) (o : Option Span) → mine ≡ false → cond (here && mine) (Some span) o ≡ o
 other_cut true mine span o e = ap (λ t. cond t (Some span) o) e
 other_cut false mine span o e = refl

@@ -58,7 +58,7 @@ commits_keep n def h ops notes covered = record {
 
 -- ---- a cut
 
--- nothing is above a position that isn't before anything
+-- nothing is above a position that isn't before any other
 nothing_above : (m s : ℕ) (p q : Option ℕ) → m ≤ s → is_above m p ≡ false → is_above m q ≡ false → above s p ≡ above s q
 nothing_above m s p q l e f = above-nothing s p (is_above-greater m s p l e) ∙ sym (above-nothing s q (is_above-greater m s q l f))
 
@@ -142,7 +142,7 @@ raised_is : (covers : Bool) (p : Option ℕ) (snap : ℕ) → cond covers (later
 raised_is true p snap = refl
 raised_is false p snap = sym (later-none p)
 
--- what isn't above a snapshot that settles isn't pending
+-- after a finish, nothing up to its snapshot is pending
 settle_exact : (covers : Bool) (s snap : ℕ) (last p q t : Option ℕ) → is_above s (later last (cond covers (Some snap) None)) ≡ false → above s (later p q) ≡ above s t → above s (later (cond covers (above snap p) p) q) ≡ above s t
 settle_exact true s snap last p q t low e =
     let parts : (is_above s last ≡ false) × (is_above s (Some snap) ≡ false) = or_parts (is_above s last) (is_above s (Some snap)) (sym (is_above-later s last (Some snap)) ∙ low) in
@@ -205,9 +205,10 @@ finishes_clear n def h cut snap span b notes covered bucket this inside =
     let P : Bool → Type 0 = λ t. above snap (later (cond t (above snap (notes.pending b)) (notes.pending b)) (above_last (cond t (later (notes.refreshed b) (Some snap)) (notes.refreshed b)) touch)) ≡ later (cond t (above snap (notes.pending b)) (notes.pending b)) (above_last (cond t (later (notes.refreshed b) (Some snap)) (notes.refreshed b)) touch) in
     subst P (sym covers) (above-raised (notes.refreshed b) (later (above snap (notes.pending b)) (above_last (later (notes.refreshed b) (Some snap)) touch)) snap fresh_now)
 
--- ---- events of which the notes hear nothing
+-- ---- events that don't change the notes
 
--- an event that doesn't bear on the aggregate: its cuts, refreshes and touches stay, and it is there afterwards only where it was
+-- an event that doesn't change the aggregate: its cuts, refreshes and touches stay, and it exists afterwards
+-- only if it did before
 quiet : (n : ℕ) (def : ViewDef) (h : History) (e : Event) (notes : Notes) → ((b : ℤ) → last n (h ▸ e) b ≡ last n h b) → ((b : ℤ) (s : ℕ) → was_cut n (h ▸ e) b s ≡ was_cut n h b s) → ((b : ℤ) → last_touch n def (h ▸ e) b ≡ last_touch n def h b) → (is_some (view_of (roster (h ▸ e)) n) ≡ true → is_some (view_of (roster h) n) ≡ true) → IsCovered n def h notes → IsCovered n def (h ▸ e) notes
 quiet n def h e notes lasts cuts touched there covered = record {
   refreshed = λ b bucket. covered.refreshed b bucket ∙ sym (lasts b);
@@ -220,7 +221,7 @@ quiet n def h e notes lasts cuts touched there covered = record {
   log_past = upto_next (position h) notes.log covered.log_past;
 }
 
--- a list that grows at its end has nothing new at another place
+-- a list that grows at its end changes at no other place
 apart : (a b : ℕ) → (a == b) ≡ false → a ≢ b
 apart a b e = λ same. absurd (grind (arith, nat_tests))
 

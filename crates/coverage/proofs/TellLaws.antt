@@ -1,4 +1,4 @@
--- What notes that cover an aggregate tell.
+-- What notes that cover an aggregate say.
 use Rattle.std.proofs.Common.{◌≡◌, ℕ, Bool, true, false, ◌&&◌, ◌||◌, ℤ, Option, Some, None, refl, sym, ap, ◌∙◌, arith}
 use Rattle.std.specs.Prelude.{is_some, is_none}
 use Rattle.std.proofs.lemmas.Bool.{or_left}
@@ -43,7 +43,8 @@ tells_invalid n def h notes b None never touched =
 tells_invalid n def h notes b (Some s) never touched =
     ap is_some (touched s refl) ∙ is_some-above s (last_touch n def h b)
 
--- what was never refreshed is pending, so what is dirty, or noted after the last refresh, is what has a pending position
+-- a bucket that was never refreshed is pending, so the buckets that are dirty, or noted after their last
+-- refresh, are those with a pending position
 dirty_is : (last p q : Option ℕ) → (is_some last || is_some p) ≡ true → ((is_none last || is_some p) || is_some q) ≡ is_some (later p q)
 dirty_is None p q e = sym (is_some-later p q ∙ or_left _ _ e)
 dirty_is (Some s) p q e = sym (is_some-later p q)

@@ -1,4 +1,5 @@
--- A worked history: two refreshes of one bucket overlap, the older one is finished last, and the notes tell what is pending.
+-- A worked history: two refreshes of one bucket overlap, the older one is finished last, and the notes say what
+-- is pending.
 use Rattle.std.proofs.Common.{◌≡◌, ℕ, true, false, [], ◌∷◌, pos, Some, None, refl}
 use Rattle.std.specs.Prelude.{codes}
 use Rattle.ts_num.specs.declared.values.Fun.TheVariants.{CountAll}
@@ -28,7 +29,7 @@ counts = record {
 abbrev put : ℕ → Event
 put t = Commit (Insert 0 (record { at = pos t; vals = [] } ∷ []) ∷ [])
 
--- 1 to 3 make a table and the aggregate; 4 and 5 insert a row and cut its bucket
+-- 1 to 3 create a table and the aggregate; 4 and 5 insert a row and cut its bucket
 abbrev cut : History
 cut = start ▸ Table (record { name = codes "m"; cols = record { name = codes "time"; must = true } ∷ [] }) ▸ Hyper 0 (record { at = 0; interval = pos 100 }) ▸ View counts ▸ put 15 ▸ Cut 0 (record { lo = pos 10; hi = pos 20 })
 
@@ -58,7 +59,7 @@ last_refresh = refl
 pending_above : pending_position tens (notes_of 0 counts finished) (pos 20) ≡ Some 8
 pending_above = refl
 
--- a bucket that was never refreshed is pending from where the aggregate was made
+-- a bucket that was never refreshed is pending from the position at which the aggregate was created
 never_refreshed : pending_position tens (notes_of 0 counts finished) (pos 30) ≡ Some 3
 never_refreshed = refl
 

@@ -1,4 +1,4 @@
--- Coverage: notes tell of every bucket what touched it after its last refresh.
+-- Coverage: the notes record for every bucket the commits that touched it after its last refresh.
 use Rattle.std.specs.Prelude.{◌≡◌, ℕ, Bool, true, false, ◌||◌, nat_le, List, [], ◌∷◌, ℤ, ◌+ℤ◌, ◌≤ℤ◌, Option, Some, is_some}
 use Rattle.std.specs.List.{list_all}
 use Rattle.ts_bucket.specs.Bucket.{is_bucket}
@@ -29,7 +29,7 @@ is_upto p log = list_all (λ entry. nat_le entry.at p) log
 
 -- the notes cover aggregate n
 pub record IsCovered (n : ℕ) (def : ViewDef) (h : History) (notes : Notes) : Type 0 where
-  -- what was refreshed is the last refresh
+  -- the noted refresh is the last refresh
   pub refreshed : (b : ℤ) → is_bucket def.fold.width b ≡ true → notes.refreshed b ≡ last n h b
   -- above each position that is at or above a cut of the bucket and its last refresh, the pending position is the
   -- last touch
@@ -39,17 +39,17 @@ pub record IsCovered (n : ℕ) (def : ViewDef) (h : History) (notes : Notes) : T
   -- what is pending is above the last refresh
   pub fresh :
       (b : ℤ) → is_bucket def.fold.width b ≡ true → above_last (notes.refreshed b) (notes.pending b) ≡ notes.pending b
-  -- once the aggregate is there, something is pending in each bucket that was never refreshed
+  -- once the aggregate exists, something is pending in each bucket that was never refreshed
   pub marked : (b : ℤ) → is_bucket def.fold.width b ≡ true → is_some (view_of (roster h) n) ≡ true
       → in_span (whole_span def.fold.width) b ≡ true
       → (is_some (notes.refreshed b) || is_some (notes.pending b)) ≡ true
   -- a bucket that was cut ends at or below the threshold
   pub below : (b : ℤ) (s : ℕ) → is_bucket def.fold.width b ≡ true → was_cut n h b s ≡ true
       → (b +ℤ def.fold.width.step) ≤ℤ notes.threshold
-  -- and the log rises from above what is pending there
+  -- and the log rises from a position above what is pending there
   pub rising :
       (b : ℤ) (s : ℕ) → is_bucket def.fold.width b ≡ true → was_cut n h b s ≡ true
       → RisesFrom (notes.pending b) notes.log
-  -- nothing pending or logged is from after the history
+  -- nothing pending or logged has a position after the history
   pub pending_past : (b : ℤ) → is_bucket def.fold.width b ≡ true → is_above (position h) (notes.pending b) ≡ false
   pub log_past : is_upto (position h) notes.log ≡ true

@@ -1,4 +1,5 @@
--- The laws: each event keeps the notes covering, so those of every consistent history cover, and what that means.
+-- The laws: coverage holds after each event, so it holds for the notes of every consistent history; and what
+-- coverage means.
 use Rattle.std.specs.Prelude.{◌≡◌, ℕ, suc, Bool, true, false, not, ◌&&◌, ◌==◌, length, List, ℤ, ◌+ℤ◌, ◌≤ℤ◌, int_le, Option, Some, None, is_some, is_none, ◌||◌}
 use Rattle.std.specs.Int.{int_max}
 use Rattle.ts_bucket.specs.Bucket.{IsWidth, is_bucket, first_of, min_time, max_time}
@@ -35,7 +36,7 @@ pub record EndsWhole (w : Width) (span : Span) : Type 0 where
   pub width : IsWidth w
   pub ends : is_bucket w span.hi ≡ true
 
--- a cut of any aggregate over the table, where one of this aggregate has a span that ends where a bucket does
+-- a cut of any aggregate over the table, if one of this aggregate has a span that ends where a bucket does
 abbrev pub CutsKeep : Type 0
 CutsKeep =
     (n : ℕ) (def : ViewDef) (h : History) (v : ℕ) (span : Span) (notes : Notes)
@@ -48,7 +49,7 @@ FinishesKeep =
     (n : ℕ) (def : ViewDef) (h : History) (cut snap : ℕ) (notes : Notes) → IsCovered n def h notes
     → IsCovered n def (h ▸ Built cut snap) (notes_after_refresh (span_of_cut n h cut) snap notes)
 
--- an event of which the notes of aggregate n hear nothing: a new table or mode, another aggregate, and a cut of
+-- an event that doesn't change the notes of aggregate n: a new table or mode, another aggregate, and a cut of
 -- another aggregate
 abbrev pub is_quiet : ℕ → History → Event → Bool
 is_quiet n h (View made) = not (length (roster h).views == n)
@@ -63,7 +64,7 @@ QuietKeeps =
     (n : ℕ) (def : ViewDef) (h : History) (e : Event) (notes : Notes) → is_quiet n h e ≡ true
     → IsCovered n def h notes → IsCovered n def (h ▸ e) notes
 
--- the event that makes the aggregate, on any log of its table whose positions are not after the history
+-- the event that creates the aggregate, on any log of its table whose positions are not after the history
 abbrev pub BeginningsCover : Type 0
 BeginningsCover =
     (n : ℕ) (def : ViewDef) (h : History) (made : ViewDef) (notes : Notes) → all_consistent h ≡ true
@@ -95,7 +96,7 @@ ModesKeep =
     (n : ℕ) (def : ViewDef) (only : Bool) (h : History) (notes : Notes) → IsCovered n def h notes
     → IsCovered n (set_only only def) h notes
 
--- ---- what a note may ask for
+-- ---- what notes may assume
 
 -- the hull of a consistent commit goes from a time to a time at or above it
 abbrev pub HullsAreOfTimes : Type 0
@@ -106,9 +107,9 @@ HullsAreOfTimes =
 
 -- ---- what coverage means
 
--- what notes that cover tell
+-- what notes that cover say
 pub record Tells (n : ℕ) (def : ViewDef) (h : History) (notes : Notes) : Type 0 where
-  -- what was refreshed is the last refresh
+  -- the noted refresh is the last refresh
   pub refreshed : (b : ℤ) → is_bucket def.fold.width b ≡ true → notes.refreshed b ≡ last n h b
   -- the pending position of a bucket with a last refresh is the last touch above that
   pub touched : (b : ℤ) (s : ℕ) → is_bucket def.fold.width b ≡ true → last n h b ≡ Some s
@@ -130,7 +131,7 @@ pub record Tells (n : ℕ) (def : ViewDef) (h : History) (notes : Notes) : Type 
   pub stale : (b : ℤ) → is_bucket def.fold.width b ≡ true → in_span (whole_span def.fold.width) b ≡ true
       → (is_below b (watermark n def h) && is_some (pending_position def.fold.width notes b)) ≡ stale n def h b
 
--- notes that cover an aggregate of a consistent history tell all of this
+-- notes that cover an aggregate of a consistent history say all of this
 abbrev pub CoveredTells : Type 0
 CoveredTells =
     (n : ℕ) (def : ViewDef) (h : History) (notes : Notes) → all_consistent h ≡ true
@@ -143,7 +144,7 @@ FeedsTell =
     → is_some (fed_at w notes b) ≡
     (is_some (notes.pending b) || is_some (above_last (notes.refreshed b) (log_touch w b notes.log)))
 
--- what notes that cover tell once all that is logged was fed
+-- what notes that cover say once all that is logged was fed
 pub record TellsFed (n : ℕ) (def : ViewDef) (h : History) (notes : Notes) : Type 0 where
   -- what is pending in a bucket with a last refresh is the last touch above that
   pub touched : (b : ℤ) (s : ℕ) → is_bucket def.fold.width b ≡ true → last n h b ≡ Some s
@@ -172,8 +173,8 @@ FinishesClear =
     → above snap (pending_position def.fold.width (notes_after_refresh (span_of_cut n h cut) snap notes) b) ≡ pending_position
     def.fold.width (notes_after_refresh (span_of_cut n h cut) snap notes) b
 
--- the buckets that are marked when an aggregate is made are those from the first on that end at or below the greatest
--- number
+-- the buckets that are marked when an aggregate is created are those from the first on that end at or below the
+-- greatest number
 abbrev pub AllBucketsAre : Type 0
 AllBucketsAre =
     (w : Width) (b : ℤ) → IsWidth w → is_bucket w b ≡ true
@@ -187,7 +188,7 @@ HistoriesCovered =
     (n : ℕ) (def : ViewDef) (h : History) → all_consistent h ≡ true → view_of (roster h) n ≡ Some def
     → IsCovered n def h (notes_of n def h)
 
--- so they tell what is pending
+-- so they say what is pending
 abbrev pub HistoriesTell : Type 0
 HistoriesTell =
     (n : ℕ) (def : ViewDef) (h : History) → all_consistent h ≡ true → view_of (roster h) n ≡ Some def

@@ -1,5 +1,5 @@
--- Notes of what is out of date: the log of a table, and what is pending and was refreshed of one aggregate over it,
--- and what each event does to them.
+-- Notes of what is stale: the log of a table, the pending and refreshed positions of one aggregate over it, and
+-- what each event does to them.
 use Rattle.std.specs.Prelude.{◌≡◌, ℕ, suc, true, cond, ◌&&◌, ◌==◌, ◌-◌, List, [], ◌∷◌, ◌++◌, length, ℤ, int_lt, Option, Some, None, is_none}
 use Rattle.std.specs.Int.{int_max}
 use Rattle.ts_bucket.specs.Bucket.{is_bucket}
@@ -33,17 +33,17 @@ pub record Notes : Type 0 where
 abbrev pub no_notes : Notes
 no_notes = record { threshold = least; log = []; pending = λ b. None; refreshed = λ b. None }
 
--- a threshold as a number: where there is none, the least
+-- a threshold as a number: if there is none, the least
 abbrev pub number_of : Option ℤ → ℤ
 number_of None = least
 number_of (Some hi) = int_max least hi
 
--- by an image, its position is pending in a bucket that it names dirty, and 0 in one that was never refreshed
+-- in an image, its position is pending in a dirty bucket, and 0 in one that was never refreshed
 abbrev pub pending_from : ℕ → Width → Image → ℤ → Option ℕ
 pending_from n w i b =
     cond (is_dirty n i b) (Some i.pos) (cond (in_span (whole_span w) b && is_none (saved_last n i b)) (Some 0) None)
 
--- the notes that an image gives of aggregate n
+-- the notes of aggregate n in an image
 abbrev pub notes_from : ℕ → ViewDef → Image → Notes
 notes_from n def i = record {
   threshold = number_of (threshold def.table (resumed i));
@@ -54,7 +54,7 @@ notes_from n def i = record {
 
 -- ---- what events do
 
--- an aggregate that was made by event number k has each of its buckets pending there, and none refreshed
+-- an aggregate that event number k created has each of its buckets pending at k, and none refreshed
 abbrev pub notes_of_new : Width → ℕ → Notes → Notes
 notes_of_new w k notes =
     record {
@@ -64,7 +64,8 @@ notes_of_new w k notes =
       refreshed = λ b. None;
     }
 
--- the log after a commit with number k: its hull, if it has one, is logged exactly where it begins below the threshold
+-- the log after a commit with number k: its hull, if it has one, is logged if and only if it begins below the
+-- threshold
 abbrev pub log_after : Option Hull → ℕ → ℤ → List Noted → List Noted
 log_after None k threshold log = log
 log_after (Some hull) k threshold log =
@@ -80,7 +81,7 @@ notes_after_hull hull k notes =
       refreshed = notes.refreshed;
     }
 
--- what is pending at b after a noted hull was fed: its position, where the hull meets the bucket and the bucket
+-- what is pending at b after a noted hull was fed: its position, if the hull meets the bucket and the bucket
 -- wasn't refreshed at or after it
 abbrev pub fed_one : Width → ℤ → Option ℕ → Noted → Option ℕ → Option ℕ
 fed_one w b refreshed entry pending =
@@ -106,8 +107,8 @@ abbrev pub cut_to : Width → ℤ → Notes → Notes
 cut_to w hi notes =
     record { threshold = int_max notes.threshold hi; log = []; pending = fed_at w notes; refreshed = notes.refreshed }
 
--- a finish with a snapshot settles the span of its cut, where that is a cut of the aggregate: what is pending up to
--- the snapshot goes, and the last refresh is raised to it
+-- a finish with a snapshot settles the span of its cut, if that is a cut of the aggregate: what is pending up
+-- to the snapshot is cleared, and the last refresh is raised to the snapshot
 abbrev pub notes_after_refresh : Option Span → ℕ → Notes → Notes
 notes_after_refresh span snap notes = record {
   threshold = notes.threshold;

@@ -1,4 +1,4 @@
-//! Laws over whole histories, made by any list of consistent events. Each is the clause of a function that
+//! Laws of whole histories, which are any lists of consistent events. Each law is the clause of a function that
 //! does nothing.
 ghost use Rattle.coverage.specs.Laws.{AllBucketsAre, HistoriesCovered, HistoriesTell, HullsAreOfTimes, ThresholdsAre, ThresholdsReach};
 
@@ -23,8 +23,8 @@ pub fn thresholds_reach_each_cut()
     ensures { ThresholdsReach }
 {}
 
-/// The buckets that are marked when an aggregate is made are those from the first one on that end at or
-/// below the greatest number of 64 bits.
+/// Creating an aggregate marks exactly the buckets from the first one on that end at or below the greatest
+/// number of 64 bits.
 pub fn all_buckets_are_marked()
     ensures { AllBucketsAre }
 {}

@@ -1,8 +1,8 @@
-//! One law for each kind of event: notes that covered an aggregate cover it after the event. Each is the
+//! One law for each kind of event: notes that covered an aggregate cover it after the event. Each law is the
 //! clause of a function that does nothing.
 ghost use Rattle.coverage.specs.Laws.{BeginningsCover, CommitsKeep, CoveredTells, CoveredTellsFed, CutsKeep, EventsKeep, FeedsKeep, FeedsTell, FinishesClear, FinishesKeep, ModesKeep, QuietKeeps, SameCover};
 
-/// A commit that logs its hull, where that begins below the threshold, keeps coverage.
+/// A commit that logs its hull, if that begins below the threshold, keeps coverage.
 pub fn commits_keep_coverage()
     ensures { CommitsKeep }
 {}
@@ -59,13 +59,13 @@ pub fn modes_keep_coverage()
     ensures { ModesKeep }
 {}
 
-/// Something is pending after all that is logged was fed exactly where something was pending, or a
-/// noted hull meets the bucket after its last refresh.
+/// Something is pending after all that is logged was fed if and only if something was pending, or a noted hull
+/// meets the bucket after its last refresh.
 pub fn feeds_tell_what_is_noted()
     ensures { FeedsTell }
 {}
 
-/// Notes that cover an aggregate say exactly what is out of date after all that is logged was fed.
+/// Notes that cover an aggregate say exactly what is stale after all that is logged was fed.
 pub fn covering_notes_tell_what_is_fed()
     ensures { CoveredTellsFed }
 {}

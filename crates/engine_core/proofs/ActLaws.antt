@@ -1,4 +1,5 @@
--- Calls that make an event: each is refused exactly where its event isn't timely, and answers what the event does.
+-- Calls that create an event: each is refused if and only if its event isn't timely, and otherwise returns the
+-- effect of the event.
 use Rattle.std.proofs.Common.{◌≡◌, ℕ, suc, Bool, true, false, ◌&&◌, not, cond, nat_lt, length, Option, Some, None, sym, refl, ap, ◌∙◌, subst}
 use Rattle.std.specs.Prelude.{ℤ, is_some, is_none, unwrap_or, IfSome, IsSome, IsTrue}
 use Rattle.std.proofs.lemmas.Bool.{true≢false, and_parts}
@@ -34,7 +35,7 @@ use Rattle.event_check.specs.Checks.{refusal_in, call_refusal, event_refusal}
 use Rattle.engine_core.specs.Acts.{unless, making_event, with_answer}
 use Rattle.engine_core.specs.Effects.{moves_none}
 
--- ---- a call is refused exactly where its event isn't timely
+-- ---- a call is refused if and only if its event isn't timely
 
 room_timely : {A : Type 0} (h : History) (e : Event) (x : A) → is_none (refusal_in (act_of_event h e x)) ≡ has_room h
 room_timely h e x = elim (has_room h) as (λ t. is_none (refusal_in (cond t (makes e x) (refuses (refusal history_full h 0)))) ≡ t) [ true ↦ refl | false ↦ refl ]
@@ -69,7 +70,7 @@ by_call : (o : Option Refusal) (t : Bool) (none : Refusal) → is_none o ≡ t �
 by_call None t none is = ap (λ u. cond u None (Some none)) (sym is)
 by_call (Some r) t none is = ap (λ u. cond u None (Some r)) (sym is)
 
--- a sound event is refused as its call is
+-- a sound event has the refusal of its call
 pub as_call : (h : History) (e : Event) → sound h e ≡ true → event_refusal h e ≡ call_refusal h e
 as_call h e is =
     ap (λ t. cond (t && timely h e) None (Some (unwrap_or (call_refusal h e) (refusal no_number h 0)))) is
@@ -83,16 +84,16 @@ none_is (Some x) e = absurd (true≢false (sym e))
 pub free_where_allowed : (h : History) (e : Event) → allowed h e ≡ true → call_refusal h e ≡ None
 free_where_allowed h e is = none_is (call_refusal h e) (none_where_timely h e ∙ (and_parts (sound h e) (timely h e) is).1)
 
--- and there is room for it
+-- and it fits before the end of the history
 pub room_where_free : (h : History) (e : Event) → call_refusal h e ≡ None → has_room h ≡ true
 room_where_free h e free = by_event e (sym (none_where_timely h e) ∙ ap is_none free)
   where
     by_event : (e : Event) → timely h e ≡ true → has_room h ≡ true
     by_event e t = (and_parts (timely_at h e) (has_room h) t).1
 
--- ---- what each call answers of its event
+-- ---- the result of each call about its event
 
--- an event that is made, or refused as the history is at its end
+-- an event that is created, or refused because the history is at its end
 answered_made : {A : Type 0} (f : Committed → A) (h : History) (e : Event) → act_of_event h e (f (moves_none h)) ≡ with_answer f (unless (refusal_in (act_of_event h e (f (moves_none h)))) (act_of_event h e (moves_none h)))
 answered_made f h e = elim (has_room h) as (λ t. cond t (makes e (f (moves_none h))) (refuses (refusal history_full h 0)) ≡ with_answer f (unless (refusal_in (cond t (makes e (f (moves_none h))) (refuses (refusal history_full h 0)))) (cond t (makes e (moves_none h)) (refuses (refusal history_full h 0))))) [ true ↦ refl | false ↦ refl ]
 
@@ -137,7 +138,7 @@ by_definition : (n : ℕ) (lo hi : Option ℤ) (h : History) (w : WindowFound) (
 by_definition n lo hi h w None there is = absurd (true≢false (sym there))
 by_definition n lo hi h w (Some def) there is = ap (cut_over n h) (sym is)
 
--- a cut goes by the buckets that its window covers
+-- a cut depends on the buckets that its window covers
 pub cut_by_window : (n : ℕ) (lo hi : Option ℤ) (h : History) (w found : WindowFound) → IsSome (view_of (roster h) n) → IfSome (view_of (roster h) n) (λ def. w ≡ window n def h lo hi) → w ≡ found → act_of_cut n lo hi h ≡ cut_over n h found
 cut_by_window n lo hi h w found there is same = by_definition n lo hi h w (view_of (roster h) n) there is ∙ ap (cut_over n h) same
 

@@ -40,7 +40,7 @@ event_before h (e ∷ es) k l =
       | false ↦ λ _. refl
     ] refl)
 
--- the event at a place of those that follow
+-- the event at a place among those after the base
 event_after : (h : History) (es : List Event) (i : ℕ) → event_at (h ▸▸ es) (suc (position h) + i) ≡ slice_get es i
 event_after h [] i = event_above h (suc (position h) + i) (omega arith)
 event_after h (e ∷ es) zero = event_before (h ▸ e) es (suc (position h) + 0) (omega arith) ∙ own (suc (position h) + 0) (omega arith)

@@ -1,4 +1,4 @@
--- What a ledger keeps represents its history, event by event.
+-- The parts of a ledger represent its history, event by event.
 use Rattle.std.proofs.Common.{◌≡◌, suc, true, List, ap, sym, ◌∙◌, refl, subst}
 use Rattle.std.proofs.lemmas.Bool.{and_from}
 use Rattle.ts_model.specs.declared.events.Event.{Event}
@@ -27,7 +27,7 @@ refreshes_next h (Commit ops) rs s = others_stand h (Commit ops) rs refl s
 refreshes_next h (Cut v span) rs s = cuts_stand h v span rs s
 refreshes_next h (Built cut snap) rs s = finishes_stand h cut snap rs s
 
--- one event more, which is allowed next
+-- one more event, which is allowed next
 pub ledger_next : (past : Past) (e : Event) (old new : Roster) (before after : List Refresh) → IsLedgerOf (history_of past) old before → allowed (history_of past) e ≡ true → new ≡ roster_after old e
     → after ≡ refreshes_after before (suc (position (history_of past))) e → IsLedgerOf (history_of (with_event past e)) new after
 ledger_next past e old new before after is fits changed moved =
@@ -38,7 +38,7 @@ ledger_next past e old new before after is fits changed moved =
       stand = subst (RefreshesStand (history_of past ▸ e)) (sym moved) (refreshes_next (history_of past) e before is.stand);
     })
 
--- what is made of an image
+-- a ledger built from an image
 pub ledger_resumed : (i : Image) (relations : Roster) (refreshes : List Refresh) → valid i ≡ true → relations ≡ roster_over no_relations i.roster → refreshes ≡ together i.waiting i.done
     → IsLedgerOf (resumed i) relations refreshes
 ledger_resumed i relations refreshes ok made are = record { allowed = ok; relations_are = made; stand = subst (RefreshesStand (resumed i)) (sym are) (images_stand.stand i ok) }

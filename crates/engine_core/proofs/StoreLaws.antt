@@ -1,4 +1,4 @@
--- What a call of a store that is alone does.
+-- The effect of a call of a store that is alone.
 use Rattle.std.proofs.Common.{◌≡◌, true, Some, None, sym, refl, ap, ◌∙◌, subst, arith}
 use Rattle.std.proofs.lemmas.Bool.{true≢false, cond-true}
 use Rattle.ts_model.specs.declared.events.Event.{Event}
@@ -27,7 +27,7 @@ history_push past e = followed_push (begun_by past.base) past.events e
 keeps_all : (s : State) → Keeps s s
 keeps_all s = record { history = refl; failed = refl; faults = refl; made = refl; origin = refl }
 
--- an event was made
+-- an event was appended
 makes_event : (h : History) (e : Event) → Makes e (state_of h) (state_of (h ▸ e))
 makes_event h e = record { went_on = refl; history = refl; failed = refl; faults = refl; made = refl; origin = refl }
 
@@ -49,7 +49,7 @@ called_where_seen act h outcome new answered = record { found = state_of h; find
 
 -- ---- what a call does
 
--- an event was made, and what it does was answered
+-- an event was appended, and its effect returned
 pub does_made : (old new : Past) (e : Event) (effect : Committed) → call_refusal (history_of old) e ≡ None → new ≡ with_event old e → effect ≡ effect_of (history_of old) e → EngineDoes (making_event e) old (Done effect) new
 does_made old new e effect free with told =
     let h = history_of old in
@@ -70,7 +70,7 @@ does_refused old new e r refused kept =
     let act_is : making_event e (history_of old) ≡ refuses r = ap (λ o. unless o (act_of_event (history_of old) e (effect_of (history_of old) e))) refused in
     subst (λ past. EngineDoes (making_event e) old (Refused r) past) (sym kept) (does_refuse (making_event e) old r r act_is refl)
 
--- there was no memory, and nothing changed
+-- memory ran out, and nothing changed
 pub kept_by_any : {A : Type 0} (a : Act A) (old new : State) → Keeps old new → Answered a old NoMemory new
 kept_by_any (refuses r) old new keeps = keeps
 kept_by_any (returns x) old new keeps = keeps
@@ -114,6 +114,6 @@ called_as f act other old outcome new is called =
 pub does_as : {A B : Type 0} (f : A → B) (act : History → Act A) (other : History → Act B) (old : Past) (outcome : Outcome A) (new : Past) → other (history_of old) ≡ with_answer f (act (history_of old)) → EngineDoes act old outcome new → EngineDoes other old (outcome_as f outcome) new
 does_as f act other old outcome new is does = called_as f act other (state_of (history_of old)) outcome (state_of (history_of new)) is does
 
--- what is looked at where nothing changed
+-- what is read if nothing changed
 pub looked_where_seen : (Tells : History → Type 0) (h : History) → Tells h → Looked true (state_of h) Tells (state_of h)
 looked_where_seen Tells h told = record { found = state_of h; finds = finds_seen h; keeps = keeps_all (state_of h); tells = told }

@@ -1,4 +1,4 @@
--- A history at its positions, and what is kept of it there.
+-- A history at its positions, and the states kept for it there.
 use Rattle.std.proofs.Common.{◌≡◌, ℕ, zero, suc, ◌+◌, ◌-◌, Bool, ◌<◌, ◌≤◌, true, false, cond, ◌==◌, List, [], ◌∷◌, ◌++◌, drop, get_or, length, take, slice_get, Option, Some, None, sym, refl, ap, ◌∙◌, subst, arith}
 use Rattle.std.specs.Prelude.{nat_le}
 use Rattle.std.proofs.lemmas.Bool.{and_parts, eqb-true, le-ltb, leb-false, leb-true, lt-ltb, ltb-true, cond-false, cond-true}
@@ -25,7 +25,7 @@ use Rattle.engine_core.specs.Values.{MomentValue, Past}
 
 -- ---- positions
 
--- an allowed history ends at a number of 64 bits
+-- the position of an allowed history has 64 bits
 pub allowed_fits : (h : History) → all_allowed h ≡ true → position h ≤ last_position
 allowed_fits start ok = omega arith
 allowed_fits (resumed i) ok = leb-true i.pos last_position (valid_is i ok).bounded
@@ -64,7 +64,7 @@ prefix_next (h ▸ x) p e at =
           ∙ sym (ap (λ g. g ▸ e) (cond-false _ (h ▸ x) (prefix h p) (le-ltb (position h) p (omega arith))))
     ] refl at
 
--- ---- one event after the other
+-- ---- events in order
 
 -- the history with the first events
 abbrev pub up_to : Past → ℕ → History
@@ -100,7 +100,7 @@ next_allowed past i e ok within at =
 
 -- ---- what is kept
 
--- nothing led to the beginning
+-- the beginning has no last event
 pub opening_moment : (base : Option Image) (m : MomentValue) → StandsFor (begun_by base) m.state → IsMomentOf (begun_by base) m
 opening_moment base m stands = record { stands = stands; counts = λ g e is. absurd (no_event base g e is) }
   where
@@ -108,7 +108,7 @@ opening_moment base m stands = record { stands = stands; counts = λ g e is. abs
     no_event None g e is = cc
     no_event (Some image) g e is = cc
 
--- what moved by the last event
+-- the rows moved by the last event
 pub next_moment : (h : History) (e : Event) (m : MomentValue) → StandsFor (h ▸ e) m.state → CountsAre h e m.inserted m.removed → IsMomentOf (h ▸ e) m
 next_moment h e m stands counts = record {
   stands = stands;
@@ -118,7 +118,7 @@ next_moment h e m stands counts = record {
       subst (λ k. CountsAre k f m.inserted m.removed) same_history (subst (λ d. CountsAre h d m.inserted m.removed) same_event counts);
 }
 
--- one more moment behind those that are kept
+-- one more state after those kept
 moments_more : (P : ℕ → MomentValue → Type 0) (ms : List MomentValue) (x : MomentValue) → ((k : ℕ) (m : MomentValue) → slice_get ms k ≡ Some m → P k m) → P (length ms) x → (k : ℕ) (m : MomentValue) → slice_get (ms ++ x ∷ []) k ≡ Some m → P k m
 moments_more P [] x all last zero m at = subst (P 0) (same_Some x m at) last
 moments_more P [] x all last (suc k) m at = absurd (none-some m at)
@@ -129,7 +129,7 @@ pub kept_more : (h : History) (from : ℕ) (ms : List MomentValue) (m : MomentVa
 kept_more h from ms m p kept is one =
     moments_more (λ k x. IsMomentOf (prefix h (from + k)) x) ms m kept (subst (λ q. IsMomentOf (prefix h q) m) is one)
 
--- the moments that are kept before an event, of a history with so many events before it
+-- the states kept before an event, of a history with this many events before it
 pub record AreKept (past : Past) (from i : ℕ) (ms : List MomentValue) : Type 0 where
   pub moments : AreMoments (history_of past) from ms
   pub count : length ms ≡ (position (begun_by past.base) + i) - from
@@ -171,7 +171,7 @@ effect_by g (Commit ops) p inserted removed is c = λ i. record { pos = is i; in
 effect_by g (Cut v span) p inserted removed is c = λ i. record { pos = is i; inserted = c.0 i; removed = c.1 i }
 effect_by g (Built cut snap) p inserted removed is c = λ i. record { pos = is i; inserted = c.0 i; removed = c.1 i }
 
--- what is kept after an event tells what the event did
+-- the state kept after an event has the effect of the event
 pub effect_kept : (h : History) (p : ℕ) (e : Event) (m : MomentValue) → event_at h (suc p) ≡ Some e → IsMomentOf (prefix h (p + 1)) m → record { pos = m.state.position; inserted = m.inserted; removed = m.removed } ≡ effect_of (prefix h p) e
 effect_kept h p e m at kept =
     let next : p + 1 ≡ suc p = omega arith in
@@ -180,13 +180,13 @@ effect_kept h p e m at kept =
 
 -- ---- a timeline
 
--- the moment before an event is kept, where its position is to be
+-- the state before an event is kept at the place of its position
 pub next_kept : (past : Past) (from i : ℕ) (ms : List MomentValue) (m : MomentValue) (new : List MomentValue) (p : ℕ) → AreKept past from i ms → i < length past.events → IsMomentOf (up_to past i) m → p ≡ m.state.position → new ≡ cond (nat_le from p) (ms ++ m ∷ []) ms → AreKept past from (i + 1) new
 next_kept past from i ms m new p kept within one at new_is =
     let le : i ≤ length past.events = omega arith in
     kept_next past from i ms m (nat_le from p) new kept le one (ap (nat_le from) (at ∙ one.stands.position ∙ first_position past i le)) new_is
 
--- the moments at all positions from one on, up to the end
+-- the states at all positions from one on, up to the end
 pub timeline_made : (past : Past) (from end i : ℕ) (ms : List MomentValue) (m : MomentValue) (new : List MomentValue) → all_allowed (history_of past) ≡ true → base_position (history_of past) ≤ from → from ≤ position (history_of past) → i ≡ length past.events → AreKept past from i ms → IsMomentOf (up_to past i) m → end ≡ m.state.position → new ≡ ms ++ m ∷ [] → IsTimeline past from end new
 timeline_made past from end i ms m new ok low high whole kept one at new_is =
     let le : i ≤ length past.events = omega arith in

@@ -19,13 +19,13 @@ unless None act = act
 abbrev pub making_event : Event → History → Act Committed
 making_event e h = unless (call_refusal h e) (act_of_event h e (effect_of h e))
 
--- the same act, with something else as its answer
+-- the same act, with another answer
 abbrev pub with_answer : {A B : Type 0} → (A → B) → Act A → Act B
 with_answer f (refuses r) = refuses r
 with_answer f (returns a) = returns (f a)
 with_answer f (makes e a) = makes e (f a)
 
--- the same outcome, with something else as its answer
+-- the same outcome, with another answer
 abbrev pub outcome_as : {A B : Type 0} → (A → B) → Outcome A → Outcome B
 outcome_as f (Done a) = Done (f a)
 outcome_as f (Refused r) = Refused r

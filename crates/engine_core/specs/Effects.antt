@@ -1,4 +1,4 @@
--- What one more event does.
+-- The effect of one more event.
 use Rattle.std.specs.Prelude.{◌≡◌, suc, true}
 use Rattle.ts_model.specs.declared.events.Event.{Event}
 use Rattle.ts_model.specs.declared.events.Event.TheVariants.{Table, Hyper, View, Mode, Commit, Cut, Built}
@@ -14,7 +14,7 @@ use Rattle.engine_core.specs.Values.{PreparedValue}
 abbrev pub moves_none : History → Committed
 moves_none h = record { pos = suc (position h); inserted = 0; removed = 0 }
 
--- what an event does over all tables: a commit moves rows, and every other event none
+-- the effect of an event over all tables: a commit moves rows, and every other event none
 abbrev pub effect_of : History → Event → Committed
 effect_of h (Table def) = moves_none h
 effect_of h (Hyper t hyper) = moves_none h

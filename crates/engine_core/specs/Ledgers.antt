@@ -1,4 +1,4 @@
--- What decides which event may come next after a history, without its rows.
+-- The data that decides which event may come next after a history, without its rows.
 use Rattle.std.specs.Prelude.{◌≡◌, ℕ, true, List, [], ◌∷◌, ◌++◌, map}
 use Rattle.ts_model.specs.declared.events.Event.{Event}
 use Rattle.ts_model.specs.declared.events.Event.TheVariants.{Table, Hyper, View, Mode, Commit, Cut, Built}
@@ -24,7 +24,7 @@ refreshes_after rs k (Commit ops) = rs
 refreshes_after rs k (Cut v span) = rs ++ (newly_cut k v span ∷ [])
 refreshes_after rs k (Built cut snap) = map (finished_at cut k) rs
 
--- a roster and refreshes are those of a history, which is an allowed one
+-- a roster and refreshes are those of a history, which is allowed
 pub record IsLedgerOf (h : History) (relations : Roster) (refreshes : List Refresh) : Type 0 where
   pub allowed : all_allowed h ≡ true
   pub relations_are : relations ≡ roster h

@@ -1,4 +1,4 @@
--- The state of a store in memory that nobody else changes.
+-- The state of a store in memory that only its owner changes.
 use Rattle.std.specs.Prelude.{ℕ, suc, true, List, [], ◌∷◌, ◌++◌, None}
 use Rattle.ts_model.specs.declared.outcomes.Outcome.{Outcome}
 use Rattle.ts_model.specs.History.{History, start, resumed, ◌▸◌, position}
@@ -17,10 +17,10 @@ numbers_of start = []
 numbers_of (resumed i) = []
 numbers_of (h ▸ e) = numbers_of h ++ (suc (position h) ∷ [])
 
--- it has made each event of its history, and it never fails
+-- it has created each event of its history, and it never fails
 abbrev pub state_of : History → State
 state_of h = record { history = h; failed = None; faults = 0; made = numbers_of h; origin = nothing_before }
 
--- a call that does this, on an engine in memory that nobody else changes
+-- a call that does this, on an engine in memory that only the caller changes
 abbrev pub EngineDoes : {A : Type 0} → (History → Act A) → Past → Outcome A → Past → Type 0
 EngineDoes act old outcome new = Called true (state_of (history_of old)) act outcome (state_of (history_of new))

@@ -8,12 +8,12 @@ use Rattle.engine_state.specs.Stands.{StateValue, StandsFor}
 use Rattle.engine_core.specs.Histories.{history_of}
 use Rattle.engine_core.specs.Values.{MomentValue, Past}
 
--- it is kept of this history
+-- it is the state of this history
 pub record IsMomentOf (h : History) (m : MomentValue) : Type 0 where
   pub stands : StandsFor h m.state
   pub counts : (g : History) (e : Event) → h ≡ g ▸ e → CountsAre g e m.inserted m.removed
 
--- of a history one moment is kept for each position from one on, in order
+-- one state of a history is kept for each position from one on, in order
 abbrev pub AreMoments : History → ℕ → List MomentValue → Type 0
 AreMoments all start ms = (k : ℕ) (m : MomentValue) → slice_get ms k ≡ Some m → IsMomentOf (prefix all (start + k)) m
 
@@ -22,7 +22,7 @@ pub record TimelineValue : Type 0 where
   pub past : Past
   pub start : ℕ
 
--- the history is an allowed one, which ends at a position, and each position from the first one on is kept
+-- the history is allowed and ends at a position, and each position from the first one on is kept
 pub record IsTimeline (past : Past) (start end : ℕ) (ms : List MomentValue) : Type 0 where
   pub allowed : all_allowed (history_of past) ≡ true
   pub low : base_position (history_of past) ≤ start

@@ -33,9 +33,9 @@ use std::thread::Threads;
 use ts_model::{Event, Image, Pending, Refusal, Waiting, Window};
 use ts_schema::{NoMemory, Seq, Steps};
 
-/// The engine: the image that it was made from, if there is one, the list of events after it, and the state
-/// that results, which snapshots share. Contracts see the image, the events, the oldest first, and for how
-/// many more events there is room.
+/// The engine: the image that it was built from, if there is one, the list of events after it, and the
+/// resulting state. Snapshots share the state. Contracts see the image, the events, the oldest first, and how
+/// many more events fit.
 #[derive(Drop)]
 pub struct Engine {
     base: Option<Image>,
@@ -94,7 +94,7 @@ fn next_refusal(state: &State, base: u64, event: &Event) -> Option<Refusal>
     refusal_of(state.roster(), pending, state.position(), base, event)
 }
 
-/// The place of an event among those after a position, of which the first has the next number.
+/// The place of an event among those after a position. The first of them has the next number.
 fn place_after(base: u64, number: u64) -> Option<u64>
     ensures { MatchOption result (number ≤ base) (λ place. number ≡ suc base + place) }
 {
@@ -142,8 +142,8 @@ impl Engine {
         })
     }
 
-    /// The engine of the history that begins with this valid image, without events. It counts one step for
-    /// each row that the image holds of a table over which an aggregate was refreshed.
+    /// The engine of the history that begins with this valid image, without events. Counts one step for each
+    /// row that the image holds for a table over which an aggregate was refreshed.
     pub fn from_image<L>(
         alloc: Global,
         image: Image,
@@ -169,7 +169,7 @@ impl Engine {
         &self.state
     }
 
-    /// The image that it was made from, if there is one.
+    /// The image that the engine was built from, if there is one.
     pub fn base(&self) -> &Option<Image>
         ensures base { result.now ≡ self.now.past.base }
     {
@@ -191,7 +191,7 @@ impl Engine {
     }
 
     /// The event with this number. The first event has the number after the position at which the history
-    /// begins. It is for callers that need a single event; the program iterates over all of them.
+    /// begins. This is for callers that need a single event; the program iterates over all of them.
     pub fn event(&self, number: u64) -> Option<&Event>
         ensures event { option_copied result ≡ event_at (history_of self.now.past) number }
     {
@@ -201,8 +201,9 @@ impl Engine {
         }
     }
 
-    /// Checks whether an event is allowed next. If it isn't, returns the refusal of the store call that
-    /// appends such an event, `E07`, `E21`, `E19` or `E30`, or otherwise a refusal with the number 0.
+    /// Checks whether an event is allowed next. If it isn't, returns the refusal of the store call that appends
+    /// such an event: `E07`, `E21`, `E19` or `E30`. If that call isn't refused, returns a refusal with the
+    /// number 0.
     pub fn check(&self, event: &Event) -> Result<(), Refusal>
         ensures allowed { IfOk result (λ _. IsTrue (allowed (history_of self.now.past) event.now)) }
         ensures refused { IfErr result (λ refusal.
@@ -258,7 +259,7 @@ impl Engine {
         self.state = state;
     }
 
-    /// A snapshot of the whole history, which is an allowed one.
+    /// A snapshot of the whole history, which is allowed.
     pub fn shot(&self) -> Result<Shot, NoMemory>
         ensures allowed { IsTrue (all_allowed (history_of self.now.past)) }
         ensures stands { IfOk result (λ shot. StandsFor (history_of self.now.past) shot) }
@@ -273,7 +274,7 @@ impl Engine {
         self.state.waiting()
     }
 
-    /// The buckets that a refresh of an aggregate with this window covers. The history is an allowed one.
+    /// The buckets that a refresh of an aggregate with this window covers. The history is allowed.
     pub fn window(&self, view: u32, lo: Option<i64>, hi: Option<i64>) -> Window
         requires view { IsSome (view_of (roster (history_of self.now.past)) view) }
         requires low { ForSome lo (λ t. IsTrue (is_time t)) }

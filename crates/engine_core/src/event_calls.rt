@@ -1,4 +1,4 @@
-//! Calls that append one event to an engine that nobody else changes.
+//! Calls that append one event to an engine that only the caller changes.
 ghost use Rattle.std.specs.Prelude.{◌≡◌, IsSome, IsTrue};
 ghost use Rattle.std.specs.Option.{ForSome};
 ghost use Rattle.ts_bucket.specs.Bucket.{is_time};
@@ -21,7 +21,7 @@ use ts_model::codes::NO_BUCKET;
 use ts_model::{Committed, CutDone, Event, Hyper, Op, Outcome, Refusal, TableDef, ViewDef, Window};
 use ts_schema::Seq;
 
-/// Appends an event that is allowed next, and answers its effect.
+/// Appends an event that is allowed next, and returns its effect.
 fn make_event(engine: &mut Engine, event: Event, job: Option<Job>) -> Outcome<Committed>
     requires allowed { IsTrue (allowed (history_of engine.old.past) event) }
     requires job { JobIsFor (history_of engine.old.past) event job }
@@ -37,7 +37,7 @@ fn make_event(engine: &mut Engine, event: Event, job: Option<Job>) -> Outcome<Co
     }
 }
 
-/// Appends an event, unless its call is refused. It consumes the job of a finish, whatever it answers.
+/// Appends an event, unless its call is refused. Consumes the job of a finish, for any outcome.
 fn make(engine: &mut Engine, event: Event, job: Option<Job>) -> Outcome<Committed>
     requires sound { IsTrue (sound (history_of engine.old.past) event) }
     requires job { JobIsFor (history_of engine.old.past) event job }
@@ -119,7 +119,7 @@ pub(crate) fn make_table(engine: &mut Engine, def: TableDef) -> Outcome<u64>
     number_only(make(engine, Event::Table(def), None))
 }
 
-/// Makes a table a hypertable.
+/// Turns a table into a hypertable.
 pub(crate) fn make_hyper(engine: &mut Engine, table: u32, hyper: Hyper) -> Outcome<u64>
     requires { IsTrue (sound (history_of engine.old.past) (HyperMade table hyper)) }
     ensures { EngineDoes (making_hyper table hyper) engine.old.past result engine.new.past }
@@ -143,7 +143,7 @@ pub(crate) fn set_mode(engine: &mut Engine, view: u32, only: bool) -> Outcome<u6
     number_only(make(engine, Event::Mode { view, only }, None))
 }
 
-/// Lets operations take effect, in order.
+/// Applies operations, in order, as one commit.
 pub(crate) fn commit(engine: &mut Engine, ops: Seq<Op>) -> Outcome<Committed>
     requires { IsTrue (sound (history_of engine.old.past) (Commit ops)) }
     ensures { EngineDoes (act_of_commit ops) engine.old.past result engine.new.past }
@@ -151,7 +151,7 @@ pub(crate) fn commit(engine: &mut Engine, ops: Seq<Op>) -> Outcome<Committed>
     make(engine, Event::Commit(ops), None)
 }
 
-/// Finishes the refresh that a job was made for.
+/// Finishes the refresh that a job was created for.
 pub(crate) fn finish(engine: &mut Engine, job: Job) -> Outcome<u64>
     requires { JobFits (history_of engine.old.past) job }
     ensures { EngineDoes (act_of_finish job.cut job.snap) engine.old.past result engine.new.past }

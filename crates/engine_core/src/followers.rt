@@ -13,8 +13,8 @@ use std::thread::Threads;
 use ts_model::{Event, Image, Refusal};
 use ts_schema::{NoMemory, Steps};
 
-/// Follows a history event by event, while its journal is read: an engine, which answers queries, or a
-/// ledger, which knows what may come next.
+/// Follows a history event by event while its journal is read. An engine then answers queries, and a ledger
+/// knows which event may come next.
 pub trait Follower {
     ghost use Rattle.std.specs.Prelude.{◌≡◌, IfErr, IfOk, IsTrue, OnOk, Some};
     ghost use Rattle.std.specs.Thread.{IsSync};
@@ -39,7 +39,7 @@ pub trait Follower {
         ensures refused { IfErr result (λ refusal.
             event_refusal (history_of (past self.now)) event.now ≡ Some refusal) };
 
-    /// Applies an event that is allowed next. If memory runs out, nothing is promised about its history.
+    /// Applies an event that is allowed next. No clause says what its history is after running out of memory.
     fn follow<R: Threads + Sync>(&mut self, rt: &R, event: Event) -> Result<(), NoMemory>
         requires sync { IsSync R.row }
         requires allowed { IsTrue (allowed (history_of (past self.old)) event) }

@@ -20,9 +20,9 @@ use std::marker::Model;
 use ts_model::{Event, Image, Pending, Refusal, Roster, Waiting};
 use ts_schema::{NoMemory, Seq};
 
-/// A history with what decides which event may come next: its tables and aggregates, and its refreshes. It
-/// keeps nothing of the rows, so an event costs little more than its own memory. Contracts see the image
-/// that the history begins with, if there is one, and the events after it, the oldest first.
+/// A history with the data that decides which event may come next: its tables and aggregates, and its
+/// refreshes. It keeps no rows, so an event costs little more than its own memory. Contracts see the image that
+/// the history begins with, if there is one, and the events after it, the oldest first.
 #[derive(Drop)]
 pub struct Ledger {
     base: Option<Image>,
@@ -137,7 +137,7 @@ impl Ledger {
         self.events.as_slice()
     }
 
-    /// The position of the history, which is an allowed one.
+    /// The position of the history, which is allowed.
     pub fn length(&self) -> u64
         ensures position { result ≡ position (history_of self.now.past) }
         ensures allowed { IsTrue (all_allowed (history_of self.now.past)) }

@@ -1,9 +1,9 @@
-//! The engine: its list of events, and the state that answers questions about it; a store in memory; and
-//! the states of a history at its positions.
+//! The engine: its list of events, and the state that answers queries. Also a store in memory, and the states
+//! of a history at its positions.
 //!
-//! - `engines`, `prepared`, `moments`, `shots`: the engine, and what one more event makes of it.
-//! - `ledgers`: a history without its rows, which knows what may come next.
-//! - `followers`: what follows a history event by event, as its journal is read: an engine or a ledger.
+//! - `engines`, `prepared`, `moments`, `shots`: the engine, and its state after one more event.
+//! - `ledgers`: a history without its rows, which knows which event may come next.
+//! - `followers`: an engine or a ledger that follows a history event by event while its journal is read.
 //! - `event_calls`, `mem_stores`: the calls of a store, and a store in memory.
 //! - `timelines`: the states of a history at its positions.
 //! - `images`: the parts of the image of a history.

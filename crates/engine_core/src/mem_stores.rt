@@ -10,7 +10,7 @@ use std::alloc::Global;
 use ts_model::{Backend, Committed, CutDone, Hyper, Op, Outcome, TableDef, ViewDef};
 use ts_schema::{NoMemory, Seq};
 
-/// A store in memory: an engine that nobody else changes. It never stops.
+/// A store in memory: an engine that only this store changes. It never stops.
 #[derive(Drop)]
 pub struct MemStore {
     /// The engine.

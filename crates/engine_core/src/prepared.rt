@@ -1,4 +1,4 @@
-//! What an engine prepares for one more event.
+//! The state that an engine prepares for one more event.
 ghost use Rattle.std.specs.Prelude.{◌≡◌};
 ghost use Rattle.std.specs.Arc.{arc_value};
 ghost use Rattle.ts_model.specs.History.{History};
@@ -47,7 +47,8 @@ impl Prepared {
         self.event
     }
 
-    /// What the event does: its number, and how many rows it appends and removes, over all tables.
+    /// The effect of the event: its number, and the numbers of rows that it appends and removes, over all
+    /// tables.
     pub fn effect(&self) -> Committed
         ensures effect { (h : History) → IsPreparedFor h self.now → result ≡ effect_of h self.now.event }
     {

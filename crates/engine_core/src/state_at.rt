@@ -8,14 +8,14 @@ use std::sync::Arc;
 use ts_model::Committed;
 use ts_schema::NoMemory;
 
-/// The state of a history, and how many rows its last event moved over all tables.
+/// The state of a history, and the number of rows that its last event moved over all tables.
 #[derive(Drop)]
 pub(crate) struct StateAt {
     /// The state.
     pub state: Arc<State>,
-    /// How many rows were appended.
+    /// The number of rows appended.
     pub inserted: u64,
-    /// How many rows were removed.
+    /// The number of rows removed.
     pub removed: u64,
 }
 
@@ -48,7 +48,7 @@ impl StateAt {
         })
     }
 
-    /// What the last event did: its number, and how many rows it moved.
+    /// The effect of the last event: its number, and the number of rows that it moved.
     pub(crate) fn effect(&self) -> Committed
         ensures effect { result ≡ record {
           pos = self.now.state.position;

@@ -27,8 +27,8 @@ use std::thread::Threads;
 use ts_model::{Committed, Event, Image, Pending, Roster, Window};
 use ts_schema::{NoMemory, Steps};
 
-/// The states of a history at each position from one on. They share what the events between them left alone.
-/// Contracts see the history's image and events, and the first position that is kept.
+/// The states of a history at each position from one on. They share all that the events between them didn't
+/// change. Contracts see the history's image and events, and the first position that is kept.
 #[derive(Drop)]
 pub struct Timeline<'a> {
     base: &'a Option<Image>,
@@ -119,8 +119,8 @@ fn keep(moments: &mut Vec<StateAt>, moment: StateAt, kept: bool) -> Result<(), N
     Ok(())
 }
 
-/// The position at which a history ends that begins with an image, if there is one, and continues with these
-/// events, each of which was allowed after those before it.
+/// The position at which a history ends. The history begins with an image, if there is one, and continues with
+/// these events. Each event was allowed after those before it.
 pub fn end_of(base: &Option<Image>, events: &[Event]) -> u64
     requires allowed { IsTrue (all_allowed (history_of (record { base = base.now; events = events.now }))) }
     ensures end { result ≡ position (history_of (record { base = base.now; events = events.now })) }
@@ -129,9 +129,9 @@ pub fn end_of(base: &Option<Image>, events: &[Event]) -> u64
 }
 
 impl<'a> Timeline<'a> {
-    /// The states of the history that begins with an image, if there is one, and continues with these
-    /// events, each of which was allowed after those before it. They are kept from the position `start` on.
-    /// Only `State::from_image` counts steps, if there is an image.
+    /// The states of the history that begins with an image, if there is one, and continues with these events.
+    /// Each event was allowed after those before it. They are kept from the position `start` on. Only
+    /// `State::from_image` counts steps, if there is an image.
     pub fn of<R: Threads + Sync, L>(
         rt: &R,
         alloc: Global,
@@ -166,7 +166,7 @@ impl<'a> Timeline<'a> {
         })
     }
 
-    /// The position of the history, which is an allowed one.
+    /// The position of the history, which is allowed.
     pub fn length(&self) -> u64
         ensures position { result ≡ position (history_of self.now.past) }
         ensures allowed { IsTrue (all_allowed (history_of self.now.past)) }
@@ -239,15 +239,15 @@ impl<'a> Timeline<'a> {
         self.events.get((position - begun_at(self.base)) as usize)
     }
 
-    /// What the event after a position did: its number, and how many rows it appended and removed, over all
-    /// tables.
+    /// The effect of the event after a position: its number, and the numbers of rows that it appended and
+    /// removed, over all tables.
     pub fn effect_after(&self, position: u64) -> Committed
         requires low { self.now.start ≤ position }
         requires high { position < position_of (history_of self.now.past) }
         ensures effect { (e : EventMade) → event_at (history_of self.now.past) (suc position) ≡ Some e
             → result ≡ effect_of (prefix (history_of self.now.past) position) e }
     {
-        // A position that is read has 64 bits.
+        // Reading the position tells the prover that it has 64 bits.
         let _end = self.length();
         self.moment(position + 1).effect()
     }

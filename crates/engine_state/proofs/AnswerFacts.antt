@@ -39,7 +39,7 @@ use Rattle.engine_state.specs.Tables.{TableValue, TableIs, TableStands, table_at
 use Rattle.engine_state.proofs.EachLaws.{each_at, each_of}
 use Rattle.engine_state.proofs.StateSteps.{state_there}
 
--- ---- a hypertable that is there
+-- ---- an existing hypertable
 
 -- a table that is a hypertable has a state
 pub table_there : (h : History) (t : ℕ) (s : StateValue) → StandsFor h s → IsSome (hyper_of (roster h) t) → IsSome (table_at s.tables t)
@@ -114,12 +114,12 @@ table_tells h t s table st at =
 pub some_hyper : (h : History) (t position : ℕ) (table : TableValue) → IsTableOf h t position table → IsSome (hyper_of (roster h) t)
 some_hyper h t position table is = ap is_some is.hyper_is
 
--- what two facts of a result give
+-- the combination of two facts of a result
 pub both_ok : {T E : Type 0} (r : Result T E) (P Q S : T → Type 0) → ((x : T) → P x → Q x → S x) → IfOk r P → IfOk r Q → IfOk r S
 both_ok (Ok x) P Q S f p q = f x p q
 both_ok (Err e) P Q S f p q = tt
 
--- a query that may be asked of a hypertable finds it there
+-- a query that may be asked of a hypertable finds it
 pub asked_hyper : (test : TableDef → Hyper → Bool) (o : Option TableInfo) → of_table test o ≡ true → IsSome (option_and_then (λ i. i.hyper) o)
 asked_hyper test None asked = absurd (true≢false (sym asked))
 asked_hyper test (Some info) asked = of_info info.hyper asked

@@ -25,7 +25,7 @@ use Rattle.engine_state.specs.Steps.{AllFrom, AsksIf, appended_to, taken_from, s
 use Rattle.engine_state.proofs.EachLaws.{each_length, each_placed}
 use Rattle.engine_state.proofs.TableSteps.{table_asks, rows_are}
 
--- ---- how many tables there are
+-- ---- the number of tables
 
 pub tables_are_few : (h : History) (s : StateValue) → StandsFor h s → length s.tables ≤ 2 ^ 32
 tables_are_few h s st =
@@ -80,7 +80,7 @@ module _ (h : History) (ops : List Op) (ok : all_consistent h ≡ true) (fits : 
       by_state (Some hyper) some None s = absurd s
       by_state (Some hyper) some (Some table) s = ap (λ xs. length (all_taken t ops xs)) (rows_are h t table s.rows)
 
--- the sum over lists that go together is the sum over the places
+-- the sum over related lists is the sum over the places
 sums_are : {A B : Type 0} (R : ℕ → A → B → Type 0) (f : ℕ → B → ℕ) (g : ℕ → ℕ) → ((t : ℕ) (a : A) (b : B) → R t a b → f t b ≡ g t) → (i : ℕ) (xs : List A) (ys : List B) → EachFrom R i xs ys → sum_below i g + sum_from f i ys ≡ sum_below (i + length xs) g
 sums_are R f g same i [] [] e = let place : i ≡ i + 0 = omega arith in let sum : sum_below i g + 0 ≡ sum_below i g = omega arith in sum ∙ ap (λ n. sum_below n g) place
 sums_are R f g same i [] (y ∷ ys) e = absurd e

@@ -57,9 +57,9 @@ hyper_place h t hyper s st fits =
     let found = each_at (TableAt h) t (roster h).tables s.tables parts.0 st.tables parts.1 in
     slice_get_within s.tables t found.0 found.1
 
--- ---- an aggregate that is there
+-- ---- an existing aggregate
 
--- the state of an aggregate that is there, and of its table
+-- the state of an existing aggregate, and of its table
 pub record ViewThere (h : History) (n : ℕ) (s : StateValue) (def : ViewDef) (view : ViewValue) : Type 0 where
   pub table : TableValue
   pub at : table_at s.tables def.table ≡ Some table

@@ -12,7 +12,7 @@ module _ {A B : Type 0} where
   each_length R i (a ∷ xs) [] e = absurd e
   each_length R i (a ∷ xs) (b ∷ ys) e = ap suc (each_length R (suc i) xs ys e.1)
 
-  -- what holds of each place for one reason holds for another
+  -- what is true of each place for one reason is true for another
   pub each_map : (P Q : ℕ → A → B → Type 0) (i : ℕ) (xs : List A) (ys : List B) → ((j : ℕ) (a : A) (b : B) → P j a b → Q j a b) → EachFrom P i xs ys → EachFrom Q i xs ys
   each_map P Q i [] [] f e = tt
   each_map P Q i [] (b ∷ ys) f e = absurd e
@@ -43,7 +43,7 @@ module _ {A B : Type 0} where
       let found = each_from R 0 t xs ys a e is in
       (found.0, found.1, subst (λ n. R n a found.0) (let n : 0 + t ≡ t = omega arith in n) found.2)
 
-  -- and the other way round
+  -- and conversely
   pub each_to : (R : ℕ → A → B → Type 0) (i t : ℕ) (xs : List A) (ys : List B) (b : B) → EachFrom R i xs ys → slice_get ys t ≡ Some b → (a : A) × (slice_get xs t ≡ Some a) × R (i + t) a b
   each_to R i t [] [] b e is = absurd (cc)
   each_to R i t [] (y ∷ ys) b e is = absurd e
@@ -85,7 +85,7 @@ module _ {A B : Type 0} where
       let start : 0 + t ≡ t = omega arith in
       each_set P Q 0 t xs ys new (λ j a b differs p. other j a b (λ is. differs (is ∙ sym start)) p) (λ a is. subst (λ n. Q n a new) (sym start) (this a is)) e
 
-  -- one item of the first list is changed, where it is there
+  -- one item of the first list is changed, if it exists
   pub each_changed : (P Q : ℕ → A → B → Type 0) (i t : ℕ) (xs : List A) (ys : List B) (f : A → A) → ((j : ℕ) (a : A) (b : B) → P j a b → Q j a b) → ((a : A) (b : B) → slice_get xs t ≡ Some a → slice_get ys t ≡ Some b → P (i + t) a b → Q (i + t) (f a) b) → EachFrom P i xs ys → EachFrom Q i (change_at xs t f) ys
   each_changed P Q i t [] [] f other this e = tt
   each_changed P Q i t [] (y ∷ ys) f other this e = absurd e
@@ -112,7 +112,7 @@ each_through P Q R i (a ∷ xs) (b ∷ ys) [] f p q = absurd q
 each_through P Q R i (a ∷ xs) (b ∷ ys) (c ∷ zs) f p q = (f i a b c p.0 q.0, each_through P Q R (suc i) xs ys zs f p.1 q.1)
 
 module _ {A B : Type 0} where
-  -- what holds of each place that is there for one reason holds for another
+  -- what is true of each existing place for one reason is true for another
   pub each_map_below : (P Q : ℕ → A → B → Type 0) (i : ℕ) (xs : List A) (ys : List B) → ((j : ℕ) (a : A) (b : B) → j < i + length xs → P j a b → Q j a b) → EachFrom P i xs ys → EachFrom Q i xs ys
   each_map_below P Q i [] [] f e = tt
   each_map_below P Q i [] (y ∷ ys) f e = absurd e

@@ -20,7 +20,7 @@ pub fed_as_noted : (w : Width) (b : ℤ) (r : Option ℕ) (entries : List Entry)
 fed_as_noted w b r [] v = refl
 fed_as_noted w b r (e ∷ es) v = fed_as_noted w b r es _
 
--- entries that were fed to a log were fed to it as they were noted
+-- entries that were fed to a log were fed in the form in which they were noted
 pub fed_to : (entries : List Entry) (old new : LogValue) → IsFed entries old new → IsFedTo old.width (noted_in entries) old new
 fed_to entries old new f = record {
   width = f.width;

@@ -1,4 +1,4 @@
--- What each event does to the materialized groups of an aggregate.
+-- The effect of each event on the materialized groups of an aggregate.
 use Rattle.std.proofs.Common.{◌≡◌, ℕ, ◌≤◌, max, Bool, true, false, not, ◌&&◌, ◌||◌, cond, List, [], ◌∷◌, map, filter, ℤ, ◌+ℤ◌, ◌<ℤ◌, int_lt, pos, Option, Some, None, sym, refl, ap, ◌∙◌, subst, arith}
 use Rattle.std.specs.List.{list_all, list_any, flat_map}
 use Rattle.std.specs.List.Sorted.{IsStrictlySortedBy}
@@ -46,7 +46,7 @@ use Rattle.partial_agg.specs.Groups.{AreInOrder}
 use Rattle.engine_state.specs.Groups.{groups_left, is_materialised, GroupsStand, AreReplaced, AreRenewed}
 use Rattle.ts_model.proofs.FinishLaws.{covers_part}
 
--- ---- one event further
+-- ---- after one more event
 
 groups_at_further : (n : ℕ) (def : ViewDef) (h : History) (e : Event) (s : ℕ) (b : ℤ) → s ≤ position h → groups_at n def (h ▸ e) s b ≡ groups_at n def h s b
 groups_at_further n def h e s b l = ap (λ g. groups_at_last n def g s b) (prefix_further h e s l)
@@ -71,7 +71,7 @@ last_stays n h (Commit ops) b quiet = refl
 last_stays n h (Cut v span) b quiet = refl
 last_stays n h (Built cut snap) b quiet = absurd (true≢false quiet)
 
--- every event but a finish leaves the groups as they are
+-- every event except a finish leaves the groups unchanged
 pub groups_stay : (n : ℕ) (def : ViewDef) (h : History) (e : Event) (mark : Option ℤ) (groups : List Group) → all_consistent h ≡ true → is_built e ≡ false → GroupsStand n def h mark groups → GroupsStand n def (h ▸ e) mark groups
 groups_stay n def h e mark groups ok quiet s = record {
   in_order = s.in_order;
@@ -91,7 +91,7 @@ groups_unfinished n def h cut snap mark groups ok other s = record {
       ∙ stays_left n def h (Built cut snap) b ok);
 }
 
--- so does a mode, which plays no part in them
+-- so does a mode, which has no effect on them
 pub groups_of_mode : (n : ℕ) (def : ViewDef) (only : Bool) (h : History) (mark : Option ℤ) (groups : List Group) → GroupsStand n def h mark groups → GroupsStand n (set_only only def) h mark groups
 groups_of_mode n def only h mark groups s = record {
   in_order = s.in_order;
@@ -179,7 +179,7 @@ all_passing p q f test (row ∷ xs) e =
       | false ↦ all_passing p q f test xs parts.1
     ]
 
--- the test holds of each bucket that occurs where it holds of each row's
+-- the test is true of each bucket that occurs if it is true of each row's
 all_occurring : (fold : Fold) (test : ℤ → Bool) (xs : List Row) → list_all (λ row. test (bucket_of fold.width row.at)) xs ≡ true → list_all test (occurring_buckets fold xs) ≡ true
 all_occurring fold test xs e =
     let keys = map (λ row. bucket_of fold.width row.at) (filter (λ row. passes_all row fold.tests) xs) in
@@ -254,7 +254,7 @@ module _ (n : ℕ) (def : ViewDef) (h : History) (cut snap : ℕ) (span : Span) 
       let other = f.others b bucket inside out in
       untouched_since b other.0 (last n h b) (last_latest n h b other.0 other.2) other.3 upto
 
-  -- what is left of a bucket after the finish
+  -- the stored groups of a bucket after the finish
   left_after : (b : ℤ) → (inside above : Bool) → in_span span b ≡ inside → is_above snap (last n h b) ≡ above → groups_left n def (h ▸ Built cut snap) b (last n (h ▸ Built cut snap) b) ≡ cond (inside && not above) (groups_at n def h snap b) (groups_left n def h b (last n h b))
   left_after b inside above is_inside is_above_snap =
       ap (λ o. groups_left n def (h ▸ Built cut snap) b (later (last n h b) (cond (is_covered b o) (Some snap) None))) f.cut_is

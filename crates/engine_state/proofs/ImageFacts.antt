@@ -86,7 +86,7 @@ no_rows h t s st none = by_hyper (hyper_of (roster h) t) refl
 
 -- ---- last refreshes
 
--- the range of buckets is a span of whole ones
+-- the range of buckets is a span of whole buckets
 pub whole_is : (w : Width) → IsWidth w → IsWholeSpan w (whole_span w)
 whole_is w wide = record { starts = is_bucket-first w wide; ends = is_bucket-range_end w wide; from_first = omega (arith, ints) }
 
@@ -249,11 +249,11 @@ mapped_more f xs i x l is = step xs i l is ∙ ap (λ n. map f (take n xs)) (sym
     step (y ∷ ys) zero l is = ap (λ z. f z ∷ []) is
     step (y ∷ ys) (suc i) l is = ap (λ zs. f y ∷ zs) (step ys i (omega arith) is)
 
--- the same of results
+-- the same for results
 pub mapped_ok : {A B E : Type 0} (r : Result (List B) E) (f : A → B) (xs : List A) (P : List B → Type 0) → P (map f xs) → IfOk r (λ ys. ys ≡ map f xs) → IfOk r P
 mapped_ok (Ok ys) f xs P p is = subst P (sym is) p
 mapped_ok (Err e) f xs P p is = tt
 
--- the definition of an aggregate is one
+-- an aggregate has only one definition
 pub one_def : (r : Rattle.ts_model.specs.declared.rosters.Roster.Roster) (n : ℕ) (a b : ViewDef) → view_of r n ≡ Some a → view_of r n ≡ Some b → a ≡ b
 one_def r n a b x y = cc

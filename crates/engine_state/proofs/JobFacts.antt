@@ -69,7 +69,7 @@ pub parts_whole : (w : Width) (whole : Span) (parts : List Span) → list_all (i
 parts_whole w whole [] e = tt
 parts_whole w whole (part ∷ parts) e = let all = and_parts (is_part_of w whole part) (list_all (is_part_of w whole) parts) e in (part_whole w whole part all.0, parts_whole w whole parts all.1)
 
--- what lies in a part of a span lies in the span
+-- a number in a part of a span lies in the span
 part_inside : (w : Width) (whole part : Span) (b : ℤ) → is_part_of w whole part ≡ true → in_span part b ≡ true → in_span whole b ≡ true
 part_inside w whole part b e inside =
     let upto = and_parts _ (int_le part.hi whole.hi) e in
@@ -82,7 +82,7 @@ part_inside w whole part b e inside =
     let before : int_lt b part.hi ≡ true = here.1 in
     and_from _ _ (let l : int_le whole.lo b ≡ true = grind (arith, ints) in l) (let g : int_lt b whole.hi ≡ true = grind (arith, ints) in g)
 
--- ---- the ranges that it renews
+-- ---- the ranges that it updates
 
 pub ranges_sizes : (w : Width) (ranges : List Span) → AllByRecursion (IsWholeRange w) ranges → AreSpans ranges
 ranges_sizes w [] all = tt
@@ -106,7 +106,7 @@ asked_inside w whole parts b above s bucket e = by_parts (lies_in parts b) refl
         ap (λ t. t && not above) asked
     by_parts false is = and-false (is_asked w whole b)
 
--- the ranges of a job whose last refresh isn't above its snapshot are renewed by its groups
+-- the groups of a job update those of its ranges whose last refresh isn't above its snapshot
 pub job_renews : (h : History) (job : Job) (def : ViewDef) (log : LogValue) (renewed : List Span) → IsWholeSpan def.fold.width job.span → Fits job.view def h job.cut job.snap job.span job.spans job.groups job.top → log.width ≡ def.fold.width → ((b : ℤ) → is_bucket def.fold.width b ≡ true → last_at log b ≡ last job.view h b) → AreRanges log.width job.span (λ b. lies_in job.spans b && is_renewed log job.snap b) renewed → AreRenewed job.view def h job.snap job.spans job.groups renewed job.groups
 job_renews h job def log renewed whole f width lasts ranges = record {
   spans_are = λ b bucket.

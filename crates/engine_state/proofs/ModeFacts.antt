@@ -1,4 +1,4 @@
--- A mode changes the roster alone.
+-- A mode changes the roster only.
 use Rattle.std.proofs.Common.{◌≡◌, ◌∙◌, ℕ, suc, Bool, Result, Ok, Err, IfOk, ap}
 use Rattle.std.proofs.lemmas.Bool.{and_from}
 use Rattle.ts_model.specs.declared.events.Event.{Event}

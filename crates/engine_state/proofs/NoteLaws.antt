@@ -1,4 +1,4 @@
--- What the log of a table notes of a hull.
+-- The entries of a table's log after a hull is noted.
 use Rattle.std.proofs.Common.{◌≡◌, ℕ, true, false, cond, List, [], ◌∷◌, ◌++◌, Some, refl, ap}
 use Rattle.std.specs.Prelude.{int_lt}
 use Rattle.ts_bucket.specs.declared.spans.Hull.{Hull}
@@ -11,7 +11,7 @@ noted-pushed : (entries : List Entry) (hull : Hull) (pos : ℕ) → noted_in (en
 noted-pushed [] hull pos = refl
 noted-pushed (e ∷ es) hull pos = ap (λ ns. record { hull = e.hull; at = e.pos } ∷ ns) (noted-pushed es hull pos)
 
--- what a log notes is what the notes of its table note
+-- a log and the notes of its table note the same
 pub noted_entries : (log : TableLog) (hull : Hull) (pos : ℕ) → noted_in (entries_noted log hull pos) ≡ log_after (Some hull) pos log.threshold (noted_in log.entries)
 noted_entries log hull pos =
     elim (int_lt hull.least log.threshold) as (λ t. noted_in (cond t (log.entries ++ (record { hull = hull; pos = pos } ∷ [])) log.entries) ≡ cond t (noted_in log.entries ++ (record { hull = hull; at = pos } ∷ [])) (noted_in log.entries)) [

@@ -1,4 +1,4 @@
--- Of an aggregate that isn't there yet nothing is marked, and a cut is of one aggregate.
+-- A missing aggregate has no marks, and a cut is of one aggregate.
 use Rattle.std.proofs.Common.{◌≡◌, ℕ, suc, ◌≤◌, true, false, ◌&&◌, ◌==◌, cond, nat_lt, List, [], ◌∷◌, map, Option, Some, None, sym, refl, ap, ◌∙◌, arith}
 use Rattle.std.specs.List.{list_all}
 use Rattle.std.specs.Ordering.{is_lt, nat_cmp}
@@ -34,7 +34,7 @@ less_apart c k d e f =
     let below : nat_lt c d ≡ true = elim (nat_lt c d) as (λ t. is_lt (cond t Less (cond (c == d) Equal Greater)) ≡ true → t ≡ true) [ true ↦ λ _. refl | false ↦ λ g. elim (c == d) as (λ t. is_lt (cond t Equal Greater) ≡ true → false ≡ true) [ true ↦ λ x. x | false ↦ λ x. x ] g ] f in
     grind (arith, nat_tests)
 
--- the cut that is made now is of its aggregate
+-- the present cut is of its aggregate
 cut_now : (n : ℕ) (h : History) (k v : ℕ) (s span : Span) → all_consistent h ≡ true → (k == suc (position h)) ≡ true → cond (v == n) (Some s) (span_of_cut n h k) ≡ Some span → v ≡ n
 cut_now n h k v s span ok number e =
     elim (v == n) as (λ t. (v == n) ≡ t → cond t (Some s) (span_of_cut n h k) ≡ Some span → v ≡ n) [
@@ -45,7 +45,7 @@ cut_now n h k v s span ok number e =
           absurd (omega arith)
     ] refl e
 
--- by an image, the first refresh that waits with a number is the only one
+-- in an image, the first waiting refresh with a number is the only one
 later_apart : (n k c : ℕ) (ws : List WaitingRefresh) → k ≡ c → list_all (λ d. is_lt (nat_cmp c d)) (map (λ (w : WaitingRefresh). w.cut) ws) ≡ true → span_among n ws k ≡ None
 later_apart n k c [] e rising = refl
 later_apart n k c (w ∷ ws) e rising =
@@ -80,7 +80,7 @@ cut_of_one n m (h ▸ Cut v s) k span other ok e f =
     ] refl e f
 cut_of_one n m (h ▸ x) k span other ok e f = cut_of_one n m h k span other (and_parts (all_consistent h) _ ok).0 e f
 
--- so it is no cut of another
+-- so it isn't a cut of another
 pub cut_of_no_other : (n m : ℕ) (h : History) (k : ℕ) (span : Span) → all_consistent h ≡ true → span_of_cut n h k ≡ Some span → (m ≡ n → ⊥) → span_of_cut m h k ≡ None
 cut_of_no_other n m h k span ok e differs = by_span (span_of_cut m h k) refl
   where

@@ -24,7 +24,7 @@ use Rattle.engine_state.specs.Lists.{Each, EachFrom}
 use Rattle.engine_state.specs.declared.group_rebuilds.GroupRebuild.{GroupRebuild}
 use Rattle.engine_state.specs.GroupRebuilds.{AreRefolded, AreRefolds, CanTake, IsRefoldOf, IsRefolded, Makes, TakesBy, TakesMore, events_read, feeds, is_over, rows_of, was_refreshed}
 
--- ---- one after the other
+-- ---- in order
 
 takes_more : (f g h : ℕ → List Row) (a b c : GroupRebuild) → ((t : ℕ) → h t ≡ f t ++ g t) → TakesMore f a b → TakesMore g b c → TakesMore h a c
 takes_more f g h a b c both first then = record {
@@ -51,7 +51,7 @@ each_then f g h (a ∷ rs) [] cs both p q = absurd p
 each_then f g h (a ∷ rs) (b ∷ bs) [] both p q = absurd q
 each_then f g h (a ∷ rs) (b ∷ bs) (c ∷ cs) both p q = (takes_then f g h a b c both p.0 q.0, each_then f g h rs bs cs both p.1 q.1)
 
--- they can take in more
+-- more rows can be added to them
 can_after : (f : ℕ → List Row) (a b : Option GroupRebuild) → CanTake a → TakesBy f a b → CanTake b
 can_after f None None can p = tt
 can_after f None (Some b) can p = absurd p
@@ -95,7 +95,7 @@ none_taken f [] none = tt
 none_taken f (None ∷ rs) none = (tt, none_taken f rs none)
 none_taken f (Some a ∷ rs) none = (takes_nothing f a (none a.table), none_taken f rs none)
 
--- rows of a table over which there is none
+-- rows of a table without an aggregate over it
 not_or : (a b : Bool) → (a || b) ≡ false → (a ≡ false) × (b ≡ false)
 not_or true b e = absurd (true≢false e)
 not_or false b e = (refl, e)
@@ -155,7 +155,7 @@ are_times (row ∷ rows) e =
     let parts = and_parts (is_time row.at) (list_all (λ r. is_time r.at) rows) e in
     (parts.0, are_times rows parts.1)
 
--- rs many rows in both parts rs before
+-- as many rows in both parts as before
 pub length_cut : (left piece rest : List Row) (k : ℕ) → piece ≡ take k left → rest ≡ drop k left → length left ≡ length piece + length rest
 length_cut left piece rest k first others =
     ap length (sym (cut k left)) ∙ length-append (take k left) (drop k left) ∙ ap (λ n. n + length (drop k left)) (ap length (sym first)) ∙ ap (λ n. length piece + n) (ap length (sym others))
@@ -167,7 +167,7 @@ count_piece a b n total old mid new parts small next so_far = omega (arith, part
 pub count_cut : (a b n total old mid new : ℕ) → n ≡ a + b → mid < 2 ^ 64 → new ≡ raised_by a mid → old ≤ mid → raised_by n mid ≡ raised_by total old → RaisedUpTo total old new
 count_cut a b n total old mid new parts small next up so_far = (omega (arith, small, next, up), omega (arith, parts, small, next, so_far))
 
--- one more that was made
+-- one more finished one
 pub zip_pushed : {A B : Type 0} (R : A → B → Type 0) (xs : List A) (ys : List B) (x : A) (y : B) → AllZip R xs ys → R x y → AllZip R (xs ++ x ∷ []) (ys ++ y ∷ [])
 zip_pushed R [] [] x y e r = (r, tt)
 zip_pushed R [] (b ∷ ys) x y e r = absurd e
@@ -211,7 +211,7 @@ all_made i n (def ∷ defs) [] made p q = absurd p
 all_made i n (def ∷ defs) (a ∷ rs) [] p q = absurd q
 all_made i n (def ∷ defs) (a ∷ rs) (m ∷ made) p q = (made_of i def (saved_view n i) a m p.0 q.0, all_made i (suc n) defs rs made p.1 q.1)
 
--- each of them can take in rows
+-- rows can be added to each of them
 pub refolds_can : (i : Image) (f : ℕ → List Row) (n : ℕ) (defs : List ViewDef) (rs : List (Option GroupRebuild)) → EachFrom (AreRefolds i f) n defs rs → AllByRecursion CanTake rs
 refolds_can i f n [] [] p = tt
 refolds_can i f n [] (a ∷ rs) p = absurd p
@@ -219,7 +219,7 @@ refolds_can i f n (def ∷ defs) [] p = absurd p
 refolds_can i f n (def ∷ defs) (None ∷ rs) p = (tt, refolds_can i f (suc n) defs rs p.1)
 refolds_can i f n (def ∷ defs) (Some a ∷ rs) p = ((f def.table, p.0.1.taken), refolds_can i f (suc n) defs rs p.1)
 
--- one of them is over a table exactly where an aggregate over it was refreshed
+-- one of them is over a table if and only if an aggregate over it was refreshed
 over_is : (f : ℕ → List Row) (t : ℕ) (def : ViewDef) (kept : SavedView) (a : Option GroupRebuild) → IsRefoldOf f def kept a → is_over t a ≡ (was_refreshed kept && t == def.table)
 over_is f t def kept None p = sym (ap (λ b. b && t == def.table) p)
 over_is f t def kept (Some a) p = ap (λ u. t == u) p.1.table_is ∙ sym (ap (λ b. b && t == def.table) p.0)
@@ -251,7 +251,7 @@ fed_from f t front (v ∷ vs) (def ∷ defs) (a ∷ rs) e p =
 pub fed : (i : Image) (f : ℕ → List Row) (t : ℕ) (defs : List ViewDef) (rs : List (Option GroupRebuild)) → length i.views ≡ length defs → Each (AreRefolds i f) defs rs → list_any (is_over t) rs ≡ feeds t defs i.views
 fed i f t defs rs e p = fed_from f t [] i.views defs rs e p
 
--- the groups of an aggregate among those that were made
+-- the groups of an aggregate among the finished ones
 refolded_from : (i : Image) (k n : ℕ) (defs : List ViewDef) (made : List (List Group)) (def : ViewDef) (groups : List Group) → EachFrom (AreRefolded i) k defs made → slice_get defs n ≡ Some def → groups ≡ get_or made n groups → IsRefolded i def (saved_view (k + n) i) groups
 refolded_from i k n [] made def groups each there is = absurd (cc)
 refolded_from i k n (d ∷ defs) [] def groups each there is = absurd each
@@ -268,7 +268,7 @@ refolded_at i n defs made def groups each there is =
     let here : 0 + n ≡ n = omega arith in
     subst (λ j. IsRefolded i def (saved_view j i) groups) here (refolded_from i 0 n defs made def groups each there is)
 
--- what stands in a vector once all of it was changed as a slice
+-- the contents of a vector after all of it was changed as a slice
 pub whole_slice : (n : ℕ) (old new : List (Option GroupRebuild)) → n ≡ length old → length old ≡ length new → take n (new ++ drop (length new) old) ≡ new
 whole_slice n old new long same =
     ap (λ more. take n (new ++ more)) (drop_all (length new) old (omega (arith, same))) ∙ ap (take n) (append-nil new) ∙ take_all n new (omega (arith, long, same))
@@ -304,7 +304,7 @@ one_op event ops (o ∷ p ∷ items) op is same some few at t = absurd (omega (a
 pub same_takes : (f g : ℕ → List Row) (olds news : List (Option GroupRebuild)) → ((t : ℕ) → f t ≡ g t) → AllZip (TakesBy f) olds news → AllZip (TakesBy g) olds news
 same_takes f g olds news same takes = subst (λ (h : ℕ → List Row). AllZip (TakesBy h) olds news) (λ k t. same t k) takes
 
--- a count that rose by so many
+-- a count that rose by this many
 pub ticks_of : {T E : Type 0} (r : Result T E) (n old new : ℕ) → old < 2 ^ 64 → new ≡ raised_by n old → Ticks r n old new
 ticks_of (Ok x) n old new small is = is
 ticks_of (Err e) n old new small is = (omega (arith, small, is), omega (arith, is))

@@ -1,4 +1,4 @@
--- What a new aggregate, a cut and a finish do to a state that represents a history.
+-- The effect of a new aggregate, a cut and a finish on a state that represents a history.
 use Rattle.std.proofs.Common.{◌≡◌, ℕ, suc, zero, ◌+◌, ◌<◌, Bool, true, false, not, ◌==◌, cond, List, [], ◌∷◌, ◌++◌, length, map, set, ℤ, Option, Some, None, sym, refl, ap, ◌∙◌, subst, arith}
 use Rattle.std.specs.List.{slice_get}
 use Rattle.std.specs.Option.{option_and_then}
@@ -41,7 +41,7 @@ past_end : {X : Type 0} (xs : List X) → slice_get xs (length xs) ≡ None
 past_end [] = refl
 past_end (x ∷ xs) = past_end xs
 
--- an event other than a finish, which the aggregate isn't named by, leaves those that are there
+-- an event other than a finish that doesn't name the new aggregate leaves the existing ones unchanged
 not_yet : (n m : ℕ) → n < m → not (m == n) ≡ true
 not_yet n m l = elim (m == n) as (λ t. (m == n) ≡ t → not t ≡ true) [ true ↦ λ e. let is : m ≡ n = eqb-true m n e in absurd (omega arith) | false ↦ λ _. refl ] refl
 
@@ -113,7 +113,7 @@ module _ (h : History) (v : ℕ) (span : Span) (s : StateValue) (def : ViewDef) 
       by_kind None x = absurd x
       by_kind (Some hyper) x = table_cut h def.table hyper (Cut v span) span.hi old_table new_table refl cut x
 
-  -- an aggregate over the table hears of the cut, and the others don't
+  -- a cut changes the aggregates over the table, and no others
   cut_view : (n : ℕ) (d : ViewDef) (old new : ViewValue) → slice_get (roster h).views n ≡ Some d → ViewAt h s.tables n d old → FedAt def.table old_table n old new → ViewAt (h ▸ Cut v span) (set s.tables def.table (Some new_table)) n d new
   cut_view n d old new d_is stands is_fed = by_table (table_at s.tables d.table) refl stands
     where

@@ -13,7 +13,7 @@ use Rattle.engine_state.specs.Resumed.{ResumedAt}
 use Rattle.engine_state.specs.Stands.{StandsFor, StateValue, TableAt, ViewAt}
 use Rattle.engine_state.proofs.EachLaws.{each_map}
 
--- one event more
+-- one more event
 pub roster_more : (r : Roster) (es : List Event) (i : ℕ) (e : Event) → i < length es → e ≡ get_or es i e → roster_after (roster_over r (take i es)) e ≡ roster_over r (take (i + 1) es)
 roster_more r es i e l is = step r es i l is ∙ ap (λ n. roster_over r (take n es)) (sym (add-one i))
   where
@@ -22,7 +22,7 @@ roster_more r es i e l is = step r es i l is ∙ ap (λ n. roster_over r (take n
     step r (d ∷ ds) zero l is = ap (roster_after r) is
     step r (d ∷ ds) (suc i) l is = step (roster_after r d) ds i (omega arith) is
 
--- its parts, each as it was made
+-- its parts, each built from the image
 pub state_resumed : (i : Image) (s : StateValue) → valid i ≡ true → s.position ≡ i.pos → s.roster ≡ image_roster i → Each (ResumedAt i) (image_roster i).tables s.tables
     → Each (ViewAt (resumed i) s.tables) (image_roster i).views s.views → s.refreshes ≡ together i.waiting i.done → StandsFor (resumed i) s
 state_resumed i s ok position relations tables views refreshes = record {

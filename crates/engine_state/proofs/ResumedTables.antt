@@ -46,7 +46,7 @@ over_cons t (Commit ops) ds = ap (λ xs. xs ++ appended_over t ds) (sym (append-
 over_cons t (Cut v span) ds = refl
 over_cons t (Built cut snap) ds = refl
 
--- one event more
+-- one more event
 pub over_more : (t : ℕ) (es : List Event) (i : ℕ) (e : Event) → i < length es → e ≡ get_or es i e → appended_over t (take i es) ++ appended_over t (e ∷ []) ≡ appended_over t (take (i + 1) es)
 over_more t es i e l is = sym (step es i l is) ∙ ap (λ n. appended_over t (take n es)) (sym (add-one i))
   where
@@ -77,7 +77,7 @@ inserted_rows t u new xs =
       | false ↦ ap in_order (sym (append-nil xs))
     ]
 
--- what such a commit at the first position makes of a table that holds rows since then
+-- a table that holds rows since the first position, after such a commit at that position
 pub held_next : (t : ℕ) (ops : List Op) (rows : List Row) (old made : ChunksValue) → is_timed (Commit ops) ≡ true → IsHeld rows old → Follows t ops 0 old made → IsHeld (rows ++ appended_over t (Commit ops ∷ [])) made
 held_next t [] rows old made e held f = absurd (true≢false (sym e))
 held_next t (Delete u tests ∷ []) rows old made e held f = absurd (true≢false (sym e))
@@ -141,7 +141,7 @@ greater_none : (a : Option ℤ) → greater a None ≡ a
 greater_none None = refl
 greater_none (Some x) = refl
 
--- one end more
+-- one more end
 pub last_hi_more : (ls : List SavedLast) (i : ℕ) (l : SavedLast) → i < length ls → l ≡ get_or ls i l → greater (last_hi (take i ls)) (Some l.span.hi) ≡ last_hi (take (i + 1) ls)
 last_hi_more ls i l less is = step ls i less is ∙ ap (λ n. last_hi (take n ls)) (sym (add-one i))
   where

@@ -65,7 +65,7 @@ use Rattle.engine_state.specs.GroupRebuilds.{IsRefolded, was_refreshed}
 use Rattle.engine_state.specs.Tables.{TableIs, TableValue, table_at}
 use Rattle.engine_state.specs.Views.{ViewStands, ViewValue}
 
--- ---- what a valid image keeps of an aggregate, part by part
+-- ---- the parts that a valid image keeps of an aggregate
 
 pub record KeptParts (p : ℕ) (def : ViewDef) (v : SavedView) : Type 0 where
   pub lasts : list_all (λ l. span_fits l.span (Some def) && nat_lt l.pos p) v.lasts ≡ true
@@ -204,7 +204,7 @@ lies_where (l ∷ ls) b = ap (λ t. in_span l.span b || t) (lies_where ls b) ∙
     by true o = refl
     by false o = refl
 
--- a position of a range is below the image's
+-- a position of a range is below that of the image
 pos_below : (p : ℕ) (def : ViewDef) (ls : List SavedLast) (b : ℤ) (s : ℕ) → list_all (λ l. span_fits l.span (Some def) && nat_lt l.pos p) ls ≡ true → pos_in ls b ≡ Some s → nat_lt s p ≡ true
 pos_below p def [] b s e f = absurd (cc)
 pos_below p def (l ∷ ls) b s e f =
@@ -279,7 +279,7 @@ among_is (g ∷ gs) b =
       | false ↦ among_is gs b
     ]
 
--- groups of buckets below a mark, where a bucket that isn't below it has none
+-- groups of buckets below a mark, if a bucket that isn't below it has none
 below_by_buckets : (def : ViewDef) (mark : Option ℤ) (gs : List Group) → list_all (λ g. is_bucket def.fold.width g.start) gs ≡ true → ((b : ℤ) → is_bucket def.fold.width b ≡ true → is_below b mark ≡ false → of_bucket b gs ≡ []) → list_all (is_materialised def mark) gs ≡ true
 below_by_buckets def mark [] all none = refl
 below_by_buckets def mark (g ∷ gs) all none =
@@ -302,7 +302,7 @@ folded_buckets fold xs b wide bucket =
     ap (of_bucket b) (order_plays_no_part fold xs (in_order xs) wide (sym (in_order-twice xs)))
     ∙ groups_of_one_bucket fold (in_order xs) b wide bucket
 
--- the groups of an aggregate, combined from those of an image and those recomputed from its rows
+-- the groups of an aggregate, combined from the saved ones and those recomputed from the rows of an image
 module _ (i : Image) (n : ℕ) (def : ViewDef) (v : SavedView) (anew : List Group) (of : IsKeptOf i n def v anew) where
   parts : KeptParts i.pos def v
   parts = kept_parts i n def v of.ok of.there of.kept_is
@@ -432,7 +432,7 @@ has_state i t tables each some = by_info (table_of (image_roster i) t) refl some
 pub view_table : (i : Image) (n : ℕ) (def : ViewDef) → valid i ≡ true → view_of (image_roster i) n ≡ Some def → IsSome (hyper_of (image_roster i) def.table)
 view_table i n def ok there = asked_hyper (view_fits def) (table_of (image_roster i) def.table) ((rosters_are_sound (resumed i) ok).views n def there)
 
--- and something is kept of each aggregate
+-- and the image keeps something of each aggregate
 pub as_many_kept : (i : Image) → valid i ≡ true → length i.views ≡ length (image_roster i).views
 as_many_kept i ok = many (image_roster i).views i.views (valid_is i ok).views
   where
@@ -442,7 +442,7 @@ as_many_kept i ok = many (image_roster i).views i.views (valid_is i ok).views
     many (def ∷ defs) [] e = absurd (true≢false (sym e))
     many (def ∷ defs) (v ∷ vs) e = ap suc (many defs vs (and_parts (view_kept i.pos def (image_rows i def.table) v) _ e).1)
 
--- what is kept of an aggregate, with the table that was found for it
+-- the saved parts of an aggregate, with the table found for it
 pub saved_of : (i : Image) (n : ℕ) (def : ViewDef) (v : SavedView) (tables : List (Option TableValue)) (table : TableValue) (anew : List Group) → valid i ≡ true → Each (ResumedAt i) (image_roster i).tables tables → view_of (image_roster i) n ≡ Some def → slice_get i.views n ≡ Some v
     → table_at tables def.table ≡ Some table → IsRefolded i def (saved_view n i) anew → IsSavedOf i n def v table anew
 saved_of i n def v tables table anew ok each there kept at are =

@@ -18,7 +18,7 @@ use Rattle.chunk_catalog.specs.Chunks.{HoldsTimes}
 use Rattle.realtime_union.specs.Whole.{passing_rows}
 use Rattle.group_fold.specs.Spans.{HaveTimes}
 
--- a filter after another is one by both
+-- two filters in order are one filter by both
 pub filter_both : {X : Type 0} (p q r : X → Bool) (xs : List X) → ((x : X) → r x ≡ (p x && q x)) → filter r xs ≡ filter p (filter q xs)
 filter_both p q r [] both = refl
 filter_both p q r (x ∷ xs) both =
@@ -29,7 +29,7 @@ filter_both p q r (x ∷ xs) both =
       | false ↦ elim (p x) as (λ b. cond (b && false) (x ∷ filter p (filter q xs)) (filter p (filter q xs)) ≡ filter p (filter q xs)) [ true ↦ refl | false ↦ refl ]
     ]
 
--- no row is lost that passes the tests
+-- no row that passes the tests is lost
 none_lost : (tests : List Test) (span : Span) (rows : List Row) → HoldsTimes tests span → HaveTimes rows → filter (λ row. passes_all row tests) (filter (λ row. in_span span row.at) rows) ≡ filter (λ row. passes_all row tests) rows
 none_lost tests span [] holds times = refl
 none_lost tests span (row ∷ rows) holds times =
@@ -54,6 +54,6 @@ passing_timed at tests span rows holds times =
     ap (map (Rattle.ts_model.specs.Answers.all_columns at))
     (filter-in_order (λ row. passes_all row tests) (filter (λ row. in_span span row.at) rows) ∙ ap in_order (none_lost tests span rows holds times) ∙ sym (filter-in_order (λ row. passes_all row tests) rows))
 
--- what two spans have in common
+-- the common part of two spans
 pub both_is : (alo ahi blo bhi l m h t : ℤ) → l ≡ int_max alo blo → m ≡ int_min ahi bhi → h ≡ int_max m l → (int_le l t && int_lt t h) ≡ ((int_le alo t && int_lt t ahi) && (int_le blo t && int_lt t bhi))
 both_is alo ahi blo bhi l m h t p q r = rw (r, q, p) (grind (arith, ints, clamps))

@@ -1,4 +1,4 @@
--- What the state of an aggregate shows, beside a history.
+-- The answer of an aggregate's state, compared with a history.
 use Rattle.std.proofs.Common.{◌≡◌, ℕ, Bool, true, false, not, ◌&&◌, ◌||◌, cond, List, [], ◌∷◌, map, filter, ℤ, ◌+ℤ◌, ◌-ℤ◌, ◌≤ℤ◌, ◌<ℤ◌, int_le, int_lt, Option, Some, None, sym, refl, ap, ◌∙◌, subst, arith}
 use Rattle.std.specs.Prelude.{IfSome, is_none, is_some}
 use Rattle.std.specs.Option.{ForSome}
@@ -125,7 +125,7 @@ asked_within w mark starts (g ∷ gs) all =
     ∙ and_from _ _ (and_from _ _ asked low.1) (asked_within w mark starts gs parts.1))
     (λ outside. ap (λ t. list_all (λ x. is_asked w starts x.start && is_below x.start mark) (cond t (g ∷ within starts gs) (within starts gs))) outside ∙ asked_within w mark starts gs parts.1)
 
--- an aggregate with the table that was found for it
+-- an aggregate with the table found for it
 pub seen_view : (h : History) (n : ℕ) (s : StateValue) (def : ViewDef) (view : ViewValue) (own found : TableValue) (position : ℕ) → view_of (roster h) n ≡ Some def → table_at s.tables def.table ≡ Some own → ViewStands h n def own.log view → table_at s.tables def.table ≡ Some found → IsTableOf h def.table position found → IsViewOf h n position def view found
 seen_view h n s def view own found position there own_at stands found_at told =
     let same : own ≡ found = one (sym own_at ∙ found_at) in
@@ -134,7 +134,7 @@ seen_view h n s def view own found position there own_at stands found_at told =
     one : {x y : TableValue} → Some x ≡ Some y → x ≡ y
     one e = cc
 
--- what its answer asks for
+-- the requirements of its answer
 pub record ViewAsks (def : ViewDef) (view : ViewValue) (table : TableValue) : Type 0 where
   pub width : view.log.width ≡ def.fold.width
   pub mark : ForSome view.mark (IsMark view.log.width)
@@ -163,12 +163,12 @@ module _ (h : History) (n : ℕ) (def : ViewDef) (table : TableValue) (view : Vi
         (from_first def view.mark view.groups (λ b bucket low. stands.groups.exact b bucket ∙ no_low_groups n def h b (last n h b) (is_of_itself def (view_of (roster h) n) there) ok refl low) stands.groups.all);
   }
 
-  -- what the last refresh of a bucket has left, as it is shown
+  -- what the last refresh of a bucket stored, as it is shown
   left_shown : (b : ℤ) (o : Option ℕ) → map (cells_of def.fold) (groups_left n def h b o) ≡ left_by n def h b o
   left_shown b None = refl
   left_shown b (Some s) = refl
 
-  -- a bucket below the mark that isn't stale shows what its last refresh has left
+  -- a bucket below the mark that isn't stale shows what its last refresh stored
   still_left : (b : ℤ) (o : Option ℕ) → is_invalid n def h b o ≡ false → left_by n def h b o ≡ scratch def h b
   still_left b None valid = absurd (true≢false valid)
   still_left b (Some s) valid = sym (untouched_keeps n def h b s valid)
@@ -257,7 +257,7 @@ module _ (h : History) (n : ℕ) (def : ViewDef) (table : TableValue) (view : Vi
       (stale_shown starts found.stale is.stale_are)
       ∙ sym (ap (answer_of_view n h starts) there)
 
-  -- the rows looked at are those of the history
+  -- the rows read are those of the history
   pub view_read : (starts : Span) (position : ℕ) → IsTableOf h def.table position table → view_reads def view.mark starts table ≡ reads (Aggregate n starts) h
   view_read starts position told =
       let live : Option ℤ → List Span = λ m. map (bucket_span def.fold.width) (filter (λ b. not (is_below b m)) (buckets_in def.fold.width starts)) in

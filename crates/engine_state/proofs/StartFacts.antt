@@ -1,4 +1,4 @@
--- What a job that is made of a state's rows is beside a history.
+-- Jobs computed from the rows of a state, compared with a history.
 use Rattle.std.proofs.Common.{◌≡◌, ℕ, suc, ◌+◌, ◌≤◌, nat_le, nat_lt, Bool, true, false, cond, ◌==◌, ◌&&◌, List, [], ◌∷◌, filter, ℤ, ◌+ℤ◌, ◌≤ℤ◌, ◌<ℤ◌, int_le, int_lt, Option, Some, None, Result, Ok, Err, IfOk, sym, refl, ap, ◌∙◌, subst, arith}
 use Rattle.std.specs.Prelude.{IsSome, sum_by}
 use Rattle.std.specs.List.{AllByRecursion, list_all}
@@ -70,7 +70,7 @@ use Rattle.coverage.proofs.StepLaws.{low_before}
 
 -- ---- ranges of a span
 
--- a span as a cut has it
+-- the span of a cut
 pub record IsCutSpan (w : Width) (span : Span) : Type 0 where
   pub starts : is_bucket w span.lo ≡ true
   pub ends : is_bucket w span.hi ≡ true
@@ -86,7 +86,7 @@ cut_span span def e =
     let ends = and_parts (is_bucket def.fold.width span.lo) (is_bucket def.fold.width span.hi) some.0 in
     record { starts = ends.0; ends = ends.1; from_first = int_le-true (first_of def.fold.width) span.lo first.1; upto = int_le-true span.hi greatest (and_parts _ (int_le span.hi greatest) high.1).1 }
 
--- a bucket of a span is asked for by it, and one of the range of buckets
+-- a bucket of a span is requested by the span, and is in the range of buckets
 in_asked : (w : Width) (span : Span) (b : ℤ) → IsCutSpan w span → is_bucket w b ≡ true → in_span span b ≡ true → is_asked w span b ≡ true
 in_asked w span b s bucket inside =
     let from : span.lo ≤ℤ b = (in_span-ends span b inside).0 in
@@ -137,14 +137,14 @@ same_of_spans fold spans xs ys same =
     let chosen : Row → Bool = λ row. lies_in spans (bucket_of fold.width row.at) && passes_all row fold.tests in
     sym (in_order-twice (filter chosen xs)) ∙ (ap in_order (sym (filter-in_order chosen xs)) ∙ ap (λ zs. in_order (filter chosen zs)) same)
 
--- what a job is made of may be in any order
+-- the rows of a job may be in any order
 pub made_in_order : (fold : Fold) (xs ys : List Row) (job : Job) → IsWidth fold.width → in_order xs ≡ ys → IsMadeOf fold xs job → IsMadeOf fold ys job
 made_in_order fold xs ys job wide same made =
     let groups : job.groups ≡ groups_of fold (rows_of_spans fold job.spans ys) = made.groups_are ∙ order_plays_no_part fold (rows_of_spans fold job.spans xs) (rows_of_spans fold job.spans ys) wide (same_of_spans fold job.spans xs ys same) in
     let end : job.top ≡ end_of_last fold.width job.groups = made.top_is ∙ sym (top_of_groups fold job.spans xs job.groups (end_of_last fold.width job.groups) wide made.groups_are refl) in
     record { groups_are = groups; top_is = top_of_groups fold job.spans ys job.groups job.top wide groups end }
 
--- ---- what no commit touched after a position
+-- ---- buckets that no commit touched after a position
 
 -- no earlier position has a later touch
 pub untouched_before : (n : ℕ) (def : ViewDef) (h : History) (b : ℤ) (r s : ℕ) → is_above r (last_touch n def h b) ≡ false → is_above r (last_touch_at n def h s b) ≡ false
@@ -171,16 +171,17 @@ module _ (h : History) (n : ℕ) (def : ViewDef) (table : TableValue) (view : Vi
   dirty_at : (b : ℤ) → is_bucket def.fold.width b ≡ true → in_span span b ≡ true → is_dirty_with view.log table.log.entries b ≡ invalid n def h b
   dirty_at b bucket inside = dirty_is h n def table view ok there stands b bucket (in_whole def.fold.width span b wide span_is bucket inside)
 
-  -- a bucket that isn't out of date was refreshed, and not touched since
+  -- a bucket that isn't stale was refreshed, and not touched since
   clean_at : (b : ℤ) (o : Option ℕ) → last n h b ≡ o → is_invalid n def h b o ≡ false → (r : ℕ) × (r ≤ position h) × (was_refreshed n h b r ≡ true) × (is_above r (last_touch n def h b) ≡ false)
   clean_at b None is clean = absurd (true≢false clean)
   clean_at b (Some r) is clean = (r, last_bounded n h b r ok is, lasts_are_last.refreshed n h b r is, clean)
 
-  -- what holds of a bucket that a job leaves as it is
+  -- the condition on a bucket that a job leaves unchanged
   abbrev IsLeft : ℕ → ℤ → Type 0
   IsLeft snap b = (r : ℕ) × (r ≤ snap) × (was_refreshed n h b r ≡ true) × (is_above r (last_touch_at n def h snap b) ≡ false)
 
-  -- a job of the rows that a position saw fits, where what it leaves as it is was refreshed and not touched since
+  -- a job of the rows that a position saw fits, if each bucket that it leaves unchanged was refreshed and not
+  -- touched since
   fits_from : (snap : ℕ) (seen : List Row) (job : Job) (test : ℤ → Bool) → cut ≤ snap → base_position h ≤ snap → snap ≤ position h → in_order seen ≡ rows_at def.table h snap → AreRanges def.fold.width span test job.spans → IsMadeOf def.fold seen job → ((b : ℤ) → is_bucket def.fold.width b ≡ true → in_span span b ≡ true → test b ≡ false → IsLeft snap b) → Fits n def h cut snap span job.spans job.groups job.top
   fits_from snap seen job test after base taken rows_are ranges_are made left =
       let ordered : IsMadeOf def.fold (rows_at def.table h snap) job = made_in_order def.fold seen (rows_at def.table h snap) job wide rows_are made in
@@ -201,7 +202,7 @@ module _ (h : History) (n : ℕ) (def : ViewDef) (table : TableValue) (view : Vi
       not_passing : (b : ℤ) → is_asked def.fold.width span b ≡ true → (is_asked def.fold.width span b && test b) ≡ false → test b ≡ false
       not_passing b asked e = sym (ap (λ t. t && test b) asked) ∙ e
 
-  -- a job of the rows of the whole history fits it, where its ranges are those that are out of date
+  -- a job of the rows of the whole history fits it, if its ranges are the stale ones
   pub fits_now : (seen : List Row) (job : Job) → in_order seen ≡ rows def.table h → AreRanges def.fold.width span (is_dirty_with view.log table.log.entries) job.spans → IsMadeOf def.fold seen job → Fits n def h cut (position h) span job.spans job.groups job.top
   fits_now seen job rows_are ranges_are made =
       let end : prefix h (position h) ≡ h = prefix_end h (position h) (omega arith) in
@@ -210,7 +211,7 @@ module _ (h : History) (n : ℕ) (def : ViewDef) (table : TableValue) (view : Vi
       let found = clean_at b (last n h b) refl (sym (dirty_at b bucket inside) ∙ clean) in
       (found.0, found.1, found.2, ap (λ g. is_above found.0 (last_touch n def g b)) end ∙ found.3))
 
-  -- a job of an earlier snapshot fits too, where its ranges are those that are out of date or were refreshed later
+  -- a job of an earlier snapshot fits too, if its ranges are those that are stale or were refreshed later
   pub fits_then : (snap : ℕ) (seen : List Row) (job : Job) → cut ≤ snap → base_position h ≤ snap → snap ≤ position h → in_order seen ≡ rows_at def.table h snap → AreRanges def.fold.width span (is_redone_with view.log table.log.entries snap) job.spans → IsMadeOf def.fold seen job → Fits n def h cut snap span job.spans job.groups job.top
   fits_then snap seen job after base taken rows_are ranges_are made =
       fits_from snap seen job (is_redone_with view.log table.log.entries snap) after base taken rows_are ranges_are made
@@ -224,7 +225,7 @@ module _ (h : History) (n : ℕ) (def : ViewDef) (table : TableValue) (view : Vi
       early_at b None is above clean = absurd (true≢false clean)
       early_at b (Some r) is above clean = (r, at_or_below snap r above, lasts_are_last.refreshed n h b r is, clean)
 
-  -- the ranges that are out of date, as the history has them
+  -- the stale ranges of the history
   pub dirty_are : AreRanges def.fold.width span (is_dirty_with view.log table.log.entries) (dirty_ranges n def h span)
   dirty_are =
       AreRanges-same def.fold.width span span (invalid n def h) (is_dirty_with view.log table.log.entries) (dirty_ranges n def h span)
@@ -233,7 +234,7 @@ module _ (h : History) (n : ℕ) (def : ViewDef) (table : TableValue) (view : Vi
       (λ other. ap (λ t. t && invalid n def h b) other ∙ sym (ap (λ t. t && is_dirty_with view.log table.log.entries b) other)))
       (ranges_are_maximal def.fold.width span (invalid n def h) wide)
 
--- the rows looked at, range by range
+-- the rows read, range by range
 pub near_is : (h : History) (t position : ℕ) (table : TableValue) (spans : List Span) → IsTableOf h t position table → near_each table.rows.interval (stored_rows table) spans ≡ sum_by (λ range. rows_near_in (hyper_of (roster h) t) (rows_inserted t h) (range ∷ [])) spans
 near_is h t position table [] is = refl
 near_is h t position table (s ∷ ss) is =
@@ -243,7 +244,7 @@ near_is h t position table (s ∷ ss) is =
 
 -- ---- a refresh that waits
 
--- a refresh of a list that waits has a number and an aggregate there
+-- a waiting refresh of a list has a number and an aggregate there
 pub record IsWaitingRefresh (refreshes : List Listed) (cut : ℕ) (w : WaitingRefresh) : Type 0 where
   pub waits : pending_in refreshes cut ≡ Waiting w.view
   pub cut_is : w.cut ≡ cut
@@ -263,7 +264,7 @@ waiting_there (r ∷ rs) cut w e =
     let rest = waiting_there rs cut w (sym (ap (λ t. cond t (as_waiting r.cut r.stage) (waits_in rs cut)) later) ∙ e) in
     record { waits = ap (λ t. cond t (state_by r.stage) (pending_in rs cut)) later ∙ rest.waits; cut_is = rest.cut_is })
 
--- one that waits is there
+-- a waiting refresh is in the list
 pub waits_there : (refreshes : List Listed) (cut : ℕ) → is_waiting (pending_in refreshes cut) ≡ true → waits_in refreshes cut ≡ None → ⊥
 waits_there [] cut waits none = true≢false (sym waits)
 waits_there (r ∷ rs) cut waits none =
@@ -290,7 +291,7 @@ fitting_view : (span : Span) (o : Option ViewDef) → span_fits span o ≡ true 
 fitting_view span None e = absurd (true≢false (sym e))
 fitting_view span (Some def) e = refl
 
--- a refresh that waits in a state is one of the history
+-- a waiting refresh of a state is one of the history
 pub refresh_is : (h : History) (s : StateValue) (cut : ℕ) (w : WaitingRefresh) (refresh : Refresh) → StandsFor h s → waits_in s.refreshes cut ≡ Some w → refresh.view ≡ w.view → refresh.cut ≡ w.cut → refresh.span ≡ w.span → IsRefreshOf h cut refresh
 refresh_is h s cut w refresh st found view_is cut_is span_is =
     let there = waiting_there s.refreshes cut w found in
@@ -316,12 +317,12 @@ times_then h t position snap table ok is =
     sym (all-in_order (λ row. is_time row.at) (seen_rows snap table))
     ∙ (ap (list_all (λ row. is_time row.at)) (is.stands.rows.seen snap) ∙ rows_are_times.rows t h snap ok)
 
--- what three facts of a result give
+-- the combination of three facts of a result
 pub three_ok : {T E : Type 0} (r : Result T E) (P Q R S : T → Type 0) → ((x : T) → P x → Q x → R x → S x) → IfOk r P → IfOk r Q → IfOk r R → IfOk r S
 three_ok (Ok x) P Q R S f p q s = f x p q s
 three_ok (Err e) P Q R S f p q s = tt
 
--- a job with these numbers and this span fits where they do
+-- a job with the numbers and the span of one that fits also fits
 job_as : (h : History) (job : Job) (def : ViewDef) (n cut snap : ℕ) (span : Span) → job.view ≡ n → job.cut ≡ cut → job.snap ≡ snap → job.span ≡ span → view_of (roster h) n ≡ Some def → Fits n def h cut snap span job.spans job.groups job.top → JobFits h job
 job_as h job def n cut snap span view_is cut_is snap_is span_is there fits =
     subst (λ o. FitsView o h job) (sym (ap (view_of (roster h)) view_is ∙ there))
@@ -339,7 +340,7 @@ job_now h cut p refresh def view table job ok r v snap_is ranges is_for made =
     let fits = fits_now h refresh.view def table view ok v.there v.stands (view_width h refresh.view def ok v.there) cut refresh.span r.span_is (seen_rows p table) job v.table_is.rows_are ranges made in
     (job_as h job def refresh.view cut (position h) refresh.span is_for.view cut_is taken is_for.span v.there fits, cut_is, taken)
 
--- how many stored rows its snapshot looks at
+-- the number of stored rows that its snapshot reads
 pub job_read : (h : History) (cut p : ℕ) (refresh : Refresh) (def : ViewDef) (view : ViewValue) (table : TableValue) → IsRefreshOf h cut refresh → IsViewOf h refresh.view p def view table → near_each table.rows.interval (stored_rows table) (dirty_ranges refresh.view def h refresh.span) ≡ job_reads h cut
 job_read h cut p refresh def view table r v =
     near_is h def.table p table (dirty_ranges refresh.view def h refresh.span) v.table_is

@@ -1,4 +1,4 @@
--- What each event does to a state that represents a history.
+-- The effect of each event on a state that represents a history.
 use Rattle.std.proofs.Common.{◌≡◌, ℕ, suc, zero, Bool, true, false, List, [], ◌∷◌, ◌++◌, set, Option, Some, None, sym, refl, ap, ◌∙◌, subst}
 use Rattle.std.specs.Prelude.{is_none, unwrap_or}
 use Rattle.std.specs.List.{slice_get}
@@ -58,7 +58,7 @@ view_is_still n def h e (Some table) view ok quiet s = view_stays n def h e tabl
 views_stay : (h : History) (e : Event) (tables : List (Option TableValue)) (defs : List ViewDef) (views : List ViewValue) → all_consistent h ≡ true → ((n : ℕ) → is_quiet n h e ≡ true) → Each (ViewAt h tables) defs views → Each (ViewAt (h ▸ e) tables) defs views
 views_stay h e tables defs views ok quiet s = each_map (ViewAt h tables) (ViewAt (h ▸ e) tables) 0 defs views (λ n def view. view_is_still n def h e (table_at tables def.table) view ok (quiet n)) s
 
--- a view stands however the tables are kept, as long as each that is there keeps its state
+-- an aggregate's state stays right if each existing table keeps its state
 view_is_moved : (h : History) (n : ℕ) (def : ViewDef) (old new : Option TableValue) (view : ViewValue) → ((table : TableValue) → old ≡ Some table → new ≡ Some table) → ViewIs h n def old view → ViewIs h n def new view
 view_is_moved h n def None new view same s = absurd s
 view_is_moved h n def (Some table) new view same s = subst (λ o. ViewIs h n def o view) (sym (same table refl)) s
@@ -182,7 +182,7 @@ state_there tables t table e = by_state (slice_get tables t) refl e
     by_state None at e = absurd (cc)
     by_state (Some o) at e = at ∙ ap Some e
 
--- a table that has a state is a hypertable, and the state is its own
+-- a table with a state is a hypertable, and the state is that of this table
 pub stands_there : (h : History) (infos : List TableInfo) (tables : List (Option TableValue)) (t : ℕ) (table : TableValue) → Each (TableAt h) infos tables → table_at tables t ≡ Some table → (hyper : HyperInfo) × TableStands h t hyper table
 stands_there h infos tables t table s e =
     let found = each_of (TableAt h) t infos tables (Some table) s (state_there tables t table e) in

@@ -1,4 +1,4 @@
--- What each event does to the state of a hypertable.
+-- The effect of each event on the state of a hypertable.
 use Rattle.std.proofs.Common.{◌≡◌, ℕ, suc, true, false, List, [], Option, Some, None, sym, refl, ap, ◌∙◌, subst, arith}
 use Rattle.ts_model.specs.declared.events.Event.{Event}
 use Rattle.ts_model.specs.declared.events.Event.TheVariants.{Hyper, Commit}
@@ -20,7 +20,7 @@ use Rattle.engine_state.specs.Tables.{TableValue, TableStands, TableIs}
 use Rattle.engine_state.specs.Steps.{TableGoes, TableCut, GoesIf, AsksIf, rows_before}
 use Rattle.engine_state.proofs.ViewSteps.{log_begins, log_stays, log_commits}
 
--- ---- every event but a commit leaves a table
+-- ---- every event except a commit leaves a table unchanged
 
 pub table_stays : (h : History) (t : ℕ) (hyper : HyperInfo) (e : Event) (table : TableValue) → is_commit e ≡ false → TableStands h t hyper table → TableStands (h ▸ e) t hyper table
 table_stays h t hyper e table quiet s = record { rows = others_are_held t h e table.rows s.rows quiet; interval = s.interval; log = log_stays h e table.log s.log }
@@ -31,7 +31,7 @@ table_is_still h t e None (Some table) quiet s = absurd s
 table_is_still h t e (Some hyper) None quiet s = absurd s
 table_is_still h t e (Some hyper) (Some table) quiet s = table_stays h t hyper e table quiet s
 
--- a table that is made a hypertable begins with no row and an empty log
+-- a new hypertable begins without rows and with an empty log
 pub table_begins : (h : History) (t : ℕ) (hyper : HyperInfo) (table : TableValue) → all_consistent h ≡ true → hyper_of (roster h) t ≡ None → table.rows.interval ≡ hyper.interval → table.rows.versions ≡ [] → table.log.entries ≡ [] → TableStands (h ▸ Hyper t hyper) t hyper table
 table_begins h t hyper table ok none interval versions entries = record {
   rows = others_are_held t h (Hyper t hyper) table.rows (tables_begin t h table.rows ok none versions) refl;

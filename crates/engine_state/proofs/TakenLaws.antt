@@ -1,4 +1,4 @@
--- Lists that go together place by place, taken item by item.
+-- Lists related place by place, read item by item.
 use Rattle.std.proofs.Common.{◌≡◌, ℕ, zero, suc, ◌+◌, ◌<◌, ◌≤◌, List, [], ◌∷◌, ◌++◌, length, get_or, take, sym, refl, ap, ◌∙◌, subst, arith}
 use Rattle.std.specs.List.{AllByRecursion}
 use Rattle.std.proofs.lemmas.List.{take_more}
@@ -14,7 +14,7 @@ taken_length (x ∷ xs) (suc i) l = ap suc (taken_length xs i (omega arith))
 one_more : {A : Type 0} (xs : List A) (i : ℕ) (x : A) → i < length xs → x ≡ get_or xs i x → take (i + 1) xs ≡ take i xs ++ (x ∷ [])
 one_more xs i x l is = take_more xs i x l ∙ ap (λ y. take i xs ++ (y ∷ [])) (sym is)
 
--- one more item of the first list, and what goes with it
+-- one more item of the first list, and the item related to it
 pub each_taken : {A B : Type 0} (R : ℕ → A → B → Type 0) (xs : List A) (ys : List B) (i : ℕ) (x : A) (y : B) → i < length xs → x ≡ get_or xs i x → Each R (take i xs) ys → R i x y → Each R (take (i + 1) xs) (ys ++ (y ∷ []))
 each_taken R xs ys i x y l is e r =
     let long : length (take i xs) ≡ i = taken_length xs i (omega (arith, l)) in
@@ -40,7 +40,7 @@ all_from P s [] i d all l = absurd (omega arith)
 all_from P s (x ∷ xs) zero d all l = subst (λ n. P n x) (let place : s ≡ s + 0 = omega arith in place) all.0
 all_from P s (x ∷ xs) (suc i) d all l = subst (λ n. P n (get_or xs i d)) (let place : suc s + i ≡ s + suc i = omega arith in place) (all_from P (suc s) xs i d all.1 (omega arith))
 
--- what holds of each place holds of this one
+-- what is true of each place is true of this one
 pub all_at : {A : Type 0} (P : ℕ → A → Type 0) (xs : List A) (i : ℕ) (x : A) → AllFrom P 0 xs → i < length xs → x ≡ get_or xs i x → P i x
 all_at P xs i x all l is = subst (P i) (sym is) (subst (λ n. P n (get_or xs i x)) (let place : 0 + i ≡ i = omega arith in place) (all_from P 0 xs i x all l))
 

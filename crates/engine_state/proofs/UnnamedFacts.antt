@@ -1,4 +1,4 @@
--- Operations of which none is on a table leave it as it is.
+-- Operations on other tables leave a table unchanged.
 use Rattle.std.proofs.Common.{◌≡◌, ◌∙◌, ℕ, false, not, filter, cond, List, [], ◌∷◌, ◌++◌, sym, refl, ap, subst}
 use Rattle.std.specs.List.{list_any}
 use Rattle.std.proofs.lemmas.Bool.{or_parts}

@@ -1,4 +1,4 @@
--- What each event does to the state of an aggregate.
+-- The effect of each event on the state of an aggregate.
 use Rattle.std.proofs.Common.{◌≡◌, ℕ, suc, Bool, true, false, cond, int_lt, ◌==◌, List, [], ◌∷◌, ◌++◌, ℤ, Option, Some, None, sym, refl, ap, ◌∙◌, subst}
 use Rattle.std.specs.Int.{int_max}
 use Rattle.std.specs.List.{AllByRecursion}
@@ -52,7 +52,7 @@ log_begins h log none = record {
 pub log_stays : (h : History) (e : Event) (log : TableLog) → LogStands h log → LogStands (h ▸ e) log
 log_stays h e log s = record { times = s.times; rising = s.rising; past = upto_next (position h) (noted_in log.entries) s.past }
 
--- ---- events of which an aggregate hears nothing
+-- ---- events that don't change an aggregate
 
 pub view_stays : (n : ℕ) (def : ViewDef) (h : History) (e : Event) (log : TableLog) (view : ViewValue) → all_consistent h ≡ true → is_quiet n h e ≡ true → ViewStands h n def log view → ViewStands (h ▸ e) n def log view
 view_stays n def h e log view ok quiet s = record {
@@ -81,7 +81,7 @@ view_stays n def h e log view ok quiet s = record {
     not_built (Cut v span) quiet = refl
     not_built (Built cut snap) quiet = absurd (true≢false (sym quiet))
 
--- a mode plays no part
+-- a mode has no effect
 pub view_of_mode : (n : ℕ) (def : ViewDef) (only : Bool) (h : History) (log : TableLog) (view : ViewValue) → ViewStands h n def log view → ViewStands h n (set_only only def) log view
 view_of_mode n def only h log view s = record {
   table = s.table;
@@ -142,7 +142,7 @@ view_commits n def h ops old new view ok threshold entries s = record {
 
 -- ---- a cut
 
--- of an aggregate over the table: the log is emptied, and what was in it was fed
+-- for an aggregate over the table: the log is emptied, and its entries were fed
 pub view_cut : (n : ℕ) (def : ViewDef) (h : History) (v : ℕ) (span : Span) (old new : TableLog) (view fed_view : ViewValue) → all_consistent h ≡ true → ((v == n) ≡ true → EndsWhole def.fold.width span) → new.threshold ≡ int_max old.threshold span.hi → new.entries ≡ [] → fed_view.table ≡ view.table → fed_view.groups ≡ view.groups → fed_view.mark ≡ view.mark → IsFedTo def.fold.width (noted_in old.entries) view.log fed_view.log → ViewStands h n def old view → ViewStands (h ▸ Cut v span) n def new fed_view
 view_cut n def h v span old new view fed_view ok ends threshold emptied table groups mark is_fed s = record {
   table = table ∙ s.table;
@@ -187,7 +187,7 @@ view_finished n def h cut snap span spans groups top log old new renewed put ok 
   groups = subst (λ m. GroupsStand n def (h ▸ Built cut snap) m new.groups) (sym mark) (groups_finished n def h cut snap span spans groups top ok (view_width h n def ok there) f old.mark old.groups put new.groups renewed s.groups renews replaces);
 }
 
--- of another's
+-- after the finish of another refresh
 pub view_unfinished : (n : ℕ) (def : ViewDef) (h : History) (cut snap : ℕ) (log : TableLog) (view : ViewValue) → all_consistent h ≡ true → span_of_cut n h cut ≡ None → ViewStands h n def log view → ViewStands (h ▸ Built cut snap) n def log view
 view_unfinished n def h cut snap log view ok other s = record {
   table = s.table;

@@ -31,7 +31,7 @@ use Rattle.engine_state.specs.Views.{ViewValue}
 use Rattle.engine_state.proofs.CutFacts.{ViewThere, got}
 use Rattle.engine_state.proofs.StateSteps.{stands_there}
 
--- what holds of the value that is there
+-- what is true of the value, if there is one
 pub if_there : {T : Type 0} (o : Option T) (P : T → Type 0) → IfSome o P → ForSome o P
 if_there None P holds x is = absurd (cc)
 if_there (Some y) P holds x is = subst P (let same : y ≡ x = cc in same) holds
@@ -48,7 +48,7 @@ latest_is_time (row ∷ xs) e =
     let parts = and_parts (is_time row.at) (list_all (λ row. is_time row.at) xs) e in
     later_is_time (Some row.at) (latest_of xs) parts.0 (latest_is_time xs parts.1)
 
--- what is asked of the watermark and of the greatest time of a row, and what they are
+-- the requirements on the watermark and the greatest time of a row, and their values
 pub record WindowHas (h : History) (n : ℕ) (def : ViewDef) (mark latest : Option ℤ) : Type 0 where
   pub mark_ends : ForSome mark (IsMark def.fold.width)
   pub latest_time : ForSome latest (λ t. IsTrue (is_time t))
@@ -68,7 +68,7 @@ window_has h n s def view table st there own at =
       end_is = tells.last_bucket s.position def.fold.width width ∙ ap (λ g. last_end def.fold.width (rows view.table g)) now ∙ ap (λ t. last_end def.fold.width (rows t h)) own.named;
     }
 
--- the definition of an aggregate that is there
+-- the definition of an existing aggregate
 pub def_there : (h : History) (s : StateValue) (n : ℕ) (def : ViewDef) → StandsFor h s → view_of s.roster n ≡ Some def → view_of (roster h) n ≡ Some def
 def_there h s n def st is = subst (λ r. view_of r n ≡ Some def) st.roster is
 

@@ -1,4 +1,4 @@
--- What one more event makes of a state.
+-- A state after one more event.
 use Rattle.std.specs.Prelude.{◌≡◌, ℕ, true, Option}
 use Rattle.ts_model.specs.declared.events.Event.{Event}
 use Rattle.ts_model.specs.declared.events.Event.TheVariants.{Commit, Built}
@@ -9,7 +9,7 @@ use Rattle.refresh_build.specs.declared.jobs.Job.{Job}
 use Rattle.refresh_build.specs.Fitting.{JobIsFor}
 use Rattle.engine_state.specs.Stands.{StateValue, StandsFor}
 
--- how many rows an event appends and removes, over all tables
+-- the numbers of rows that an event appends and removes, over all tables
 abbrev pub CountsAre : History → Event → ℕ → ℕ → Type 0
 CountsAre h (Commit ops) inserted removed =
     (inserted ≡ (commit_result ops h).inserted) × (removed ≡ (commit_result ops h).removed)

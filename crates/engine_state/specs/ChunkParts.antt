@@ -12,7 +12,7 @@ abbrev pub rows_held : ℕ → Option TableValue → List Row
 rows_held p None = []
 rows_held p (Some table) = in_order (seen_rows p table)
 
--- the same of a table of a state
+-- the same for a table of a state
 abbrev pub state_rows : StateValue → ℕ → List Row
 state_rows s t = rows_held s.position (table_at s.tables t)
 

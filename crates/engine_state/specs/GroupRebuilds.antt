@@ -1,4 +1,5 @@
--- The rows of an image from which the groups of its aggregates are recomputed, and how many rows that reads.
+-- The rows of an image from which the groups of its aggregates are recomputed, and the number of rows that this
+-- reads.
 use Rattle.std.specs.Prelude.{◌≡◌, ℕ, ◌+◌, Bool, true, false, ◌||◌, ◌&&◌, not, cond, ◌==◌, List, [], ◌∷◌, ◌++◌, length, Option, Some, None}
 use Rattle.ts_schema.specs.declared.rows.Row.{Row}
 use Rattle.partial_agg.specs.declared.groups.Group.{Group}
@@ -41,7 +42,7 @@ feeds t [] kept = false
 feeds t (def ∷ defs) [] = false
 feeds t (def ∷ defs) (v ∷ vs) = (was_refreshed v && t == def.table) || feeds t defs vs
 
--- of an image: the rows that it holds of each table over which an aggregate was refreshed, each of them once
+-- of an image: the rows that it holds for each table over which an aggregate was refreshed, each row once
 abbrev pub rows_refolded : Image → ℕ
 rows_refolded i = events_read (λ t. feeds t (image_roster i).views i.views) i.rows
 
@@ -81,7 +82,7 @@ pub record Refolds (rows : ℕ → List Row) (def : ViewDef) (r : GroupRebuild) 
   pub plan_is : r.plan ≡ def.fold
   pub taken : HasTaken r.plan (rows def.table) r.folding
 
--- an aggregate has groups under construction exactly if it was refreshed
+-- an aggregate has groups under construction if and only if it was refreshed
 abbrev pub IsRefoldOf : (ℕ → List Row) → ViewDef → SavedView → Option GroupRebuild → Type 0
 IsRefoldOf rows def kept None = was_refreshed kept ≡ false
 IsRefoldOf rows def kept (Some r) = (was_refreshed kept ≡ true) × Refolds rows def r

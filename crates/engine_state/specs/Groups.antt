@@ -18,7 +18,7 @@ pub use Rattle.image_laws.specs.Images.{groups_left}
 abbrev pub is_materialised : ViewDef → Option ℤ → Group → Bool
 is_materialised def mark group = is_bucket def.fold.width group.start && is_below group.start mark
 
--- the groups of an aggregate are what its last refreshes have left
+-- the groups of an aggregate are those that its last refreshes stored
 pub record GroupsStand (n : ℕ) (def : ViewDef) (h : History) (mark : Option ℤ) (groups : List Group) : Type 0 where
   pub in_order : AreInOrder groups
   pub all : list_all (is_materialised def mark) groups ≡ true
@@ -26,7 +26,7 @@ pub record GroupsStand (n : ℕ) (def : ViewDef) (h : History) (mark : Option �
 
 -- ---- a finish
 
--- the buckets of these spans that a snapshot isn't older than
+-- the buckets of these spans whose last refresh isn't above a snapshot
 abbrev pub is_renewed : List Span → ℕ → Option ℕ → ℤ → Bool
 is_renewed spans snap last b = lies_in spans b && not (is_above snap last)
 
@@ -36,8 +36,8 @@ pub record AreReplaced (spans : List Span) (put old new : List Group) : Type 0 w
   pub exact : (b : ℤ) → of_bucket b new ≡ cond (lies_in spans b) (of_bucket b put) (of_bucket b old)
   pub all : (test : Group → Bool) → list_all test put ≡ true → list_all test old ≡ true → list_all test new ≡ true
 
--- what a finish with a snapshot writes: the groups of its job in the buckets that the snapshot isn't older than, which
--- lie in these spans
+-- what a finish with a snapshot writes: the groups of its job, in the buckets of these spans whose last refresh
+-- isn't above the snapshot
 pub record AreRenewed (n : ℕ) (def : ViewDef) (h : History) (snap : ℕ) (spans : List Span) (groups : List Group)
     (renewed : List Span) (put : List Group) : Type 0 where
   pub spans_are : (b : ℤ) → is_bucket def.fold.width b ≡ true → lies_in renewed b ≡ is_renewed spans snap (last n h b) b

@@ -1,4 +1,4 @@
--- What an image keeps of the parts of a state.
+-- The parts of a state that an image keeps.
 use Rattle.std.specs.Prelude.{map}
 use Rattle.span_map.specs.declared.pieces.Piece.{Piece}
 use Rattle.partial_agg.specs.Summaries.{Summary}
@@ -14,7 +14,7 @@ last_of p = record { span = p.span; pos = p.pos }
 abbrev pub piece_of : SavedLast → Piece
 piece_of l = record { span = l.span; pos = l.pos }
 
--- a group, as it is saved
+-- a group as a saved group
 abbrev pub sums_of : Summary → Sums
 sums_of s = record { count = s.count; values = s.values; sum = s.sum; least = s.least; most = s.most }
 

@@ -1,4 +1,4 @@
--- What the parts of a state become after one more event, for each history that they represent.
+-- The parts of a state after one more event, for each history that they represent.
 use Rattle.std.specs.Prelude.{◌≡◌, ℕ, Bool, true, ℤ, Option, IfSome}
 use Rattle.ts_model.specs.declared.events.Event.{Event}
 use Rattle.ts_model.specs.declared.events.Event.TheVariants.{Table, Mode, Built}
@@ -18,24 +18,24 @@ use Rattle.engine_state.specs.Afters.{CountsAre}
 abbrev pub StepsTo : StateValue → Event → StateValue → Type 0
 StepsTo s e new = (h : History) → StandsFor h s → consistent h e ≡ true → StandsFor (h ▸ e) new
 
--- the same of the event that makes a table, and of one that sets a mode
+-- the same for the event that creates a table, and for one that sets a mode
 abbrev pub TablesTo : StateValue → Event → StateValue → Type 0
 TablesTo s e new = (def : TableDef) → e ≡ Table def → StepsTo s (Table def) new
 
 abbrev pub ModesTo : StateValue → Event → StateValue → Type 0
 ModesTo s e new = (view : ℕ) (only : Bool) → e ≡ Mode view only → StepsTo s (Mode view only) new
 
--- the same of any event with a job, where the job is for it
+-- the same for any event with a job, if the job is for it
 abbrev pub GoesTo : StateValue → Event → Option Job → StateValue → Type 0
 GoesTo s e job new = (h : History) → StandsFor h s → consistent h e ≡ true → JobIsFor h e job → StandsFor (h ▸ e) new
 
--- the same of the finish with a job, where the job fits the history
+-- the same for the finish with a job, if the job fits the history
 abbrev pub FinishesTo : StateValue → Job → StateValue → Type 0
 FinishesTo s job new =
     (h : History) → StandsFor h s → consistent h (Built job.cut job.snap) ≡ true → JobFits h job
     → StandsFor (h ▸ Built job.cut job.snap) new
 
--- and the event appends and removes so many rows
+-- and the event appends and removes these numbers of rows
 abbrev pub Counts : StateValue → Event → ℕ → ℕ → Type 0
 Counts s e inserted removed = (h : History) → StandsFor h s → consistent h e ≡ true → CountsAre h e inserted removed
 

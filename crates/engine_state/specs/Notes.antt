@@ -1,4 +1,4 @@
--- What is noted in the logs of a table and of an aggregate over it.
+-- The entries of the logs of a table and of an aggregate over it.
 use Rattle.std.specs.Prelude.{◌≡◌, true, List, map, ℤ, None, ◌≤ℤ◌}
 use Rattle.std.specs.List.{AllByRecursion}
 use Rattle.ts_bucket.specs.Bucket.{is_bucket, min_time, max_time}

@@ -40,7 +40,7 @@ ResumedAt i t info table = TableAt (resumed i) t info table × HasLog (number_of
 
 -- ---- aggregates
 
--- aggregate number n of a valid image, what is kept of it, and the groups of all rows of its table, where it was
+-- aggregate number n of a valid image, its saved parts, and the groups of all rows of its table, if it was
 -- refreshed
 pub record IsKeptOf (i : Image) (n : ℕ) (def : ViewDef) (kept : SavedView) (anew : List Group) : Type 0 where
   pub ok : valid i ≡ true

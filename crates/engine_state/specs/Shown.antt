@@ -1,4 +1,4 @@
--- What an aggregate's state shows of a position of its table, apart from any history.
+-- The answer of an aggregate's state at a position of its table, without reference to a history.
 use Rattle.std.specs.Prelude.{◌≡◌, ℕ, not, cond, List, length, map, filter, Option, Some, IsSome, ℤ}
 use Rattle.ts_bucket.specs.Chunks.{IsInterval}
 use Rattle.ts_bucket.specs.Ranges.{AreRanges}
@@ -50,22 +50,22 @@ pub record IsViewOf (h : History) (n : ℕ) (position : ℕ) (def : ViewDef) (vi
   pub stands : ViewStands h n def table.log view
   pub table_is : IsTableOf h def.table position table
 
--- a refresh that was cut of an aggregate of a history with this number, and isn't finished
+-- a refresh of a history with this number that was cut and isn't finished
 pub record IsRefreshOf (h : History) (cut : ℕ) (refresh : Refresh) : Type 0 where
   pub waits : pending h cut ≡ Waiting refresh.view
   pub cut_is : refresh.cut ≡ cut
   pub span_is : span_of_cut refresh.view h cut ≡ Some refresh.span
   pub view_is : IsSome (view_of (roster h) refresh.view)
 
--- an answer shows the groups that an aggregate has of the requested buckets, with those of the rows at or above its
--- mark, and names the buckets below its mark that are out of date
+-- an answer shows the groups that an aggregate has of the requested buckets, with those of the rows at or above
+-- its mark, and names the stale buckets below its mark
 pub record IsShown (def : ViewDef) (view : ViewValue) (entries : List Entry) (starts : Span) (rows : List Row)
     (found : Answer) : Type 0 where
   pub rows_are : found.rows ≡ union_rows def (within starts view.groups) view.mark starts (in_order rows)
   pub stale_are : AreRanges def.fold.width starts (is_stale_with view.log entries view.mark) found.stale
 
--- how many stored rows are in chunks that meet a requested bucket at or above a mark, or 0 if the aggregate shows only
--- materialized rows
+-- the number of stored rows in chunks that meet a requested bucket at or above a mark, or 0 if the aggregate
+-- shows only materialized rows
 abbrev pub view_reads : ViewDef → Option ℤ → Span → TableValue → ℕ
 view_reads def mark starts table =
     cond def.only 0

@@ -1,4 +1,4 @@
--- What each event does to the parts of a state, apart from any history.
+-- The effect of each event on the parts of a state, without reference to a history.
 use Rattle.std.specs.Prelude.{◌≡◌, ℕ, Bool, true, false, cond, ◌==◌, suc, ◌+◌, List, [], ◌∷◌, length, ℤ, Option, Some, None}
 use Rattle.std.specs.Int.{int_max}
 use Rattle.ts_num.specs.Aggregates.{greater}
@@ -27,7 +27,7 @@ use Rattle.engine_state.specs.Views.{ViewValue}
 abbrev pub rows_before : ℕ → TableValue → List Row
 rows_before pos table = in_order (visible_rows pos table.rows.versions)
 
--- operations at position pos on hypertable number t: its rows follow them, and their hull is noted
+-- operations at position pos on hypertable number t: its rows follow the operations, and their hull is noted
 pub record TableGoes (ops : List Op) (pos t : ℕ) (old new : TableValue) : Type 0 where
   pub rows : Follows t ops pos old.rows new.rows
   pub threshold : new.log.threshold ≡ old.log.threshold
@@ -35,7 +35,7 @@ pub record TableGoes (ops : List Op) (pos t : ℕ) (old new : TableValue) : Type
       noted_in new.log.entries
       ≡ log_after (hull_of_ops t ops (rows_before pos old)) pos old.log.threshold (noted_in old.log.entries)
 
--- the same of a table that may be no hypertable
+-- the same for a table that may not be a hypertable
 abbrev pub GoesIf : List Op → ℕ → ℕ → Option TableValue → Option TableValue → Type 0
 GoesIf ops pos t None None = Unit {0}
 GoesIf ops pos t None (Some new) = ⊥
@@ -51,7 +51,7 @@ abbrev pub AsksIf : List Op → ℕ → ℕ → Option TableValue → Type 0
 AsksIf ops pos t None = Unit {0}
 AsksIf ops pos t (Some table) = TableAsks ops pos t table
 
--- how many rows they append to a hypertable, and how many they remove
+-- the number of rows that they append to a hypertable, and the number that they remove
 abbrev pub appended_to : List Op → ℕ → Option TableValue → ℕ
 appended_to ops t None = 0
 appended_to ops t (Some table) = length (all_appended t ops)
@@ -65,7 +65,7 @@ abbrev pub sum_from : {A : Type 0} → (ℕ → A → ℕ) → ℕ → List A �
 sum_from f t [] = 0
 sum_from f t (x ∷ xs) = f t x + sum_from f (suc t) xs
 
--- this holds of each item, with its place, from place i on
+-- this is true of each item, with its place, from place i on
 abbrev pub AllFrom : {A : Type 0} → (ℕ → A → Type 0) → ℕ → List A → Type 0
 AllFrom P i [] = Unit {0}
 AllFrom P i (x ∷ xs) = P i x × AllFrom P (suc i) xs
@@ -78,7 +78,7 @@ pub record TableCut (hi : ℤ) (old new : TableValue) : Type 0 where
   pub threshold : new.log.threshold ≡ int_max old.log.threshold hi
   pub entries : new.log.entries ≡ []
 
--- what was in it was fed to an aggregate
+-- its entries were fed to an aggregate
 pub record ViewFed (old_table : TableValue) (old new : ViewValue) : Type 0 where
   pub table : new.table ≡ old.table
   pub groups : new.groups ≡ old.groups

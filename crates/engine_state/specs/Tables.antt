@@ -14,7 +14,7 @@ pub record TableValue : Type 0 where
   pub rows : ChunksValue
   pub log : TableLog
 
--- hypertable number t. A table that is no hypertable has no state
+-- hypertable number t. A table that isn't a hypertable has no state
 abbrev pub table_at : List (Option TableValue) → ℕ → Option TableValue
 table_at tables t = option_and_then (λ o. o) (slice_get tables t)
 

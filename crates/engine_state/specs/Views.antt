@@ -18,7 +18,7 @@ pub record ViewValue : Type 0 where
   pub groups : List Group
   pub mark : Option ℤ
 
--- it is that of aggregate number n, where the aggregate's table has this log
+-- it is that of aggregate number n, if the aggregate's table has this log
 pub record ViewStands (h : History) (n : ℕ) (def : ViewDef) (log : TableLog) (view : ViewValue) : Type 0 where
   pub table : view.table ≡ def.table
   pub width : view.log.width ≡ def.fold.width

@@ -1,21 +1,21 @@
 //! The results of events and operations, and the rows that they move.
 ghost use Rattle.std.specs.Prelude.{◌≡◌};
 
-/// The result of an event or of operations, and how many rows they appended and removed.
+/// The result of an event or of operations, and the numbers of rows that they appended and removed.
 #[derive(Drop)]
 pub struct AfterEvent<T> {
     /// The result.
     pub made: T,
-    /// How many rows they appended.
+    /// The number of rows that they appended.
     pub inserted: u64,
-    /// How many rows they removed.
+    /// The number of rows that they removed.
     pub removed: u64,
 }
 
 impl<T> AfterEvent<T> {
     ghost use Rattle.std.specs.Prelude.{◌≡◌};
 
-    /// The result of an event that moves no row.
+    /// The result of an event that moves no rows.
     pub(crate) fn still(made: T) -> AfterEvent<T>
         ensures made { result.made ≡ made }
         ensures inserted { result.inserted ≡ 0 }

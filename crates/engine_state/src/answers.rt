@@ -36,7 +36,7 @@ use ts_model::{Answer, Fold, Query, ResultRows, ViewDef};
 use ts_schema::{NoMemory, Seq, Steps, Test};
 
 /// The rows of a hypertable that match every test, with all their columns; `at` is the place of the time
-/// column. Rows whose times rule them out are read but not copied.
+/// column. Rows filtered out by their times are read but not copied.
 fn filter_rows<L>(
     alloc: Global,
     rows: &TableAt<'_>,
@@ -78,7 +78,7 @@ fn group_rows<R: Threads + Sync, L>(
     folded_rows(rt, alloc, rows, table, fold, steps)
 }
 
-/// What an aggregate shows of the requested buckets, given their materialized groups and its watermark.
+/// The answer of an aggregate for the requested buckets, given their materialized groups and its watermark.
 fn aggregate_rows<R: Threads + Sync, L>(
     rt: &R,
     alloc: Global,
@@ -216,7 +216,7 @@ impl StateParts {
         buckets_answer(rt, alloc, &rows, table, fold, steps)
     }
 
-    /// What an aggregate shows of the requested buckets.
+    /// The answer of an aggregate for the requested buckets.
     fn view_shown<R: Threads + Sync, L>(
         &self,
         rt: &R,
@@ -236,7 +236,7 @@ impl StateParts {
         view_answer(rt, alloc, &seen.rows, seen.def, seen.state, starts, steps)
     }
 
-    /// The answer to a query. It counts one step for each stored row that it reads.
+    /// The answer to a query. Counts one step for each stored row that it reads.
     pub(crate) fn answer<R: Threads + Sync, L>(
         &self,
         rt: &R,
@@ -258,7 +258,7 @@ impl StateParts {
 }
 
 impl State {
-    /// The answer to a query. It counts one step for each stored row that it reads.
+    /// The answer to a query. Counts one step for each stored row that it reads.
     pub fn answer<R: Threads + Sync, L>(
         &self,
         rt: &R,

@@ -14,14 +14,14 @@ use std::alloc::Global;
 use ts_bucket::Span;
 use ts_schema::{NoMemory, Row, Seq, Steps};
 
-/// How deep a span is split at most: each cut goes down the tree of chunks, which has fewer levels.
+/// The greatest depth to which a span is split. Each cut descends the tree of chunks, which has fewer levels.
 const MOST_CUTS: u32 = 64;
 
 /// Appends a span, or its parts in order if it has many rows.
 fn push_parts(rows: &Table, span: Span, cuts: u32, into: &mut Seq<Span>) -> Result<(), NoMemory>
     ensures { (lo : ℤ) → AreChained lo span.lo into.old → OnOk result (AreChained lo span.hi into.new) }
 {
-    // Reading them tells that the first is at most the second.
+    // Reading the bounds tells the prover that the first is at most the second.
     let Span { lo, hi } = span;
     if cuts == 0 {
         return into.push(span);

@@ -1,4 +1,4 @@
-//! What the operations of a commit do to all hypertables.
+//! The effect of the operations of a commit on all hypertables.
 ghost use Rattle.std.specs.Prelude.{◌≡◌, ◌+◌, ◌≤◌, ◌^◌, length, IfOk};
 ghost use Rattle.std.specs.List.{list_any};
 ghost use Rattle.ts_model.specs.Effect.{all_appended, all_taken};
@@ -34,7 +34,7 @@ fn are_on(ops: &[Op], number: u32) -> bool
     false
 }
 
-/// A hypertable after operations. One that none of them is on is shared.
+/// A hypertable after operations. It is shared if none of them is on it.
 fn table_after(
     alloc: Global,
     table: &TableState,
@@ -57,7 +57,7 @@ fn table_after(
     })
 }
 
-/// The state of a tableafter operations, if it is a hypertable.
+/// The state of a table after operations, if it is a hypertable.
 fn after_ops_if(
     alloc: Global,
     table: &Option<TableState>,
@@ -87,8 +87,8 @@ fn after_ops_if(
     }
 }
 
-/// The sum of two counts of rows. A sum over 64 bits is reported as out of memory: so many rows wouldn't
-/// fit.
+/// The sum of two counts of rows. A sum over 64 bits is reported as out of memory, since that many rows
+/// wouldn't fit.
 fn sum(a: u64, b: u64) -> Result<u64, NoMemory>
     ensures { IfOk result (λ n. n ≡ a + b) }
 {

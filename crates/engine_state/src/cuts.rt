@@ -1,4 +1,4 @@
-//! What a cut does to all aggregates: the entries of its table's log are fed to those over the table.
+//! The effect of a cut on all aggregates: the entries of the table's log are fed to those over the table.
 ghost use Rattle.std.specs.Prelude.{◌≡◌, ◌==◌, IfOk};
 ghost use Rattle.std.specs.List.{AllByRecursion};
 ghost use Rattle.mat_log.specs.Feeding.{AreWithin};

@@ -1,4 +1,4 @@
-//! What a finish does to its aggregate.
+//! The effect of a finish on its aggregate.
 ghost use Rattle.std.specs.Prelude.{IfOk};
 ghost use Rattle.ts_bucket.specs.WholeSpans.{IsWholeSpan};
 ghost use Rattle.mat_rows.specs.Replacing.{AreSpans, SpansRise};
@@ -24,7 +24,7 @@ fn replace_ranges(old: &MatRows, ranges: &Seq<Span>, groups: &MatRows) -> Result
     Ok(new)
 }
 
-/// An aggregate after a finish with a job, whose groups renew these ranges of buckets.
+/// An aggregate after a finish with a job, whose groups update these ranges of buckets.
 pub(crate) fn finish_view(
     alloc: Global,
     view: &ViewState,

@@ -1,5 +1,5 @@
-//! The groups of the aggregates of an image, recomputed from the rows that it holds. The rows of a table are
-//! read once, however many aggregates are over it.
+//! The groups of the aggregates of an image, recomputed from its rows. The rows of a table are read once for
+//! all aggregates over it.
 ghost use Rattle.std.specs.Prelude.{◌≡◌, [], ◌∷◌, cond, length, true, IfOk, OnOk, Some};
 ghost use Rattle.std.specs.List.{AllByRecursion, AllZip, list_all, list_any};
 ghost use Rattle.base_image.specs.Held.{is_timed, op_timed};
@@ -17,7 +17,7 @@ use std::collections::VecDeque;
 use ts_model::{Event, Fold, Image, Op, Roster, SavedView, ViewDef};
 use ts_schema::{NoMemory, Row, Seq, Steps};
 
-/// Each aggregate adds this many rows before the next ones are read.
+/// The number of rows that each aggregate adds before the next rows are read.
 const PIECE: usize = 1024;
 
 /// The groups of a refreshed aggregate, under construction.
@@ -61,7 +61,7 @@ fn begin_refold(
     }))
 }
 
-/// The same of each aggregate of an image.
+/// The same for each aggregate of an image.
 fn begin_all(
     alloc: Global,
     roster: &Roster,
@@ -97,7 +97,7 @@ fn take_if(
     }
 }
 
-/// Gives rows of a table to each aggregate.
+/// Adds rows of a table to each aggregate.
 fn take_each(
     alloc: Global,
     refolds: &mut [Option<GroupRebuild>],
@@ -129,7 +129,7 @@ fn count<L>(rows: &[Row], steps: &mut Steps<L>)
     let _so_far = steps.count();
 }
 
-/// Reads the rows of a table, piece by piece, and gives each piece to each aggregate.
+/// Reads the rows of a table, piece by piece, and adds each piece to each aggregate.
 fn take_rows<L>(
     alloc: Global,
     refolds: &mut [Option<GroupRebuild>],
@@ -213,7 +213,7 @@ fn take_op<L>(
     }
 }
 
-/// The same of the one operation of a commit.
+/// The same for the one operation of a commit.
 fn take_event<L>(
     alloc: Global,
     refolds: &mut [Option<GroupRebuild>],
@@ -240,7 +240,7 @@ fn take_event<L>(
     }
 }
 
-/// The same of all commits of an image.
+/// The same for all commits of an image.
 fn take_events<L>(
     alloc: Global,
     refolds: &mut [Option<GroupRebuild>],
@@ -270,14 +270,14 @@ fn finish_refold(alloc: Global, refold: Option<GroupRebuild>) -> Result<MatRows,
     match refold {
         None => Ok(MatRows::new(alloc)),
         Some(refold) => {
-            // Reading a width tells that it keeps its bounds.
+            // Reading a width tells the prover that it keeps its bounds.
             let _step = refold.plan.width.step;
             MatRows::of(alloc, refold.folding.finish(alloc)?)
         }
     }
 }
 
-/// The same of each aggregate.
+/// The same for each aggregate.
 fn finish_all(alloc: Global, refolds: Vec<Option<GroupRebuild>>) -> Result<Seq<MatRows>, NoMemory>
     requires before { AllByRecursion CanTake refolds.items }
     ensures { IfOk result (AllZip Makes refolds.items) }
@@ -290,8 +290,8 @@ fn finish_all(alloc: Global, refolds: Vec<Option<GroupRebuild>>) -> Result<Seq<M
     Ok(made)
 }
 
-/// For each aggregate of an image that was refreshed, its groups of all rows of its table. It counts one
-/// step for each row of a table over which there is such an aggregate.
+/// For each refreshed aggregate of an image, the groups of all rows of its table. Counts one step for each row
+/// of a table with such an aggregate over it.
 pub(crate) fn refold_all<L>(
     alloc: Global,
     roster: &Roster,

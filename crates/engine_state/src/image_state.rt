@@ -61,8 +61,8 @@ impl StateParts {
 }
 
 impl State {
-    /// The state of the history that begins with a valid image, without events. It counts one step for each
-    /// row that the image holds of a table over which an aggregate was refreshed.
+    /// The state of the history that begins with a valid image, without events. Counts one step for each row
+    /// that the image holds for a table over which an aggregate was refreshed.
     pub fn from_image<L>(
         alloc: Global,
         image: &Image,

@@ -23,7 +23,7 @@ use ts_model::{Event, Image, Roster, SavedLast, SavedView, TableInfo, ViewDef, W
 use ts_num::greater;
 use ts_schema::{NoMemory, Seq};
 
-/// The rows of a table after one more commit of an image, all of which are of one position.
+/// The rows of a table after one more commit of an image. All these commits have the same position.
 fn with_inserts(held: &Table, table: u32, event: &Event) -> Result<Table, NoMemory>
     requires inserts { is_timed event.now ≡ true }
     requires up_to { IsUpTo 0 held.now.versions }
@@ -42,8 +42,8 @@ fn with_inserts(held: &Table, table: u32, event: &Event) -> Result<Table, NoMemo
     }
 }
 
-/// The rows that the commits of an image hold of a table. They are of the first position, so that every
-/// position sees them.
+/// The rows that the commits of an image hold for a table. They have the first position, so every position sees
+/// them.
 fn held_rows(alloc: Global, interval: i64, table: u32, rows: &[Event]) -> Result<Table, NoMemory>
     requires interval { IsInterval interval }
     requires inserts { list_all is_timed rows.now ≡ true }
@@ -91,7 +91,7 @@ fn lasts_end(table: u32, defs: &[ViewDef], views: &[SavedView]) -> Option<i64>
     }
 }
 
-/// The greatest end of these ranges, where they count.
+/// The greatest end of these ranges, if they count.
 fn end_if(counts: bool, lasts: &[SavedLast]) -> Option<i64>
     ensures { result ≡ cond counts (last_hi lasts.now) None }
 {

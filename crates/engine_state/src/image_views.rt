@@ -26,7 +26,7 @@ use ts_bucket::Span;
 use ts_model::{Image, SavedGroup, SavedLast, SavedView, Sums, ViewDef};
 use ts_schema::{NoMemory, Seq, SharedSlice};
 
-/// What is kept of the columns of a group.
+/// The saved totals of the columns of a group.
 fn partials(alloc: Global, sums: &[Sums]) -> Result<Seq<Partial>, NoMemory>
     requires bounded { list_all sums_fit sums.now ≡ true }
     ensures { IfOk result (λ parts. parts ≡ map summary_of sums.now) }
@@ -87,8 +87,8 @@ fn spans_of(alloc: Global, lasts: &[SavedLast]) -> Result<Seq<Span>, NoMemory>
     Ok(spans)
 }
 
-/// The materialized groups of an aggregate: of a dirty bucket those that the image keeps, and of any other
-/// refreshed bucket those among the groups recomputed from the rows.
+/// The materialized groups of an aggregate. For a dirty bucket these are the ones that the image keeps. For any
+/// other refreshed bucket they are the groups recomputed from the rows.
 fn groups_from_image(alloc: Global, saved: &SavedView, anew: &MatRows) -> Result<MatRows, NoMemory>
     requires kept { (i : ImageValue) × (n : ℕ) × (def : ViewValue) × IsKeptOf i n def saved.now anew.now }
     ensures groups { (i : ImageValue) (n : ℕ) (def : ViewValue) → IsKeptOf i n def saved.now anew.now
@@ -127,8 +127,8 @@ fn view_from_image(
     ViewState::of(alloc, def.table, log, groups, saved.mark)
 }
 
-/// The states of the aggregates of the history that begins with an image, where its parts have the states of
-/// the tables, and these are the groups of all rows.
+/// The states of the aggregates of the history that begins with an image, given the states of its tables, and
+/// the groups of all rows.
 pub(crate) fn views_from_image(
     alloc: Global,
     parts: &StateParts,

@@ -41,7 +41,7 @@ pub(crate) fn sort_rows(rows: Seq<Row>) -> Result<Seq<Row>, NoMemory>
     Ok(Seq::of(items))
 }
 
-/// Last refreshes, as an image keeps them.
+/// Last refreshes, in the form of an image.
 fn saved_lasts(alloc: Global, pieces: &[Piece]) -> Result<Seq<SavedLast>, NoMemory>
     ensures { IfOk result (λ lasts. lasts ≡ map last_of pieces.now) }
 {
@@ -55,7 +55,7 @@ fn saved_lasts(alloc: Global, pieces: &[Piece]) -> Result<Seq<SavedLast>, NoMemo
     Ok(lasts)
 }
 
-/// What a column of a group sums up to, as an image keeps it.
+/// The totals of the columns of a group, in the form of an image.
 fn saved_sums(alloc: Global, parts: &[Partial]) -> Result<Seq<Sums>, NoMemory>
     ensures { IfOk result (λ sums. sums ≡ map sums_of parts.now) }
 {
@@ -72,7 +72,7 @@ fn saved_sums(alloc: Global, parts: &[Partial]) -> Result<Seq<Sums>, NoMemory>
     Ok(sums)
 }
 
-/// A group, as an image keeps it.
+/// A group, in the form of an image.
 fn saved_group(alloc: Global, group: &Group) -> Result<SavedGroup, NoMemory>
     ensures { IfOk result (λ saved. saved ≡ saved_group group.now) }
 {
@@ -83,7 +83,7 @@ fn saved_group(alloc: Global, group: &Group) -> Result<SavedGroup, NoMemory>
     })
 }
 
-/// Groups, as an image keeps them.
+/// Groups, in the form of an image.
 fn saved_groups(alloc: Global, groups: Iter<'_, Group>) -> Result<Seq<SavedGroup>, NoMemory>
     ensures { IfOk result (λ saved. saved ≡ map saved_group groups.entry) }
 {
@@ -95,7 +95,7 @@ fn saved_groups(alloc: Global, groups: Iter<'_, Group>) -> Result<Seq<SavedGroup
 }
 
 impl StateParts {
-    /// The rows of a table, in order. A table that is no hypertable has none.
+    /// The rows of a table, in order. A table that isn't a hypertable has none.
     fn rows(&self, alloc: Global, table: u32) -> Result<Seq<Row>, NoMemory>
         requires stands { Stands self.now }
         ensures rows { (h : History) → StandsFor h self.now → IfOk result (λ found. found ≡ rows table h) }
@@ -135,7 +135,7 @@ impl StateParts {
         seen.state.log().changed_with(entries, all)
     }
 
-    /// What the last refreshes of an aggregate have left in the buckets of a span, in order.
+    /// The groups that the last refreshes of an aggregate stored in the buckets of a span, in order.
     fn groups(&self, alloc: Global, view: u32, span: Span) -> Result<Seq<SavedGroup>, NoMemory>
         requires stands { Stands self.now }
         requires view { IsSome (view_of self.now.roster view) }

@@ -39,7 +39,7 @@ impl StateParts {
         }
     }
 
-    /// A job for the refresh with this number, which waits, from the rows of the position of the state.
+    /// A job for the pending refresh with this number, from the rows at the position of the state.
     fn start_job<R: Threads + Sync, L>(
         &self,
         rt: &R,
@@ -98,8 +98,8 @@ impl StateParts {
 }
 
 impl State {
-    /// A job for the pending refresh with this number, from the rows of this state. It recomputes the
-    /// buckets that are out of date, and counts one step for each stored row that it reads.
+    /// A job for the pending refresh with this number, from the rows of this state. It recomputes the stale
+    /// buckets. Counts one step for each stored row that is read.
     pub fn start_job<R: Threads + Sync, L>(
         &self,
         rt: &R,
@@ -115,9 +115,8 @@ impl State {
         self.parts.start_job(rt, self.alloc, cut, steps)
     }
 
-    /// The job of a finish that a journal contains and that may come next, by the number and the snapshot of
-    /// its refresh. It recomputes the buckets that are out of date, and those that were refreshed at a later
-    /// snapshot.
+    /// The job of a finish from a journal that may come next, by the number and the snapshot of its refresh. It
+    /// recomputes the stale buckets, and those that were refreshed at a later snapshot.
     pub fn rebuild<R: Threads + Sync>(&self, rt: &R, cut: u64, snap: u64) -> Result<Job, NoMemory>
         requires sync { IsSync R.row }
         requires next { IsNextFinish self.now cut snap }

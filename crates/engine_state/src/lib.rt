@@ -1,4 +1,4 @@
-//! The state of an engine: what it keeps of a history, in one value that snapshots share.
+//! The state of an engine: its data of a history, in one value that snapshots share.
 #![tactic(auto)]
 
 mod after_event;

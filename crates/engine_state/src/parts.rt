@@ -21,9 +21,9 @@ pub(crate) struct StateParts {
     pub position: u64,
     /// Its tables and aggregates.
     pub roster: Arc<Roster>,
-    /// For each table its state, if it is a hypertable.
+    /// The state of each table, if it is a hypertable.
     pub tables: Seq<Option<TableState>>,
-    /// For each aggregate its state.
+    /// The state of each aggregate.
     pub views: Seq<ViewState>,
     /// The refreshes that were cut.
     pub refreshes: Refreshes,
@@ -66,7 +66,7 @@ impl StateParts {
         })
     }
 
-    /// The number of the next event. A number over 64 bits is reported as out of memory: so many events
+    /// The number of the next event. A number over 64 bits is reported as out of memory, since that many events
     /// wouldn't fit.
     pub(crate) fn next_position(&self) -> Result<u64, NoMemory>
         ensures next { IfOk result (λ next. next ≡ suc self.now.position) }
@@ -84,7 +84,7 @@ impl StateParts {
         Ok(Arc::try_clone(&self.roster)?)
     }
 
-    /// The parts one event later, whose roster is that after the event, and the rest as it was.
+    /// The parts one event later, with the roster after the event and the rest unchanged.
     pub(crate) fn with_roster(&self, alloc: Global, event: &Event) -> Result<StateParts, NoMemory>
         ensures position { IfOk result (λ new. new.position ≡ suc self.now.position) }
         ensures roster { IfOk result (λ new. new.roster ≡ roster_after self.now.roster event.now) }

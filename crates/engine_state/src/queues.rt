@@ -67,8 +67,8 @@ impl StateParts {
 
 impl State {
     /// The answer that a query would get right after a commit of these operations, or gets now if there are
-    /// none. The state itself doesn't change. It counts one step for each stored row that it reads,
-    /// including those of the operations.
+    /// none. The state itself doesn't change. Counts one step for each stored row that is read, including those
+    /// of the operations.
     pub fn answer_with<R: Threads + Sync, L>(
         &self,
         rt: &R,

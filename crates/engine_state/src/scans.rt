@@ -18,7 +18,7 @@ use ts_bucket::Span;
 use ts_model::{Hyper, RowsAt, ViewDef};
 use ts_schema::{NoMemory, Row, Seq, Steps};
 
-/// A hypertable at a position. A scan reads this one, whatever number it is given.
+/// A hypertable at a position. A scan reads this table and ignores the number of its argument.
 #[derive(Clone, Copy)]
 pub(crate) struct TableAt<'a> {
     /// Its state.
@@ -37,14 +37,14 @@ impl RowsAt for TableAt<'_> {
     ghost interval = { λ s t. s.table.now.rows.interval };
 
     fn scan<L>(&self, table: u32, span: Span, steps: &mut Steps<L>) -> Result<Seq<Row>, NoMemory> {
-        // These are the rows of one table, whatever its number.
+        // The rows are those of one table, so its number isn't used.
         let _named = table;
         self.table.rows().scan(self.position, span, steps)
     }
 }
 
-/// The rows of a hypertable at a position whose times lie in a span. A scan reads other rows, too, but
-/// copies none of them.
+/// The rows of a hypertable at a position whose times lie in a span. A scan also reads other rows, but copies
+/// none of them.
 #[derive(Clone, Copy)]
 pub(crate) struct RowsInSpan<'a> {
     /// The hypertable.
@@ -53,7 +53,7 @@ pub(crate) struct RowsInSpan<'a> {
     pub times: Span,
 }
 
-/// What two spans have in common.
+/// The common part of two spans.
 fn both(a: Span, b: Span) -> Span
     ensures { (t : ℤ) → in_span result t ≡ (in_span a t && in_span b t) }
 {
@@ -74,7 +74,7 @@ impl RowsAt for RowsInSpan<'_> {
     ghost interval = { λ s t. s.rows.table.now.rows.interval };
 
     fn scan<L>(&self, table: u32, span: Span, steps: &mut Steps<L>) -> Result<Seq<Row>, NoMemory> {
-        // These are the rows of one table, whatever its number.
+        // The rows are those of one table, so its number isn't used.
         let _named = table;
         let part = both(span, self.times);
         self.rows

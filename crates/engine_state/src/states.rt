@@ -17,7 +17,7 @@ use std::marker::Model;
 use ts_model::{Event, Pending, Roster, Waiting, Window};
 use ts_schema::{NoMemory, Seq};
 
-/// The state of an engine: what it keeps of a consistent history, which it represents.
+/// The state of an engine, which represents a consistent history.
 #[derive(Drop)]
 pub struct State {
     pub(crate) alloc: Global,
@@ -73,7 +73,7 @@ impl State {
         self.parts.refreshes.waiting()
     }
 
-    /// The buckets that a refresh of an aggregate covers whose window is from `lo` on and below `hi`. A
+    /// The buckets that a refresh of an aggregate covers, with the window from `lo` on and below `hi`. A
     /// missing start means the first bucket. A missing end means the aggregate's watermark or the end of the
     /// last bucket with a row, whichever is greater.
     pub fn window(&self, view: u32, lo: Option<i64>, hi: Option<i64>) -> Window
@@ -85,9 +85,9 @@ impl State {
         self.parts.window(view, lo, hi)
     }
 
-    /// The state after an event that is consistent with the history. An event that finishes a refresh needs
-    /// its job. The state itself doesn't change, and the two share what the event leaves alone. Rows are
-    /// counted over all tables.
+    /// The state after an event that is consistent with the history. An event that finishes a refresh needs its
+    /// job. The state itself doesn't change, and the two share what the event doesn't change. Rows are counted
+    /// over all tables.
     pub fn after(&self, event: &Event, job: Option<Job>) -> Result<AfterEvent<State>, NoMemory>
         requires next { IsNext self.now event.now job }
         ensures stands { IfOk result (λ after. GoesTo self.now event.now job after.made) }

@@ -1,4 +1,4 @@
-//! What each event does to the parts of a state.
+//! The effect of each event on the parts of a state.
 ghost use Rattle.std.specs.Prelude.{◌≡◌, IfOk, None, Some};
 ghost use Rattle.ts_model.specs.declared.events.Event.TheVariants.{Built, Commit, Cut, Hyper as HyperMade, View};
 ghost use Rattle.engine_state.specs.Afters.{IsNext};
@@ -18,7 +18,7 @@ use ts_model::{Event, Hyper, Op, ViewDef};
 use ts_schema::{NoMemory, Seq};
 
 impl StateParts {
-    /// The parts after a table was made.
+    /// The parts after a table was created.
     fn with_table(&self, alloc: Global, event: &Event) -> Result<StateParts, NoMemory>
         ensures stands { IfOk result (TablesTo self.now event.now) }
     {
@@ -27,7 +27,7 @@ impl StateParts {
         Ok(new)
     }
 
-    /// The parts after a table was made a hypertable.
+    /// The parts after a table became a hypertable.
     fn with_hyper(
         &self,
         alloc: Global,
@@ -45,7 +45,7 @@ impl StateParts {
         Ok(new)
     }
 
-    /// The parts after an aggregate was made.
+    /// The parts after an aggregate was created.
     fn with_view(&self, alloc: Global, event: &Event, def: &ViewDef) -> Result<StateParts, NoMemory>
         requires event { event.now ≡ View def.now }
         ensures stands { IfOk result (StepsTo self.now (View def.now)) }

@@ -11,7 +11,7 @@ use event_check::window;
 use ts_model::Window;
 
 impl StateParts {
-    /// The buckets that a refresh of an aggregate covers whose window is from `lo` on and below `hi`.
+    /// The buckets that a refresh of an aggregate covers, with the window from `lo` on and below `hi`.
     pub(crate) fn window(&self, view: u32, lo: Option<i64>, hi: Option<i64>) -> Window
         requires stands { Stands self.now }
         requires view { IsSome (view_of self.now.roster view) }

@@ -1,4 +1,4 @@
--- What a roster, a few numbers and the outcome of a refresh say is true of the history that they come from.
+-- A roster, a few numbers and the outcome of a refresh describe the history that they come from.
 use Rattle.std.proofs.Common.{◌≡◌, ℕ, suc, Bool, true, false, ◌&&◌, cond, nat_lt, length, Option, Some, None, sym, refl, ap, ◌∙◌}
 use Rattle.std.specs.Prelude.{is_some, is_none, unwrap_or, not}
 use Rattle.ts_model.specs.declared.events.Event.{Event}
@@ -49,11 +49,11 @@ refusal_at h (Commit ops) p is = room_is h (Commit ops) (commit_result ops h)
 refusal_at h (Cut v span) p is = room_is h (Cut v span) (suc (position h))
 refusal_at h (Built cut snap) p is = ap (λ q. finish_refusal q (position h)) is ∙ finish_is h cut snap (pending h cut)
 
--- what refuses the call of an event, by what is looked at, refuses it at the history
+-- the refusal of an event's call, computed from what is checked, is its refusal at the history
 pub refused_as_call : (h : History) (e : Event) (r : Roster) (p : Pending) (at base : ℕ) (found : Option Refusal) → IsAt h e r p at base → found ≡ refusal_by r p at e → found ≡ call_refusal h e
 refused_as_call h e r p at base found is told = told ∙ (λ i. refusal_by (is.roster_is i) p (is.position_is i) e) ∙ refusal_at h e p is.pending_is
 
--- ---- an event is timely exactly where no call refuses it
+-- ---- an event is timely if and only if no call refuses it
 
 room_timely : (at : ℕ) → is_none (room_refusal at) ≡ nat_lt at last_position
 room_timely at = elim (nat_lt at last_position) as (λ t. is_none (cond t None (Some (refusal_of_code history_full at 0))) ≡ t) [ true ↦ refl | false ↦ refl ]
@@ -131,7 +131,7 @@ refused_else h e r p at base ok is told fit =
     ∙ ap (λ o. check_of o (sound_by (roster h) p (position h) (base_position h) e) (refusal_of_code no_number (position h) 0)) (sym late)
     ∙ check_at h e p is.pending_is
 
--- what answers why an event isn't allowed is nothing exactly where it is allowed
+-- an event is allowed if and only if there is no reason against it
 pub none_where_allowed : (h : History) (e : Event) (found : Option Refusal) → found ≡ event_refusal h e → is_none found ≡ allowed h e
 none_where_allowed h e found is = ap is_none is ∙ chosen (allowed h e) (unwrap_or (call_refusal h e) (refusal no_number h 0))
   where

@@ -1,4 +1,4 @@
--- There is a place exactly where some item passes.
+-- There is a place if and only if some item passes.
 use Rattle.std.proofs.Common.{◌≡◌, ℕ, suc, ◌+◌, Bool, true, false, ◌||◌, not, cond, nat_lt, List, [], ◌∷◌, length, Some, None, refl, ◌∙◌, arith}
 use Rattle.std.specs.Prelude.{is_some, position}
 use Rattle.std.specs.List.{list_any, position_or_len}

@@ -24,8 +24,8 @@ refusal_in (refuses r) = Some r
 refusal_in (returns a) = None
 refusal_in (makes e a) = None
 
--- why a store's call that makes this event is refused, if it is. One that cuts may be refused by its window too, which
--- its event doesn't tell
+-- why a store's call that makes this event is refused, if it is. A cut may also be refused because of its
+-- window, which its event doesn't state
 abbrev pub call_refusal : History → Event → Option Refusal
 call_refusal h (Table def) = refusal_in (making_table def h)
 call_refusal h (Hyper t hyper) = refusal_in (making_hyper t hyper h)
@@ -35,13 +35,14 @@ call_refusal h (Commit ops) = refusal_in (act_of_commit ops h)
 call_refusal h (Cut v span) = refusal_in (act_with_number h (Cut v span))
 call_refusal h (Built cut snap) = refusal_in (act_of_finish cut snap h)
 
--- why an event isn't allowed next, if it isn't: as the call that makes it is refused, and else without a number
+-- why an event isn't allowed next, if it isn't: as the call that makes it is refused, and otherwise without a
+-- number
 abbrev pub event_refusal : History → Event → Option Refusal
 event_refusal h e = cond (allowed h e) None (Some (unwrap_or (call_refusal h e) (refusal no_number h 0)))
 
--- ---- what a check looks at
+-- ---- what a check reads
 
--- what became of the refresh that an event finishes, where it finishes one
+-- the outcome of the refresh that an event finishes, if it finishes one
 abbrev pub PendingIs : History → Event → Pending → Type 0
 PendingIs h (Table def) p = Unit {0}
 PendingIs h (Hyper t hyper) p = Unit {0}
@@ -51,33 +52,33 @@ PendingIs h (Commit ops) p = Unit {0}
 PendingIs h (Cut v span) p = Unit {0}
 PendingIs h (Built cut snap) p = p ≡ pending h cut
 
--- a roster, what became of the refresh that the event finishes, a position and where it begins are those of a history
+-- a roster, the outcome of the refresh that the event finishes, a position and a base are those of a history
 pub record IsAt (h : History) (e : Event) (r : Roster) (p : Pending) (at base : ℕ) : Type 0 where
   pub roster_is : r ≡ roster h
   pub pending_is : PendingIs h e p
   pub position_is : at ≡ position h
   pub base_is : base ≡ base_position h
 
--- ---- the same by what is looked at
+-- ---- the same, by what is read
 
 abbrev pub refusal_of_code : ℕ → ℕ → ℕ → Refusal
 refusal_of_code code at mark = record { code = code; pos = at; mark = mark }
 
--- no event is made where the history is at its end
+-- no event is created if the history is at its end
 abbrev pub room_refusal : ℕ → Option Refusal
 room_refusal at = cond (nat_lt at last_position) None (Some (refusal_of_code history_full at 0))
 
--- a relation isn't made where its name is taken, or there are as many of its kind as there may be
+-- a relation isn't created if its name is taken or its kind has reached its limit
 abbrev pub relation_refusal : Bool → ℕ → ℕ → Option Refusal
 relation_refusal taken many at =
     cond taken (Some (refusal_of_code name_taken at 0))
     (cond (nat_lt many most_relations) (room_refusal at) (Some (refusal_of_code too_many at (suc most_relations))))
 
--- a table isn't made a hypertable where it is one
+-- a table isn't made a hypertable if it is one
 abbrev pub hyper_refusal : Bool → ℕ → Option Refusal
 hyper_refusal made at = cond made (Some (refusal_of_code name_taken at 0)) (room_refusal at)
 
--- a refresh isn't finished where it doesn't wait
+-- a refresh isn't finished if it doesn't wait
 abbrev pub finish_refusal : Pending → ℕ → Option Refusal
 finish_refusal (Waiting n) at = room_refusal at
 finish_refusal (Finished by) at = Some (refusal_of_code no_refresh at by)

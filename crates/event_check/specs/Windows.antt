@@ -1,4 +1,4 @@
--- The buckets that a refresh covers, by what is known of its table and its aggregate.
+-- The buckets that a refresh covers, by its table's rows and its aggregate.
 use Rattle.std.specs.Prelude.{ℤ, ◌+ℤ◌, Option, Some, None}
 use Rattle.std.specs.Option.{option_map}
 use Rattle.ts_num.specs.Aggregates.{greater}
@@ -9,7 +9,7 @@ use Rattle.ts_model.specs.declared.refreshes.Window.{Window}
 use Rattle.ts_model.specs.declared.refreshes.Window.TheVariants.{NoBucket}
 use Rattle.ts_model.specs.Windows.{whole_or, window_up_to}
 
--- the end of the bucket of a time, where there is one
+-- the end of the bucket of a time, if there is one
 abbrev pub end_of : Width → Option ℤ → Option ℤ
 end_of w latest = option_map (λ t. bucket_of w t +ℤ w.step) latest
 

@@ -1,4 +1,4 @@
-//! The bytes that an event and its parts take in a journal, or the last count of 64 bits where they are more.
+//! The bytes that an event and its parts take in a journal, or the last count of 64 bits if they are more.
 ghost use Rattle.std.specs.Prelude.{◌≡◌, ◌-◌, ◌^◌, ◌*◌, ◌+◌, min, sum_by};
 ghost use Rattle.ts_model.specs.declared.events.Event.TheVariants.{Table, View};
 ghost use Rattle.ts_model.specs.Bytes.{event_bytes, fold_bytes, name_bytes, op_bytes, row_bytes, value_bytes};
@@ -6,7 +6,7 @@ ghost use Rattle.ts_model.specs.Bytes.{event_bytes, fold_bytes, name_bytes, op_b
 use ts_model::{Event, Fold, Op, TableDef, ViewDef};
 use ts_schema::{Column, Name, Row, Values};
 
-/// A count of items with so many bytes each.
+/// The bytes of this many items with `each` bytes each.
 fn bytes_each(count: usize, each: u64) -> u64
     ensures { result ≡ min (count * each) (2 ^ 64 - 1) }
 {

@@ -64,7 +64,7 @@ pub(crate) fn columns_are_fit(cols: &Seq<Column>) -> bool
     some && few && columns_apart(cols.items())
 }
 
-/// Whether a table may be made such a hypertable.
+/// Whether a table may become this hypertable.
 pub(crate) fn hyper_is_fit(hyper: Hyper, info: Option<&TableInfo>) -> bool
     ensures { result ≡ hyper_fits hyper (option_copied info.entry) }
 {

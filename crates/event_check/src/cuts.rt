@@ -8,12 +8,12 @@ use crate::laws::word_law;
 use ts_bucket::{Span, Width, first};
 use ts_model::ViewDef;
 
-/// How far `b`, which is at or above the start of the first bucket, is above the start of its bucket.
+/// The distance from the start of its bucket to `b`, which is at or above the start of the first bucket.
 fn offset(w: Width, b: i64) -> i64
     requires { first_of w ≤ℤ b }
     ensures { result ≡ int_rem_euclid (b -ℤ w.shift) w.step }
 {
-    // The call tells that the width keeps its bounds.
+    // The call tells the prover that the width keeps its bounds.
     let _first = first(w);
     (b - w.shift).rem_euclid(w.step)
 }

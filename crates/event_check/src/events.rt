@@ -31,7 +31,7 @@ fn refusal_at(code: u8, pos: u64, mark: u64) -> Refusal
     Refusal { code, pos, mark }
 }
 
-/// Why no event is made at a position.
+/// Why no event may be created at a position, if so.
 fn room_refusal(position: u64) -> Option<Refusal>
     ensures { result ≡ room_refusal position }
 {
@@ -42,7 +42,7 @@ fn room_refusal(position: u64) -> Option<Refusal>
     }
 }
 
-/// Why a relation isn't made, where there are so many of its kind.
+/// Why a relation isn't created: its name is taken, or there are `many` of its kind, which is its limit.
 fn relation_refusal(taken: bool, many: usize, position: u64) -> Option<Refusal>
     ensures { result ≡ relation_refusal taken many position }
 {
@@ -55,7 +55,7 @@ fn relation_refusal(taken: bool, many: usize, position: u64) -> Option<Refusal>
     }
 }
 
-/// Why a table isn't made a hypertable.
+/// Why a table can't become a hypertable.
 fn hyper_refusal(made: bool, position: u64) -> Option<Refusal>
     ensures { result ≡ hyper_refusal made position }
 {
@@ -77,11 +77,11 @@ fn finish_refusal(pending: Pending, position: u64) -> Option<Refusal>
     }
 }
 
-/// Why a store refuses the call that appends this event at a history with this roster and position, if it
-/// does: as `E07`, `E21`, `E19` or `E30`. Doesn't check the rows and the tests of an event.
+/// Why a store refuses the call that appends this event, if it does: `E07`, `E21`, `E19` or `E30`. The history
+/// has this roster and position. Doesn't check the rows and the tests of an event.
 ///
-/// `pending` is the outcome of the refresh that the event finishes. It has no effect for an event that
-/// finishes none.
+/// `pending` is the outcome of the refresh that the event finishes. It isn't used for an event that finishes
+/// none.
 pub fn call_refusal(
     roster: &Roster,
     pending: Pending,
@@ -107,7 +107,7 @@ pub fn call_refusal(
     }
 }
 
-/// Whether a table may be made, as far as its name and its columns go.
+/// Whether a table may be created, by its name and its columns.
 fn table_is_fit(def: &TableDef) -> bool
     ensures { result ≡ (is_name def.now.name && columns_fit def.now.cols) }
 {
@@ -115,7 +115,7 @@ fn table_is_fit(def: &TableDef) -> bool
     columns_are_fit(&def.cols)
 }
 
-/// Whether a refresh may be finished with the rows of a snapshot, as far as the positions go.
+/// Whether a refresh may be finished with the rows of a snapshot, by the positions.
 fn finish_is_fit(pending: Pending, position: u64, base: u64, cut: u64, snap: u64) -> bool
     ensures { result ≡ (is_known pending && nat_le cut snap && nat_le base snap && nat_le snap position) }
 {
@@ -127,7 +127,7 @@ fn finish_is_fit(pending: Pending, position: u64, base: u64, cut: u64, snap: u64
     known && cut <= snap && base <= snap && snap <= position
 }
 
-/// Whether what an event names is there, and all that it holds is in range.
+/// Whether what an event names exists, and all that it holds is in range.
 fn is_fit(roster: &Roster, pending: Pending, position: u64, base: u64, event: &Event) -> bool
     ensures { result ≡ fits_by roster.now pending position base event.now }
 {
@@ -142,8 +142,7 @@ fn is_fit(roster: &Roster, pending: Pending, position: u64, base: u64, event: &E
     }
 }
 
-/// Whether what an event names is there, and all that it holds is in range. A finish names nothing of a
-/// roster.
+/// Whether what an event names exists, and all that it holds is in range. A finish names nothing of a roster.
 fn is_fit_in(roster: &Roster, event: &Event) -> bool
     ensures { result ≡ sound_in roster.now event.now }
 {
@@ -173,7 +172,7 @@ fn is_timely_in(roster: &Roster, event: &Event) -> bool
     }
 }
 
-/// Whether an event may come after a roster, whatever its bytes.
+/// Whether an event may come after a roster, not counting its bytes.
 pub fn may_follow(roster: &Roster, event: &Event) -> bool
     ensures { result ≡ may_follow roster.now event.now }
 {
@@ -189,7 +188,7 @@ fn is_sound(roster: &Roster, pending: Pending, position: u64, base: u64, event: 
     fit && bytes_of(event) < BYTES_LIMIT
 }
 
-/// Why an event that no call refuses isn't allowed, where it isn't sound.
+/// Why an event that no call refuses isn't allowed, if it isn't sound.
 fn unsound_refusal(sound: bool, position: u64) -> Option<Refusal>
     ensures { result ≡ cond sound None (Some (refusal_of_code no_number position 0)) }
 {
@@ -201,11 +200,11 @@ fn unsound_refusal(sound: bool, position: u64) -> Option<Refusal>
 }
 
 /// Why an event isn't allowed next at a history with this roster and position, which begins at `base`. The
-/// refusal is that of the store's call that appends such an event, as `E07`, `E21`, `E19` or `E30`, and
-/// otherwise has the number 0.
+/// refusal is that of the store's call that appends such an event (`E07`, `E21`, `E19` or `E30`), and otherwise
+/// has the number 0.
 ///
-/// `pending` is the outcome of the refresh that the event finishes. It has no effect for an event that
-/// finishes none.
+/// `pending` is the outcome of the refresh that the event finishes. It isn't used for an event that finishes
+/// none.
 pub fn refusal_of(
     roster: &Roster,
     pending: Pending,

@@ -1,4 +1,4 @@
-//! What every name, width and number keeps to. Each function does nothing.
+//! Bounds of every name, width and number. Each function does nothing.
 ghost use Rattle.std.specs.Prelude.{◌≡◌, true};
 ghost use Rattle.ts_bucket.specs.Bucket.{IsWidth, is_width};
 ghost use Rattle.ts_model.specs.Limits.{is_word};

@@ -20,7 +20,7 @@ pub fn table_in(roster: &Roster, table: u32) -> Option<&TableInfo>
     roster.tables.items().get(table as usize)
 }
 
-/// What makes a table a hypertable, where it is one.
+/// What makes a table a hypertable, if it is one.
 pub(crate) fn hyper_in(roster: &Roster, table: u32) -> Option<Hyper>
     ensures { result ≡ hyper_of roster.now table }
 {

@@ -5,7 +5,7 @@ ghost use Rattle.ts_model.specs.Roster.{change_at, made_hyper, roster_after, set
 use ts_model::{Event, Hyper, Roster, TableInfo, ViewDef};
 use ts_schema::{NoMemory, Seq};
 
-/// Makes a table a hypertable, unless it is one.
+/// Turns a table into a hypertable, unless it is one.
 fn make_hyper(tables: &mut Seq<TableInfo>, table: usize, hyper: Hyper) -> Result<(), NoMemory>
     ensures { IfOk result (λ _. tables.new ≡ change_at tables.old table (made_hyper hyper)) }
 {

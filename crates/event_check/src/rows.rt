@@ -36,7 +36,7 @@ fn value_at(vals: &Values, place: usize) -> Option<Option<i64>>
     }
 }
 
-/// Whether there is no value at a place or after it.
+/// Whether there is no value at a place or later.
 #[inline(always)]
 fn none_from(vals: &Values, place: usize) -> bool
     ensures { result ≡ values_fit [] (drop place vals.now) }
@@ -61,7 +61,7 @@ fn values_are_fit(cols: &[Column], vals: &Values, place: usize) -> bool
     }
 }
 
-/// Whether the values from a place on fit the columns but the one at another place.
+/// Whether the values from a place on fit the columns, except the column at another place.
 #[inline(always)]
 fn others_are_fit(at: usize, cols: &[Column], vals: &Values, place: usize) -> bool
     ensures { result ≡ values_fit (remove cols.now at) (drop place vals.now) }

@@ -36,7 +36,7 @@ fn end_of(width: Width, latest: Option<i64>) -> Option<i64>
     }
 }
 
-/// Where a window without an end ends.
+/// The end of a window without a given end.
 fn window_end(width: Width, mark: Option<i64>, latest: Option<i64>) -> Option<i64>
     requires mark { ForSome mark (IsMark width) }
     requires latest { ForSome latest (λ t. IsTrue (is_time t)) }
@@ -47,7 +47,7 @@ fn window_end(width: Width, mark: Option<i64>, latest: Option<i64>) -> Option<i6
     greater(mark, end_of(width, latest))
 }
 
-/// The whole buckets of a window, or what becomes of a refresh without one.
+/// The whole buckets of a window, or the outcome of a refresh without one.
 fn window_to(width: Width, lo: Option<i64>, hi: i64, other: Window) -> Window
     requires low { ForSome lo (λ t. IsTrue (is_time t)) }
     requires high { IsNearTimes hi }
@@ -59,9 +59,9 @@ fn window_to(width: Width, lo: Option<i64>, hi: i64, other: Window) -> Window
     }
 }
 
-/// The buckets that a refresh covers whose window is from `lo` on and below `hi`. A missing start is
-/// that of the first bucket. A missing end is the greater of the aggregate's watermark and the end of
-/// the bucket of the greatest time of a row, which are `mark` and `latest` where there are such.
+/// The buckets that a refresh covers with the window from `lo` on and below `hi`. A missing start is that of
+/// the first bucket. A missing end is the greater of the aggregate's watermark and the end of the bucket of the
+/// table's greatest time. `mark` is that watermark and `latest` that time, if they exist.
 pub fn window(
     width: Width,
     mark: Option<i64>,

@@ -1,4 +1,4 @@
--- What is left after the longest front that begins a number.
+-- The bytes after the longest front that begins a number.
 use Rattle.std.proofs.Common.{◌≡◌, ℕ, zero, suc, ◌-◌, ◌<◌, ◌≤◌, Bool, true, false, cond, ◌&&◌, nat_lt, int_le, List, [], ◌∷◌, length, get_or, drop, ℤ, ◌≤ℤ◌, ◌<ℤ◌, Result, Ok, Err, refl, sym, ap, subst, ◌∙◌, arith}
 use Rattle.std.proofs.lemmas.Bool.{and_from, lt-ltb}
 use Rattle.std.proofs.lemmas.Int.{ints}
@@ -45,7 +45,7 @@ stops_here (suc k) lo hi (b ∷ bytes) h l =
     let apart : int_le (least_above lo b) (most_below hi b) ≡ false = grind (arith, ints) in
     stops k lo hi b bytes (is_low_byte lo hi b) refl (ap (λ (t : Bool). nat_lt b 256 && t) apart ∙ and-false (nat_lt b 256))
 
--- the first byte begins one
+-- the first byte begins a number of the range
 pub stops_later : (k : ℕ) (lo hi : ℤ) (bytes left : List ℕ) → 1 ≤ length bytes → 1 ≤ k → get_or bytes 0 0 < 256 → least_above lo (get_or bytes 0 0) ≤ℤ most_below hi (get_or bytes 0 0) → StopsAt (number (k - 1) (least_above lo (get_or bytes 0 0)) (most_below hi (get_or bytes 0 0)) (drop 1 bytes)) left → StopsAt (number k lo hi bytes) left
 stops_later zero lo hi bytes left h p small l s = absurd (omega (arith, p))
 stops_later (suc k) lo hi [] left h p small l s = absurd (omega (arith, h))
@@ -54,7 +54,7 @@ stops_later (suc k) lo hi (b ∷ bytes) left h p small l s =
     let same : suc k - 1 ≡ k = omega arith in
     goes k lo hi b bytes left (and_from _ _ (lt-ltb b 256 small) some) (subst (λ (n : ℕ). StopsAt (number n (least_above lo b) (most_below hi b) bytes) left) same s)
 
--- ---- the same, of numbers as the code reads them
+-- ---- the same, for numbers as the code reads them
 
 pub lt-true : (a b : ℤ) → lt_z a b ≡ true → a <ℤ b
 lt-true a b h = grind (arith, ints)

@@ -1,4 +1,4 @@
--- Rows of times and values, one row more, and values and rows that are read piece by piece.
+-- Rows of times and values, with one more row; and values and rows that are read piece by piece.
 use Rattle.std.proofs.Common.{◌≡◌, ℕ, zero, suc, ◌+◌, ◌-◌, ◌≤◌, List, [], ◌∷◌, ◌++◌, length, length-append, length-drop, get_or, take, drop, ℤ, ◌≤ℤ◌, Option, Some, None, Result, Ok, Err, refl, sym, ap, ap₂, ◌∙◌, subst, append_assoc, arith}
 use Rattle.std.proofs.lemmas.List.{drop-append-le, drop-drop, drop_all, append-nil}
 use Rattle.cell_rows.specs.Parts.{parts, AreParts}
@@ -20,7 +20,7 @@ timed_more [] (o ∷ others) t vals e = absurd (omega (arith, e))
 timed_more (s ∷ ts) [] t vals e = absurd (omega (arith, e))
 timed_more (s ∷ ts) (o ∷ others) t vals e = ap (λ (rows : List Row). record { at = s; vals = o } ∷ rows) (timed_more ts others t vals (omega (arith, e)))
 
--- where no time is left, or no values, no row is
+-- if no time or no values are left, no row is
 pub no_time : (ts : List ℤ) (others : List (List (Option ℤ))) → length ts ≡ 0 → timed_rows ts others ≡ []
 no_time [] others e = refl
 no_time (t ∷ ts) others e = absurd (omega (arith, e))
@@ -43,7 +43,7 @@ pub number_is_read : (bytes body rest : List ℕ) (z : ℤ) → 1 ≤ length byt
 number_is_read bytes body rest z some is told low high spelled =
     ap value_at (head_and_rest bytes body some is ∙ ap (λ (c : ℕ). c ∷ body) told ∙ ap (λ (l : List ℕ). 1 ∷ l) spelled) ∙ value_format.again (Some z) rest (low, high)
 
--- ---- a row put behind others
+-- ---- a row appended after others
 
 pub row_put : (times longer : List ℤ) (ends more_ends : List ℕ) (cells more_cells vals : List (Option ℤ)) (t : ℤ) (last : ℕ) → length times ≡ length ends → AreParts 0 ends cells → longer ≡ times ++ t ∷ [] → more_cells ≡ cells ++ vals → last ≡ length more_cells → more_ends ≡ ends ++ last ∷ [] → (length longer ≡ length more_ends) × AreParts 0 more_ends more_cells × (timed_rows longer (parts 0 more_ends more_cells) ≡ timed_rows times (parts 0 ends cells) ++ record { at = t; vals = vals } ∷ [])
 row_put times longer ends more_ends cells more_cells vals t last same fit time put at told =
@@ -57,13 +57,13 @@ row_put times longer ends more_ends cells more_cells vals t last same fit time p
           ∙ timed_more times (parts 0 ends cells) t vals (same ∙ sym (length_parts 0 ends cells)),
     )
 
--- ---- a list that grows behind others
+-- ---- a list that grows after others
 
 module _ {A : Type 0} where
   pub behind_nothing : (before : List A) → before ≡ before ++ drop (length before) before
   behind_nothing before = sym (append-nil before) ∙ ap (λ (l : List A). before ++ l) (sym (drop_all (length before) before (omega arith)))
 
-  -- what stands behind others grows with the whole
+  -- the part after others grows with the whole
   pub behind_more : (before list new : List A) (a : A) → list ≡ before ++ drop (length before) list → new ≡ list ++ a ∷ [] → drop (length before) new ≡ drop (length before) list ++ a ∷ []
   behind_more before list new a is more =
       let whole : length list ≡ length (before ++ drop (length before) list) = ap length is in
@@ -75,13 +75,13 @@ module _ {A : Type 0} where
       more ∙ ap (λ (l : List A). l ++ a ∷ []) is ∙ append_assoc before (drop (length before) list) (a ∷ [])
       ∙ ap (λ (l : List A). before ++ l) (sym (behind_more before list new a is more))
 
--- ---- so many items, and so many more
+-- ---- a number of items, and a number of further items
 
 module _ {A : Type 0} (p : Reads A) where
   abbrev Many : Type 0
   Many = Result (List A × List ℕ) (List ℕ)
 
-  -- what is read of a piece, and then of the rest
+  -- the items read from a piece, and then from the rest
   abbrev pub then_more : ℕ → Many → Many
   then_more n r = go_on r (λ front left. with_front p front (items n p left))
 
@@ -130,7 +130,7 @@ module _ {A : Type 0} (p : Reads A) where
       by_rest (Err left) = refl
   fronts front n (Err left) = refl
 
-  -- what the whole is, where a piece behind others is read so
+  -- the whole, given the reading of a piece after others
   whole_of : (front : List A) (left m n : ℕ) (bytes : List ℕ) (total r : Many) → left ≡ m + n → with_front p front (items m p bytes) ≡ r → with_front p front (items left p bytes) ≡ total → go_on r (λ all rest. with_front p all (items n p rest)) ≡ total
   whole_of front left m n bytes total r sum piece so_far =
       ap (λ (s : Many). go_on s (λ all rest. with_front p all (items n p rest))) (sym piece)
@@ -154,9 +154,9 @@ pub mapped_fails : {A B : Type 0} (e : ReadError) (f : A → B) (r : Result (A �
 mapped_fails errors.Memory f r left h = tt
 mapped_fails errors.Bad f r left h = ap (λ s. go_on s (λ a end. done (f a) end)) h
 
--- ---- rows that are made of their times and of the places where their values end
+-- ---- rows built from their times and from the places at which their values end
 
--- one row is made, and what is left stands behind it
+-- one row is built, and the rest comes after it
 pub row_made : (times later : List ℤ) (ends more_ends : List ℕ) (all vals : List (Option ℤ)) (made more total : List Row) (t : ℤ) (from end : ℕ) → times ≡ t ∷ later → ends ≡ end ∷ more_ends → from ≤ length all → AreParts from ends (drop from all) → made ++ timed_rows times (parts from ends (drop from all)) ≡ total → vals ≡ take (end - from) (drop from all) → more ≡ made ++ record { at = t; vals = vals } ∷ [] → (end ≤ length all) × AreParts end more_ends (drop end all) × (more ++ timed_rows later (parts end more_ends (drop end all)) ≡ total)
 row_made times later ends more_ends all vals made more total t from end time place within fit so_far part put =
     let parted : AreParts from (end ∷ more_ends) (drop from all) = subst (λ es. AreParts from es (drop from all)) place fit in

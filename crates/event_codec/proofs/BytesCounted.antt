@@ -27,7 +27,7 @@ counted : {X : Type 0} (spell : X → List ℕ) (f : X → ℕ) → ((x : X) →
 counted spell f each [] = refl
 counted spell f each (x ∷ xs) = omega (arith, length-append (spell x) (flat_map spell xs), each x, counted spell f each xs, sum_cons f x xs)
 
--- items of so many bytes each
+-- items with this many bytes each
 evenly : {X : Type 0} (spell : X → List ℕ) (n : ℕ) → ((x : X) → length (spell x) ≡ n) → (xs : List X) → length (flat_map spell xs) ≡ n * length xs
 evenly spell n each [] = omega arith
 evenly spell n each (x ∷ xs) = omega (arith, length-append (spell x) (flat_map spell xs), each x, evenly spell n each xs, more n (length xs))

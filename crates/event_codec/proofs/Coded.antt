@@ -18,7 +18,7 @@ use Rattle.event_codec.proofs.Formats.{IsFormat, Stands, same_value, same_left}
 abbrev pub Any : {A : Type 0} → A → Type 0
 Any a = Unit {0}
 
--- what has a code was found by that code
+-- a value with a code was found by that code
 pub found_code : {A : Type 0} (code : A → ℕ) (all : List A) (b : ℕ) (a : A) → with_code code all b ≡ Some a → code a ≡ b
 found_code code [] b a e = absurd cc
 found_code {A} code (x ∷ all) b a e = by_test (eqb b (code x)) refl (found_code code all b a) e

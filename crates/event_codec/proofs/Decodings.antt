@@ -1,4 +1,4 @@
--- What is decoded is exact.
+-- Decoding is exact.
 use Rattle.std.proofs.Common.{◌≡◌, ℕ, ◌≤◌, ◌-◌, List, [], ◌∷◌, ◌++◌, length, length-append, take, drop, Ok, Err, refl, sym, ap, subst, ◌∙◌, append_assoc, arith, inl, inr}
 use Rattle.std.proofs.lemmas.List.{append-nil, take_at, take-append-drop, length-drop}
 use Rattle.ts_model.specs.declared.events.Event.{Event}
@@ -9,7 +9,7 @@ use Rattle.event_codec.specs.Reading.{event_at, at_end, whole_event}
 use Rattle.event_codec.proofs.Formats.{Begins, Viable, parted, went_on, stopped, done, same_value, same_left}
 use Rattle.event_codec.proofs.EventLaws.{event_format}
 
--- no event's bytes begin another's
+-- no event's bytes are a prefix of another's
 pub same_event : (d e : Event) (x y : List ℕ) → IsFormed d → IsFormed e → spelling.event d ++ x ≡ spelling.event e ++ y → (d ≡ e) × (x ≡ y)
 same_event d e x y f g h =
     let both : done d x ≡ done e y = sym (event_format.again d x f) ∙ ap event_at h ∙ event_format.again e y g in
@@ -40,7 +40,7 @@ is_spelled bytes e end h = (whole bytes e end h).1
 
 -- ---- none is
 
--- the bytes that are left after the longest front that begins an event
+-- the bytes left after the longest front that begins an event
 record Fails (bytes left : List ℕ) : Type 0 where
   no_event : (e : Event) → IsFormed e → bytes ≡ spelling.event e → ⊥
   viable : Viable spelling.event IsFormed bytes left

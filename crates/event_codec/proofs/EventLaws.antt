@@ -33,7 +33,7 @@ rest (events.Commit ops) = many op ops
 rest (events.Cut v s) = four v ++ span s
 rest (events.Built cut snap) = eight cut ++ eight snap
 
--- an event of a kind that has a spelling
+-- an event of a kind that has an encoding
 abbrev IsOfKind : Kind → Event → Type 0
 IsOfKind k e = (kind e ≡ k) × IsFormed e
 

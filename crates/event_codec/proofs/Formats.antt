@@ -1,4 +1,6 @@
--- Formats: how values of a type are spelled, which of them are, and how they are read again. A reading is exact: it gives a value where its spelling stands in front, and else the bytes after the longest front that begins a spelling.
+-- Formats: how values of a type are written, which values can be written, and how they are read. A reading is
+-- exact: it returns a value if its encoding is in front, and otherwise the bytes after the longest front that
+-- begins an encoding.
 use Rattle.std.proofs.Common.{◌≡◌, ℕ, zero, suc, ◌≤◌, Bool, true, false, cond, List, [], ◌∷◌, ◌++◌, length, length-append, Result, Ok, Err, refl, sym, ap, subst, ◌∙◌, append_assoc, arith, inl, inr, ◌⊎◌}
 use Rattle.std.specs.List.{flat_map, AllByRecursion}
 use Rattle.std.proofs.lemmas.List.{nil_from_length}
@@ -9,7 +11,7 @@ pub record Sample {A : Type 0} (fits : A → Type 0) : Type 0 where
   pub value : A
   pub ok : fits value
 
--- what was read, and stands in front
+-- the value that was read, whose encoding is in front
 pub record Stands {A : Type 0} (spelling : A → List ℕ) (fits : A → Type 0) (bytes : List ℕ) (a : A) (left : List ℕ) : Type 0 where
   pub ok : fits a
   pub parts : bytes ≡ spelling a ++ left
@@ -21,7 +23,7 @@ pub record Begins (bytes left text : List ℕ) : Type 0 where
   pub parts : bytes ≡ front ++ left
   pub begun : text ≡ front ++ more
 
--- a front that begins the spelling of a value that fits
+-- a front that begins the encoding of a value that fits
 pub record Viable {A : Type 0} (spelling : A → List ℕ) (fits : A → Type 0) (bytes left : List ℕ) : Type 0 where
   pub value : A
   pub ok : fits value
@@ -29,18 +31,18 @@ pub record Viable {A : Type 0} (spelling : A → List ℕ) (fits : A → Type 0)
 
 pub record IsFormat {A : Type 0} (spelling : A → List ℕ) (fits : A → Type 0) (read : Reads A) : Type 0 where
   pub sample : Sample fits
-  -- what is read is spelled so
+  -- the encoding of a value read is in front
   pub takes : (bytes : List ℕ) (a : A) (left : List ℕ) → read bytes ≡ Ok (a, left) → Stands spelling fits bytes a left
-  -- what is spelled so is read, whatever follows
+  -- an encoding in front is read, with anything after it
   pub again : (a : A) (left : List ℕ) → fits a → read (spelling a ++ left) ≡ Ok (a, left)
-  -- where nothing is read, the front begins something
+  -- if nothing is read, the front begins some encoding
   pub viable : (bytes left : List ℕ) → read bytes ≡ Err left → Viable spelling fits bytes left
   -- and no longer front does
   pub longest : (bytes left : List ℕ) → read bytes ≡ Err left → (a : A) (other : List ℕ) → fits a → Begins bytes other (spelling a) → length left ≤ length other
 
 -- ---- lists
 
--- two ways to part a list
+-- two ways to split a list
 pub parted : (a b c d : List ℕ) → a ++ b ≡ c ++ d → ((e : List ℕ) × (c ≡ a ++ e) × (b ≡ e ++ d)) ⊎ ((e : List ℕ) × (a ≡ c ++ e) × (d ≡ e ++ b))
 parted [] b c d e = inl (c, refl, e)
 parted (x ∷ a) b [] d e = inr (x ∷ a, refl, sym e)
@@ -55,7 +57,7 @@ parted (x ∷ a) b (y ∷ c) d e =
 abbrev Read : Type 0 → Type 0
 Read A = Result (A × List ℕ) (List ℕ)
 
--- the two ways in which two readings one after the other can end
+-- the two ways in which two readings in order can end
 pub went_on : {A B : Type 0} (r : Read A) (q : A → Reads B) (y : B × List ℕ) → go_on r q ≡ Ok y → (x : A × List ℕ) × (r ≡ Ok x) × (q x.0 x.1 ≡ Ok y)
 went_on (Ok x) q y e = (x, refl, e)
 went_on (Err left) q y e = absurd cc
@@ -79,7 +81,7 @@ same_left {A} a b x y e = ap (λ (p : A × List ℕ). p.1) (ok_is (a, x) (b, y) 
 failed : {A : Type 0} → List ℕ → Read A
 failed left = Err left
 
--- a reading that gives a value doesn't fail
+-- a reading that returns a value doesn't fail
 never_both : {A : Type 0} (r : Read A) (a : A) (left other : List ℕ) {Z : Type 0} → r ≡ Ok (a, left) → r ≡ Err other → Z
 never_both r a left other e f = absurd cc
 
@@ -133,7 +135,7 @@ byte_format test a passes = record {
   longest = λ bytes left e b other h begins. let same = byte_viable test bytes left e in omega (arith, ap length same, byte_longest test bytes left e b other begins.front begins.more h begins.parts begins.begun);
 }
 
--- ---- one after the other
+-- ---- in order
 
 module _ {A B : Type 0} (spell : A → List ℕ) (fits : A → Type 0) (p : Reads A) (spell_next : A → B → List ℕ) (fits_next : A → B → Type 0) (q : A → Reads B) (first : IsFormat spell fits p) (next : (a : A) → fits a → IsFormat (spell_next a) (fits_next a) (q a)) where
   abbrev spell_both : A × B → List ℕ
@@ -205,7 +207,7 @@ module _ {A B : Type 0} (spell : A → List ℕ) (fits : A → Type 0) (p : Read
         }
   ]
 
-  -- no spelling begins another: two that begin one text are the same
+  -- no encoding is a prefix of another: two that begin one text are the same
   first_same : (a c : A) (x y : List ℕ) → fits a → fits c → spell a ++ x ≡ spell c ++ y → (a ≡ c) × (x ≡ y)
   first_same a c x y h k e =
       let both : done a x ≡ done c y = sym (first.again a x h) ∙ ap p e ∙ first.again c y k in
@@ -247,14 +249,14 @@ module _ {A B : Type 0} (spell : A → List ℕ) (fits : A → Type 0) (p : Read
 
 -- ---- seen as something else
 
--- a value that is seen as b
+-- a value that maps to b
 pub record Source {A B : Type 0} (f : A → B) (spell : A → List ℕ) (fits : A → Type 0) (seen : B → List ℕ) (b : B) : Type 0 where
   pub value : A
   pub ok : fits value
   pub same : f value ≡ b
   pub spelled : seen b ≡ spell value
 
--- seen by f, values that fit are values that fit, with the same spellings
+-- f maps values that fit to values that fit, with the same encodings
 pub record SameSpelling {A B : Type 0} (f : A → B) (spell : A → List ℕ) (fits : A → Type 0) (seen : B → List ℕ) (holds : B → Type 0) : Type 0 where
   pub there : (a : A) → fits a → holds (f a) × (seen (f a) ≡ spell a)
   pub back : (b : B) → holds b → Source f spell fits seen b
@@ -304,7 +306,7 @@ module _ {A B : Type 0} (f : A → B) (spell : A → List ℕ) (fits : A → Typ
     longest = map_longest;
   }
 
--- what fits told in other words, and spelled the same
+-- the same values, by another condition and with the same encoding
 pub alike : {A : Type 0} (spell other_spell : A → List ℕ) (fits other : A → Type 0) (p : Reads A) → IsFormat spell fits p → ((a : A) → fits a → other a × (spell a ≡ other_spell a)) → ((a : A) → other a → fits a × (other_spell a ≡ spell a)) → IsFormat other_spell other p
 alike spell other_spell fits other p first there back = record {
   sample = record { value = first.sample.value; ok = (there first.sample.value first.sample.ok).0 };
@@ -324,7 +326,7 @@ alike spell other_spell fits other p first there back = record {
       first.longest bytes left e a other b.0 (record { front = begins.front; more = begins.more; parts = begins.parts; begun = sym b.1 ∙ begins.begun });
 }
 
--- ---- so many items
+-- ---- a given number of items
 
 module _ {A : Type 0} (spell : A → List ℕ) (fits : A → Type 0) (p : Reads A) (first : IsFormat spell fits p) where
   abbrev so_many : ℕ → List A → Type 0
@@ -354,7 +356,7 @@ module _ {A : Type 0} (spell : A → List ℕ) (fits : A → Type 0) (p : Reads 
       (one_before n)
 
   module _ (spell_count : ℕ → List ℕ) (counts : ℕ → Type 0) (count : Reads ℕ) (number : IsFormat spell_count counts count) where
-    -- a count that fits, and so many items that fit
+    -- a count that fits, and that many items that fit
     pub listed_format : IsFormat (λ xs. spell_count (length xs) ++ flat_map spell xs) (λ xs. counts (length xs) × AllByRecursion fits xs) (counted_list count p)
     listed_format = map_format second (λ x. spell_count x.0 ++ flat_map spell x.1) (λ x. counts x.0 × so_many x.0 x.1) (pair count (λ n. items n p)) (λ xs. spell_count (length xs) ++ flat_map spell xs) (λ xs. counts (length xs) × AllByRecursion fits xs)
         (pair_format spell_count counts count (λ n. flat_map spell) so_many (λ n. items n p) number (λ n h. items_format n))

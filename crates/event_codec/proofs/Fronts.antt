@@ -1,4 +1,4 @@
--- A number whose bytes stand in front is read; where none does, its reading fails.
+-- A number whose bytes are in front is read. Otherwise its reading fails.
 use Rattle.std.proofs.Common.{◌≡◌, ℕ, ◌-◌, ◌<◌, ◌≤◌, ◌^◌, List, ◌++◌, length, length-append, ℤ, pos, ◌≤ℤ◌, ◌<ℤ◌, unsigned_abs, true, false, Result, Ok, Err, refl, sym, ap, subst, ◌∙◌, arith}
 use Rattle.std.proofs.lemmas.Int.{ints, to_z_pos, to_z-of_z}
 use Rattle.ts_bucket.specs.WholeSpans.{least, greatest}
@@ -11,7 +11,7 @@ use Rattle.event_codec.proofs.Formats.{IsFormat, same_value}
 use Rattle.event_codec.proofs.NumberLaws.{four_format, any_four_format, any_eight_format, between_format, any_word_format}
 use Rattle.event_codec.proofs.Begun.{lt-true, lt-false}
 
--- a reading that gives nothing fails
+-- a reading that returns nothing fails
 failing : {A : Type 0} (r : Result (A × List ℕ) (List ℕ)) (left : List ℕ) → StopsAt r left → ((a : A) (rest : List ℕ) → r ≡ Ok (a, rest) → ⊥) → r ≡ Err left
 failing (Ok x) left stop never = absurd (never x.0 x.1 refl)
 failing {A} (Err end) left stop never = let same : left ≡ end = stop in ap (λ (l : List ℕ). failed l) (sym same)

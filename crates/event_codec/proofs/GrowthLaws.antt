@@ -12,6 +12,6 @@ grows_not old new e = record { more = []; is = e ∙ sym (append-nil old) }
 pub grows_on : (a b c : List ℕ) → Grows a b → Grows b c → Grows a c
 grows_on a b c p q = record { more = p.more ++ q.more; is = q.is ∙ ap (λ (l : List ℕ). l ++ q.more) p.is ∙ append_assoc a p.more q.more }
 
--- what was there before is the front
+-- the earlier bytes are the front
 pub front_kept : (old new : List ℕ) → Grows old new → take (length old) new ≡ old
 front_kept old new g = ap (take (length old)) g.is ∙ take_at old g.more (length old) refl

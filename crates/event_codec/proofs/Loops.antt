@@ -1,4 +1,4 @@
--- Items read one after the other, as a loop does.
+-- Items read in order, as a loop does.
 use Rattle.std.proofs.Common.{◌≡◌, ℕ, suc, ◌-◌, ◌+◌, ◌≤◌, ◌<◌, List, [], ◌∷◌, ◌++◌, Result, Ok, Err, refl, sym, ap, ◌∙◌, append_assoc, arith}
 use Rattle.std.proofs.lemmas.List.{append-nil}
 use Rattle.event_codec.specs.declared.errors.ReadError.{ReadError}
@@ -10,7 +10,7 @@ module _ {A : Type 0} (p : Reads A) where
   abbrev Many : Type 0
   Many = Result (List A × List ℕ) (List ℕ)
 
-  -- what was read before, and what is still read
+  -- the items read before, and those still to be read
   abbrev pub with_front : List A → Many → Many
   with_front front read = go_on read (λ others end. Ok (front ++ others, end))
 

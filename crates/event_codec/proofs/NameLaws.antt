@@ -97,7 +97,7 @@ text_fits n bytes text rest h e =
     let read = (text_format n h).takes bytes text rest e in
     omega (arith, read.ok.0, ap length read.parts, length-append text rest)
 
--- ---- the same, of what a call returned
+-- ---- the same for the result of a call
 
 module _ {X Y : Type 0} (f : X → List ℕ) (g : Y → List ℕ) where
   pub tail_goes : (n : ℕ) (bytes rest : List ℕ) (r : Result X Y) → 1 ≤ n → 1 ≤ length bytes → is_tail (get_or bytes 0 0) ≡ true → rest ≡ drop 1 bytes → Matches (λ x. (take (n - 1) rest, f x)) g r (Tails (n - 1) rest) → Matches (λ x. (take n bytes, f x)) g r (Tails n bytes)

@@ -10,12 +10,12 @@ use Rattle.event_codec.specs.Reading.{gives, pair, byte_where, low_byte, without
 use Rattle.event_codec.proofs.Formats.{IsFormat, SameSpelling, byte_format, pair_format, map_format, gives_format, alike}
 use Rattle.ts_schema.proofs.Cases.{int_le-true, le-int_le}
 
--- so many bytes of a whole number, the lowest first
+-- this many bytes of a whole number, the lowest first
 abbrev pub low_bytes : ℕ → ℤ → List ℕ
 low_bytes zero z = []
 low_bytes (suc k) z = low_byte z ∷ low_bytes k (without_low z)
 
--- how many numbers so many bytes tell apart
+-- the number of values that this many bytes can encode
 abbrev pub room : ℕ → ℕ
 room zero = 1
 room (suc k) = 256 * room k
@@ -83,7 +83,7 @@ below hi b q h l = le_down (hi -ℤ pos b) q (omega (arith, ints, low_down b q h
 below_back : (hi : ℤ) (b : ℕ) (q : ℤ) → b < 256 → q ≤ℤ most_below hi b → with_low b q ≤ℤ hi
 below_back hi b q h l = let k = le_down_back (hi -ℤ pos b) q l in omega (arith, ints, low_down b q h, k)
 
--- ---- a range, and what its lowest bytes leave of it
+-- ---- a range, and its numbers with a given lowest byte
 
 narrower : (x z : ℤ) (d : ℕ) → (x +ℤ pos 255) ≤ℤ (z +ℤ pos d) → without_low x ≤ℤ (without_low z +ℤ pos (d / 256))
 narrower (pos x) (pos z) d h = omega (arith, ints)
@@ -133,7 +133,7 @@ module _ (lo hi : ℤ) where
         };
   }
 
--- a number from lo to hi, where so many bytes tell apart all numbers of the range
+-- a number from lo to hi, if this many bytes can encode every number of the range
 pub number_format : (k : ℕ) (lo hi : ℤ) (d : ℕ) → lo ≤ℤ hi → hi ≤ℤ (lo +ℤ pos d) → d < room k → IsFormat (low_bytes k) (Within lo hi) (number k lo hi)
 unfolding number
 number_format zero lo hi d l w r = map_format (λ z. z) (λ z. []) (λ z. z ≡ lo) (gives lo) (low_bytes 0) (Within lo hi) (gives_format lo) (record {

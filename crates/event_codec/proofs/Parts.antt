@@ -96,7 +96,7 @@ name_format = map_format second (λ x. (x.0 ∷ []) ++ x.1) (λ x. (is_name_leng
 
 -- ---- rows
 
--- a value behind its flag
+-- a value after its flag
 abbrev value_rest : Bool → Option ℤ → List ℕ
 value_rest b None = []
 value_rest b (Some v) = signed_bytes v
@@ -148,7 +148,7 @@ number_of Ge = any_word_format
 number_of IsNull = between_format (pos 0) (pos 0) (omega (arith, ints)) (omega (arith, ints)) (omega (arith, ints))
 number_of NotNull = between_format (pos 0) (pos 0) (omega (arith, ints)) (omega (arith, ints)) (omega (arith, ints))
 
--- there is such a number
+-- such a number exists
 pub number_range : (c : Cmp) → least_number c ≤ℤ most_number c
 number_range Eq = omega (arith, ints)
 number_range Ne = omega (arith, ints)

@@ -1,4 +1,4 @@
--- Sound events have a spelling.
+-- Sound events have an encoding.
 use Rattle.std.proofs.Common.{◌≡◌, ℕ, ◌-◌, ◌^◌, ◌<◌, ◌≤◌, Bool, true, ◌&&◌, ◌||◌, not, nat_lt, nat_le, List, [], ◌∷◌, map, length, ℤ, pos, negsuc, int_lt, int_le, Option, Some, None, sym, arith}
 use Rattle.std.specs.Prelude.{◌==◌, remove}
 use Rattle.std.specs.List.{list_all, AllByRecursion}
@@ -60,12 +60,12 @@ time z h =
     let p = and_parts (int_le min_time z) (int_le z max_time) h in
     (int_le-true min_time z p.0, int_le-true z max_time p.1)
 
--- what holds of each item, and so something else
+-- a property of each item, and a consequence
 each : {X : Type 0} (test : X → Bool) (P : X → Type 0) → ((x : X) → test x ≡ true → P x) → (xs : List X) → list_all test xs ≡ true → AllByRecursion P xs
 each test P f [] h = tt
 each test P f (x ∷ xs) h = let p = and_parts (test x) (list_all test xs) h in (f x p.0, each test P f xs p.1)
 
--- the same of two tests
+-- the same for two tests
 each_two : {X : Type 0} (test other : X → Bool) (P : X → Type 0) → ((x : X) → test x ≡ true → other x ≡ true → P x) → (xs : List X) → list_all test xs ≡ true → list_all other xs ≡ true → AllByRecursion P xs
 each_two test other P f [] h k = tt
 each_two test other P f (x ∷ xs) h k =

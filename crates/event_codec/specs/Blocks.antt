@@ -1,4 +1,4 @@
--- Rows whose values are stored apart from their times.
+-- Rows whose values are stored separately from their times.
 use Rattle.std.specs.Prelude.{List, [], ◌∷◌, ℤ, Option, Result, Ok, Err}
 use Rattle.ts_schema.specs.declared.rows.Row.{Row}
 
@@ -8,7 +8,7 @@ timed_rows [] others = []
 timed_rows (t ∷ ts) [] = []
 timed_rows (t ∷ ts) (vals ∷ others) = record { at = t; vals = vals } ∷ timed_rows ts others
 
--- what a function of the code returned, seen so
+-- the result of a function of the code, mapped
 abbrev pub seen_as : {X A E : Type 0} → (X → A) → Result X E → Result A E
 seen_as view (Ok x) = Ok (view x)
 seen_as view (Err e) = Err e

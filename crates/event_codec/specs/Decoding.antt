@@ -19,7 +19,7 @@ IfEvent (decoded.Event e) P = P e
 IfEvent (decoded.BadEvent n) P = Unit {0}
 IfEvent decoded.NoMemory P = Unit {0}
 
--- P of the number of bytes that begin no event
+-- P of the number of bytes after which no event begins
 abbrev pub IfBad : Decoded → (ℕ → Type 0) → Type 0
 IfBad (decoded.Event e) P = Unit {0}
 IfBad (decoded.BadEvent n) P = P n

@@ -1,4 +1,4 @@
--- What can be encoded: events all of whose parts are in the range of their fields.
+-- Events that can be encoded: all their parts are in the range of their fields.
 use Rattle.std.specs.Prelude.{ℕ, ◌<◌, ◌≤◌, ◌^◌, ◌-◌, ℤ, pos, ◌+ℤ◌, ◌-ℤ◌, ◌≤ℤ◌, List, length, Option, IfSome, IsTrue, if◌then◌else◌}
 use Rattle.std.specs.List.{AllByRecursion}
 use Rattle.ts_bucket.specs.WholeSpans.{least, greatest}

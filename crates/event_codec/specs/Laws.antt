@@ -12,7 +12,7 @@ use Rattle.event_codec.specs.Spelling as spelling
 abbrev pub BytesAreCounted : Type 0
 BytesAreCounted = (e : Event) → length (spelling.event e) ≡ event_bytes e
 
--- no event's bytes begin another's: if they do, it is the same event and nothing follows
+-- no event's bytes are a prefix of another's; if they are, it is the same event and nothing follows
 abbrev pub NoneBeginsAnother : Type 0
 NoneBeginsAnother =
     (d e : Event) (more : List ℕ) → IsFormed d → IsFormed e → spelling.event e ≡ spelling.event d ++ more

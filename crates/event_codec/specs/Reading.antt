@@ -1,5 +1,5 @@
--- Reading from left to right: what is in front and the bytes after it; or, if nothing of the kind is in front, the
--- bytes after the longest prefix that begins one.
+-- Reading from left to right: the value in front and the bytes after it, or, if there is none, the bytes after
+-- the longest prefix that begins one.
 use Rattle.std.specs.Prelude.{◌≡◌, ℕ, zero, suc, ◌+◌, ◌-◌, ◌*◌, ◌/◌, ◌%◌, ◌^◌, nat_lt, nat_le, ◌==◌, ℤ, pos, negsuc, ◌+ℤ◌, ◌-ℤ◌, ◌≤ℤ◌, int_le, unsigned_abs, Bool, true, false, ◌&&◌, if◌then◌else◌, List, [], ◌∷◌, Result, Ok, Err, Option, Some, None}
 use Rattle.ts_bucket.specs.WholeSpans.{least, greatest}
 use Rattle.ts_bucket.specs.Bucket.{max_step, max_time, min_time}
@@ -34,13 +34,13 @@ use Rattle.event_codec.specs.Formed.{least_number, most_number, most_column}
 abbrev pub Reads : Type 0 → Type 0
 Reads A = List ℕ → Result (A × List ℕ) (List ℕ)
 
--- what a function of the code returned, with these bytes left, is what reading gives, unless memory ran out
+-- the result of a function of the code, with these bytes left, is that of reading, unless memory ran out
 abbrev pub Gives : {A : Type 0} → Result A ReadError → Result (A × List ℕ) (List ℕ) → List ℕ → Type 0
 Gives (Ok a) read left = read ≡ Ok (a, left)
 Gives (Err errors.Memory) read left = Unit {0}
 Gives (Err errors.Bad) read left = read ≡ Err left
 
--- what a function of the code returned, seen so, is what reading gives
+-- the result of a function of the code, mapped, is that of reading
 abbrev pub Matches :
     {X Y A : Type 0} → (X → A × List ℕ) → (Y → List ℕ) → Result X Y → Result (A × List ℕ) (List ℕ) → Type 0
 Matches view end (Ok x) read = read ≡ Ok (view x)
@@ -53,7 +53,7 @@ StopsAt (Err end) left = left ≡ end
 
 -- ---- combining readings
 
--- one reading after another
+-- two readings in order
 abbrev pub go_on : {A B : Type 0} → Result (A × List ℕ) (List ℕ) → (A → Reads B) → Result (B × List ℕ) (List ℕ)
 go_on (Ok x) q = q x.0 x.1
 go_on (Err left) q = Err left
@@ -66,7 +66,7 @@ gives a bytes = Ok (a, bytes)
 abbrev pub pair : {A B : Type 0} → Reads A → (A → Reads B) → Reads (A × B)
 pair p q bytes = go_on (p bytes) (λ a left. go_on (q a left) (λ b end. Ok ((a, b), end)))
 
--- the same, seen as something else
+-- the same, mapped by a function
 abbrev pub read_map : {A B : Type 0} → (A → B) → Reads A → Reads B
 read_map f p bytes = go_on (p bytes) (λ a left. Ok (f a, left))
 
@@ -79,7 +79,7 @@ byte_where test (b ∷ bytes) = if test b then Ok (b, bytes) else Err (b ∷ byt
 abbrev pub put_before : {A : Type 0} → A × List A → List A
 put_before x = x.0 ∷ x.1
 
--- so many items
+-- a number of items
 unfoldable pub items : {A : Type 0} → ℕ → Reads A → Reads (List A)
 items zero p = gives []
 items (suc n) p = read_map put_before (pair p (λ a. items n p))
@@ -87,7 +87,7 @@ items (suc n) p = read_map put_before (pair p (λ a. items n p))
 abbrev pub second : {A B : Type 0} → A × B → B
 second x = x.1
 
--- a count, and so many items
+-- a count, and that many items
 abbrev pub counted_list : {A : Type 0} → Reads ℕ → Reads A → Reads (List A)
 counted_list count p = read_map second (pair count (λ n. items n p))
 
@@ -107,7 +107,7 @@ abbrev pub with_low : ℕ → ℤ → ℤ
 with_low b (pos n) = pos (256 * n + b)
 with_low b (negsuc n) = negsuc (256 * n + (255 - b))
 
--- the least number that gives at least lo with this lowest byte, and the greatest that gives at most hi
+-- the least number that with this lowest byte is at least lo, and the greatest that with it is at most hi
 abbrev pub least_above : ℤ → ℕ → ℤ
 least_above lo b = without_low (lo +ℤ pos (255 - b))
 
@@ -126,7 +126,7 @@ is_low_byte lo hi b = nat_lt b 256 && int_le (least_above lo b) (most_below hi b
 abbrev pub put_low : ℕ × ℤ → ℤ
 put_low x = with_low x.0 x.1
 
--- a number from lo to hi in so many bytes, the lowest first
+-- a number from lo to hi in this many bytes, the lowest first
 unfoldable pub number : ℕ → ℤ → ℤ → Reads ℤ
 number zero lo hi = gives lo
 number (suc k) lo hi =
@@ -167,7 +167,7 @@ abbrev pub with_code : {A : Type 0} → (A → ℕ) → List A → ℕ → Optio
 with_code code [] b = None
 with_code code (a ∷ all) b = if b == code a then Some a else with_code code all b
 
--- something was read, with what is left after it; or nothing was, and all is left from here on
+-- something was read, with the rest after it; or nothing was, and everything from here on is left
 abbrev pub read_as : {A : Type 0} → Option A → List ℕ → List ℕ → Result (A × List ℕ) (List ℕ)
 read_as None here left = Err here
 read_as (Some a) here left = Ok (a, left)
@@ -200,7 +200,7 @@ op_kind_of = with_code op_code (op_kinds.Insert ∷ op_kinds.Delete ∷ [])
 abbrev pub is_name_length : ℕ → Bool
 is_name_length n = nat_lt 0 n && nat_le n 63
 
--- so many bytes that are a name
+-- this many bytes that are a name
 unfoldable pub name_text : ℕ → Reads (List ℕ)
 name_text n = read_map put_before (pair (byte_where is_head) (λ b. items (n - 1) (byte_where is_tail)))
 
@@ -322,7 +322,7 @@ event_body kinds.Built = read_map to_built (pair any_eight (λ cut. any_eight))
 unfoldable pub event_at : Reads Event
 event_at = read_map second (pair (coded_byte kind_of) event_body)
 
--- an event, where nothing is left
+-- an event, if nothing is left
 abbrev pub at_end : Event → Reads Event
 at_end e [] = Ok (e, [])
 at_end e (b ∷ bytes) = Err (b ∷ bytes)

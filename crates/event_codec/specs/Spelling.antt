@@ -92,7 +92,7 @@ view def = name def.name ++ (four def.table ++ (fold def.fold ++ (few name def.n
 
 -- ---- events
 
--- the kind, and what the kind has
+-- the kind, and the fields of that kind
 abbrev pub event : Event → List ℕ
 event (events.Table def) = 1 ∷ table def
 event (events.Hyper t h) = 2 ∷ (four t ++ hyper h)

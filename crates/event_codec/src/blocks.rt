@@ -1,4 +1,4 @@
-//! Rows as they are read, with their values in blocks.
+//! Reads rows, with their values in blocks.
 ghost use Rattle.std.specs.Prelude.{◌≡◌, ◌∷◌, ◌++◌, [], IfOk, IfSome, OnOk, Ok, drop, length};
 ghost use Rattle.cell_rows.specs.Parts.{AreParts, parts};
 ghost use Rattle.event_codec.specs.Blocks.{seen_as, timed_rows};
@@ -16,29 +16,29 @@ use ts_schema::{NoMemory, Row, Seq, SharedSlice, ValueBlock, Values};
 /// The place of the count of a row's values, after its time.
 const COUNT_AT: usize = 8;
 
-/// No block has the values of more rows.
+/// The greatest number of rows whose values are in one block.
 const MANY: u32 = 1024;
 
-/// How many of `count` rows these bytes can hold at most.
+/// The greatest number of rows, at most `count`, that these bytes can hold.
 fn most_rows(count: u32, bytes: &[u8]) -> usize {
     (count as usize).min(bytes.len() / (COUNT_AT + 1))
 }
 
-/// How many values so many rows have, if each has as many as the first row of these bytes, or fewer, if the
-/// bytes can't hold so many.
+/// The number of values of `rows` rows, if each has as many as the first row of these bytes. It is less if the
+/// bytes can't hold that many.
 fn most_values(rows: usize, bytes: &[u8]) -> usize {
     let each = bytes.get(COUNT_AT).copied().unwrap_or(0);
     rows.saturating_mul(usize::from(each)).min(bytes.len())
 }
 
-/// An empty list with room for so many items.
+/// An empty list with room for `room` items.
 fn with_room<T>(alloc: Global, room: usize) -> Result<Vec<T>, NoMemory>
     ensures { IfOk result (λ list. list.items ≡ []) }
 {
     Ok(Vec::with_capacity(alloc, room)?)
 }
 
-/// Appends the time of a row, and the place where its values end.
+/// Appends the time of a row, and the place at which its values end.
 #[inline(always)]
 fn push_row(
     at: i64,
@@ -54,8 +54,7 @@ fn push_row(
     Ok(())
 }
 
-/// Appends the rows with these times, whose values end at these places of a list. From here on the rows share
-/// the list.
+/// Appends the rows with these times, whose values end at these places of a list. The rows share the list.
 fn push_rows(
     into: &mut Vec<Row>,
     alloc: Global,
@@ -76,7 +75,7 @@ fn push_rows(
     Ok(())
 }
 
-/// The value in front, and the bytes after it. It may miss one that is there.
+/// The value in front, and the bytes after it. It may return none although there is one.
 #[inline(always)]
 fn value_in_front(bytes: &[u8]) -> Option<(Option<i64>, &[u8])>
     ensures { IfSome result (λ x. value_at bytes.now ≡ Ok (x.0, x.1.now)) }
@@ -164,7 +163,7 @@ impl Reader<'_> {
         Ok(())
     }
 
-    /// So many rows.
+    /// Reads `count` rows.
     fn row_list(&mut self, count: u32) -> Result<Vec<Row>, ReadError>
         ensures { Gives (seen_as (λ rows. rows.items) result) (items count row_at self.old) self.new }
     {
@@ -178,7 +177,7 @@ impl Reader<'_> {
         Ok(rows)
     }
 
-    /// A count of four bytes and so many rows, which share blocks of values.
+    /// Reads a count of four bytes and that many rows, which share blocks of values.
     pub(crate) fn rows(&mut self) -> Result<SharedSlice<Row>, ReadError>
         ensures { Gives result (many_of row_at self.old) self.new }
     {

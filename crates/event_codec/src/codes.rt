@@ -9,10 +9,10 @@ use ts_schema::Cmp;
 
 /// A value whose code is one byte.
 pub trait Coded: Copy {
-    /// The value whose code a byte is, if there is one.
+    /// The value with this code, if there is one.
     ghost meaning: { ℕ → Option Self };
 
-    /// The value whose code is this byte, if there is one.
+    /// The value with this code, if there is one.
     fn of_code(byte: u8) -> Option<Self>
         ensures { result ≡ meaning byte };
 }

@@ -9,7 +9,7 @@ use ts_schema::NoMemory;
 pub enum ReadError {
     /// Memory ran out.
     Memory,
-    /// The bytes in front aren't what is to be read. The reader is after the longest prefix that begins it.
+    /// The bytes in front aren't what the call reads. The reader is after the longest prefix that begins it.
     Bad,
 }
 

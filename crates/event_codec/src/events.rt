@@ -71,7 +71,7 @@ impl Field for Event {
 }
 
 impl Reader<'_> {
-    /// An event of this kind, after its kind.
+    /// Reads the rest of an event of this kind.
     fn body(&mut self, kind: Kind) -> Result<Event, ReadError>
         ensures { Gives result (event_body kind self.old) self.new }
     {
@@ -102,7 +102,7 @@ impl Reader<'_> {
         }
     }
 
-    /// An event, and nothing after it.
+    /// Reads an event, and nothing after it.
     #[tactic(auto, unfolding(crate::specs::Reading::whole_event))]
     pub fn whole_event(&mut self) -> Result<Event, ReadError>
         ensures { Gives result (whole_event self.old) self.new }
@@ -120,8 +120,8 @@ impl Reader<'_> {
 pub enum Decoded {
     /// The bytes are those of this event.
     Event(Event),
-    /// The bytes are those of no event. The number is the length of their longest prefix that is a prefix of some
-    /// event's bytes.
+    /// The bytes aren't those of an event. The number is the length of their longest prefix that is a prefix of
+    /// some event's bytes.
     BadEvent(u64),
     /// Memory ran out.
     NoMemory,
@@ -144,7 +144,7 @@ pub fn put_event_bytes(event: &Event, out: &mut Vec<u8>) -> Result<(), NoMemory>
     }
 }
 
-/// Returns the bytes of an event in a new list. The program appends them to a frame, by `put_event_bytes`.
+/// Returns the bytes of an event in a new list. The program appends them to a frame with `put_event_bytes`.
 pub fn encode(alloc: Global, event: &Event) -> Result<Seq<u8>, NoMemory>
     requires formed { IsFormed event.now }
     ensures bytes { IfOk result (λ bytes. bytes ≡ spelling.event event.now) }
@@ -154,7 +154,7 @@ pub fn encode(alloc: Global, event: &Event) -> Result<Seq<u8>, NoMemory>
     Ok(Seq::of(bytes))
 }
 
-/// Decodes an event from exactly these bytes. If they are those of no event, the answer has the length of
+/// Decodes an event from exactly these bytes. If they aren't those of an event, the result has the length of
 /// their longest prefix that is a prefix of some event's bytes.
 #[tactic(auto, using(crate::proofs::Decodings::is_formed, crate::proofs::Decodings::is_spelled, crate::proofs::Decodings::is_no_event, crate::proofs::Decodings::is_within, crate::proofs::Decodings::is_begun, crate::proofs::Decodings::is_longest))]
 pub fn decode(alloc: Global, bytes: &[u8]) -> Decoded

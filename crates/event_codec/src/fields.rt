@@ -22,13 +22,13 @@ pub trait Field {
     /// The reading of its bytes from the front.
     ghost reading: { Reads Self };
 
-    /// Appends its bytes. If memory runs out, the buffer may have grown, and what was in it stays.
+    /// Appends its bytes. If memory runs out, the buffer may have grown, and its old contents stay.
     fn put(&self, out: &mut Vec<u8>) -> Result<(), NoMemory>
         requires fits { fits self.now }
         ensures put { OnOk result (out.new.items ≡ out.old.items ++ spelling self.now) }
         ensures grows { Grows out.old.items out.new.items };
 
-    /// Reads it.
+    /// Reads a value.
     fn read(reader: &mut Reader<'_>) -> Result<Self, ReadError>
         ensures read { Gives result (reading reader.old) reader.new };
 }
@@ -98,7 +98,7 @@ impl Reader<'_> {
         Ok(items)
     }
 
-    /// Reads a count of one byte and as many items.
+    /// Reads a count of one byte and that many items.
     pub fn few<T: Field + Drop>(&mut self) -> Result<Seq<T>, ReadError>
         ensures { Gives result (few_of T.reading self.old) self.new }
     {
@@ -106,7 +106,7 @@ impl Reader<'_> {
         self.items(count as u32)
     }
 
-    /// Reads a count of four bytes and as many items.
+    /// Reads a count of four bytes and that many items.
     pub fn many<T: Field + Drop>(&mut self) -> Result<Seq<T>, ReadError>
         ensures { Gives result (many_of T.reading self.old) self.new }
     {

@@ -1,4 +1,4 @@
-//! Laws of the bytes of events. Each is the clause of a function that does nothing.
+//! Laws of the bytes of events. Each law is the clause of a function that does nothing.
 ghost use Rattle.event_codec.specs.Laws.{BytesAreCounted, NoneBeginsAnother, SoundAreFormed};
 
 /// An event has as many bytes as it takes in a journal.
@@ -11,7 +11,7 @@ pub fn no_event_begins_another()
     ensures { NoneBeginsAnother }
 {}
 
-/// Each sound event of a consistent history whose position is a number of 64 bits can be encoded.
+/// Each sound event of a consistent history whose position has 64 bits can be encoded.
 pub fn sound_events_are_formed()
     ensures { SoundAreFormed }
 {}

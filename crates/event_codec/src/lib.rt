@@ -1,4 +1,4 @@
-//! The bytes of events: each event is encoded in one way, and no event's bytes begin another's.
+//! The bytes of events: each event has one encoding, and no encoding is a prefix of another.
 #![tactic(auto)]
 
 mod blocks;

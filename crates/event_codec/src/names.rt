@@ -46,8 +46,7 @@ fn may_go_on(byte: u8) -> bool
     matches!(byte, b'a'..=b'z' | b'_' | b'0'..=b'9')
 }
 
-/// What is left after `count` bytes with which a name may continue; or, if there are fewer in front, after
-/// those.
+/// The bytes after `count` bytes with which a name may continue, or after fewer if only those are in front.
 #[tactic(auto, using(crate::proofs::NameLaws::no_tail, crate::proofs::NameLaws::tails_end, crate::proofs::NameLaws::not_tail, crate::proofs::NameLaws::tail_then, crate::proofs::NameLaws::tail_fails))]
 fn after_tails(bytes: &[u8], count: usize) -> Result<&[u8], &[u8]>
     ensures { Matches (λ rest. (take count bytes.now, rest.now)) (λ left. left.now) result
@@ -65,8 +64,7 @@ fn after_tails(bytes: &[u8], count: usize) -> Result<&[u8], &[u8]>
     after_tails(rest, count - 1)
 }
 
-/// What is left after a name of `len` bytes; or, if none is in front, after the longest prefix that begins
-/// one.
+/// The bytes after a name of `len` bytes, or, if none is in front, after the longest prefix that begins one.
 #[tactic(auto, using(crate::proofs::NameLaws::nothing_there, crate::proofs::NameLaws::no_head, crate::proofs::NameLaws::head_then, crate::proofs::NameLaws::head_fails))]
 fn after_name(bytes: &[u8], len: u8) -> Result<&[u8], &[u8]>
     requires { IsTrue (is_name_length len) }

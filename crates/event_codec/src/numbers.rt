@@ -47,7 +47,7 @@ pub(crate) fn signed_in_front(bytes: &[u8]) -> Option<(i64, &[u8])>
     }
 }
 
-/// The least number that gives at least `least` with this lowest byte.
+/// The least number that with this lowest byte is at least `least`.
 #[tactic(auto, using(crate::proofs::Shifts::least_shifted, crate::proofs::Shifts::least_near))]
 fn least_left(least: i128, low: u8) -> i128
     requires near { IsNear least }
@@ -57,7 +57,7 @@ fn least_left(least: i128, low: u8) -> i128
     (least + (255 - low as i128)) >> 8
 }
 
-/// The greatest number that gives at most `most` with this lowest byte.
+/// The greatest number that with this lowest byte is at most `most`.
 #[tactic(auto, using(crate::proofs::Shifts::most_shifted, crate::proofs::Shifts::most_near))]
 fn most_left(most: i128, low: u8) -> i128
     requires near { IsNear most }
@@ -67,8 +67,8 @@ fn most_left(most: i128, low: u8) -> i128
     (most - low as i128) >> 8
 }
 
-/// What is left after the longest prefix that begins the bytes of some number from `least` to `most`, if the
-/// bytes in front aren't `count` bytes of such a number.
+/// The bytes after the longest prefix that begins some number from `least` to `most`, if the bytes in front
+/// aren't `count` bytes of such a number.
 fn after_begun(bytes: &[u8], count: usize, least: i128, most: i128) -> &[u8]
     requires least { IsNear least }
     requires most { IsNear most }
@@ -88,21 +88,21 @@ fn after_begun(bytes: &[u8], count: usize, least: i128, most: i128) -> &[u8]
     after_begun(rest, count - 1, least, most)
 }
 
-/// What is left if the bytes in front aren't a number of four bytes, at most `most`.
+/// The bytes left if those in front aren't a number of four bytes, at most `most`.
 fn after_four(bytes: &[u8], most: u32) -> &[u8]
     ensures { StopsAt (four_upto most bytes.now) result.now }
 {
     after_begun(bytes, 4, 0, most as i128)
 }
 
-/// What is left if the bytes in front aren't a number of eight bytes.
+/// The bytes left if those in front aren't a number of eight bytes.
 fn after_eight(bytes: &[u8]) -> &[u8]
     ensures { StopsAt (any_eight bytes.now) result.now }
 {
     after_begun(bytes, 8, 0, u64::MAX as i128)
 }
 
-/// What is left if the bytes in front aren't a signed number from `least` to `most`.
+/// The bytes left if those in front aren't a signed number from `least` to `most`.
 fn after_between(bytes: &[u8], least: i64, most: i64) -> &[u8]
     ensures { StopsAt (between least most bytes.now) result.now }
 {

@@ -9,7 +9,7 @@ use crate::numbers::{read_between, read_eight, read_four};
 use std::alloc::Global;
 use std::marker::Model;
 
-/// A reader, which is before the bytes that it hasn't read. Contracts see these bytes.
+/// A reader of bytes. Contracts see the bytes that it hasn't read.
 #[derive(Drop)]
 pub struct Reader<'a> {
     alloc: Global,

@@ -1,4 +1,5 @@
--- What commuting steps gather from a list, whatever the order of the list: the groups of rows, and groups put in order.
+-- Results of commuting steps over a list, which don't depend on its order: the groups of rows, and groups put
+-- in order.
 use Rattle.std.proofs.Common.{◌≡◌, ℕ, zero, suc, ◌<◌, List, [], ◌∷◌, length, get_or, set, sym, refl, ap, ◌∙◌, arith}
 use Rattle.std.specs.List.{swap, remove}
 use Rattle.std.specs.List.Sorted.{IsPermutation}
@@ -18,7 +19,7 @@ module _ {X S : Type 0} (step : X → S → S) (none : S) (commutes : (x y : X) 
   gathered [] = none
   gathered (x ∷ xs) = step x (gathered xs)
 
-  -- the item at a place may be taken in last
+  -- the item at a place may be added last
   pulled : (xs : List X) (i : ℕ) (d : X) → i < length xs → gathered xs ≡ step (get_or xs i d) (gathered (remove xs i))
   pulled [] i d h = absurd (omega arith)
   pulled (x ∷ xs) zero d h = refl
@@ -29,7 +30,7 @@ module _ {X S : Type 0} (step : X → S → S) (none : S) (commutes : (x y : X) 
   pulled_set (x ∷ xs) zero v h = refl
   pulled_set (x ∷ xs) (suc i) v h = ap (step x) (pulled_set xs i v (omega arith)) ∙ commutes x v (gathered (remove xs i))
 
-  -- an item in front and one behind it in each other's place
+  -- two items swapped
   front_swapped : (x : X) (xs : List X) (i : ℕ) (d : X) → i < length xs → gathered (get_or xs i d ∷ set xs i x) ≡ gathered (x ∷ xs)
   front_swapped x xs i d h =
       ap (step (get_or xs i d)) (pulled_set xs i x h) ∙ commutes (get_or xs i d) x (gathered (remove xs i)) ∙ ap (step x) (sym (pulled xs i d h))

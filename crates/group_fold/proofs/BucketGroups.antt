@@ -126,7 +126,7 @@ groups_of_some_buckets fold test (row ∷ rows) wide =
 
 -- ---- the rows of spans
 
--- rows that fail a test of the fold play no part
+-- rows that fail a test of the fold have no effect
 only_passing : (fold : Fold) (wide : IsWidth fold.width) (test : ℤ → Bool) (rows : List Row)
     → groups_of fold (filter (λ row. test (bucket_of fold.width row.at) && passes_all row fold.tests) rows) ≡ groups_of fold (filter (λ row. test (bucket_of fold.width row.at)) rows)
 only_passing fold wide test [] = refl
@@ -227,7 +227,7 @@ ends_of_rows fold wide (row ∷ rows) =
 pub last_group_ends : LastGroupEnds
 last_group_ends fold rows wide = last_is_greatest fold.width (groups_of fold rows) (sorted-groups_of fold wide rows) ∙ ends_of_rows fold wide rows
 
--- ---- the buckets asked for
+-- ---- the buckets requested
 
 module _ (fold : Fold) (rows : List Row) (test : ℤ → Bool) where
   flat_filter : (bs : List ℤ) → filter (λ g. test g.start) (flat_map (groups_in fold rows) bs) ≡ flat_map (groups_in fold rows) (filter test bs)

@@ -21,7 +21,7 @@ take_drop zero xs = refl
 take_drop (suc k) [] = refl
 take_drop (suc k) (x ∷ xs) = ap (λ ys. x ∷ ys) (take_drop k xs)
 
--- one piece more
+-- one more piece
 pub all_rows-more : (pieces : List (List Row)) (i : ℕ) (piece : List Row) → i < length pieces → piece ≡ get_or pieces i piece → all_rows (take (i + 1) pieces) ≡ all_rows (take i pieces) ++ piece
 all_rows-more pieces i piece h is =
     ap all_rows (take_more pieces i piece h) ∙ (all_rows-append (take i pieces) (get_or pieces i piece ∷ []) ∙ ap (λ rows. all_rows (take i pieces) ++ rows) (append-nil (get_or pieces i piece) ∙ sym is))

@@ -1,4 +1,4 @@
--- Groups in no order: what one more row makes of them, and that they can be put in order.
+-- Groups in any order: these groups after one more row, and that they can be put in order.
 use Rattle.std.proofs.Common.{◌≡◌, ℕ, zero, suc, ◌+◌, ◌-◌, ◌^◌, ◌<◌, ◌≤◌, true, false, List, [], ◌∷◌, ◌++◌, length, get_or, set, take, drop, Option, ℤ, sym, refl, ap, ◌∙◌, subst, arith}
 use Rattle.std.specs.List.{AllByRecursion, insert}
 use Rattle.std.specs.List.Sorted.{IsPermutation, IsStrictlySortedBy}
@@ -28,7 +28,7 @@ use Rattle.group_fold.proofs.Occurring.{all_above}
 use Rattle.group_fold.proofs.AnyOrder.{gathered, gathered-permuted}
 use Rattle.ts_schema.proofs.Cases.{all_weaker}
 
--- ---- one more group, or one that took in another
+-- ---- one more group, or one merged with another
 
 ordered-insert : (gs : List Group) (at : ℕ) (g : Group) → at ≤ length gs → in_group_order (insert gs at g) ≡ with_group g (in_group_order gs)
 ordered-insert gs zero g h = refl
@@ -44,7 +44,7 @@ ordered-append : (gs hs : List Group) → in_group_order (gs ++ hs) ≡ with_gro
 ordered-append [] hs = refl
 ordered-append (g ∷ gs) hs = ap (with_group g) (ordered-append gs hs) ∙ sym (with_groups-with_group g (in_group_order gs) (in_group_order hs))
 
--- a group that has taken in another of its place is that other merged with it
+-- adding a group to another of the same place is merging them
 added_is_merged : (g old new : Group) → group_cmp old g ≡ Equal → new.start ≡ old.start → new.keys ≡ old.keys → new.parts ≡ joined_parts old.parts g.parts → new ≡ merge_of g old
 added_is_merged g old new e start keys parts =
     let place = group_cmp-place old g e in
@@ -152,9 +152,9 @@ parts-drop n zero gs p = p
 parts-drop n (suc k) [] p = p
 parts-drop n (suc k) (g ∷ gs) p = parts-drop n k gs p.1
 
--- ---- one row taken in
+-- ---- one row added
 
--- the group of a row, put in anywhere
+-- the group of a row, inserted anywhere
 pub takes_alone : (fold : Fold) (row : Row) (old new : List Group) (at : ℕ) (g : Group) → at ≤ length old → new ≡ insert old at g → g ≡ row_group fold row → HasRoom 1 fold old → Takes fold row old new
 takes_alone fold row old new at g within is alone room =
     let whole : new ≡ insert old at (row_group fold row) = is ∙ ap (insert old at) alone in
@@ -181,13 +181,13 @@ takes_merged fold row old new at was now place was_is is start keys parts room =
       few = omega (arith, ap total_rows is, counted-set old at now was 1 place.within count);
     }
 
--- the same, if the group with the row is at the place of the one that was there
+-- the same, if the group with the row replaces the one at its place
 pub takes_grown : (fold : Fold) (row : Row) (old new : List Group) (at : ℕ) → IsAt (row_group fold row) old at → new ≡ set old at (group_with_row fold row (get_or old at (row_group fold row))) → HasRoom 1 fold old → Takes fold row old new
 takes_grown fold row old new at place is room =
     let was = get_or old at (row_group fold row) in
     takes_merged fold row old new at was (group_with_row fold row was) place (get_or_default old at (row_group fold row) was place.within) is refl refl refl room
 
--- where there is room for a row, each group can take it
+-- if a row fits, it fits each group
 room_at : (fold : Fold) (groups : List Group) (at : ℕ) (g : Group) → at < length groups → g ≡ get_or groups at g → HasRoom 1 fold groups → IsBelow (2 ^ 62 - 1) fold g
 room_at fold groups at g within is room =
     let few : most_counted g.parts < 2 ^ 62 - 1 = omega (arith, ap (λ (x : Group). most_counted x.parts) is, counted_at groups at g within, room.few) in
@@ -197,7 +197,7 @@ pub room_each : (fold : Fold) (groups : List Group) (at : ℕ) → at < length g
 room_each fold groups at within room d =
     room_at fold groups at (get_or groups at d) within (get_or_default groups at d (get_or groups at d) within) room
 
--- ---- rows taken in
+-- ---- rows added
 
 pub none_gathered : (fold : Fold) → IsGathered fold [] []
 none_gathered fold = record { groups_are = refl; alike = tt; few = omega arith }

@@ -1,4 +1,5 @@
--- Groups whose partial aggregates stand in blocks: what stays where a block grows, and where a row is added to one group.
+-- Groups whose partial aggregates are in blocks: what stays if a block grows, and if a row is added to one
+-- group.
 use Rattle.std.proofs.Common.{◌≡◌, ℕ, zero, suc, ◌+◌, ◌-◌, ◌^◌, ◌<◌, ◌≤◌, List, [], ◌∷◌, ◌++◌, length, get_or, set, take, drop, ℤ, Option, Result, Ok, Err, ⊎_elim, sym, refl, ap, ◌∙◌, subst, arith}
 use Rattle.std.specs.List.{AllByRecursion, insert}
 use Rattle.std.specs.Prelude.{OnErr, OnOk}
@@ -30,7 +31,7 @@ from_next : (f n : ℕ) → suc f + n ≡ suc (f + n)
 from_next f n = omega arith
 
 module _ {X : Type 0} where
-  -- the list with as many items from a place on replaced
+  -- the list with as many items replaced, from a place on
   abbrev pub replaced : ℕ → ℕ → List X → List X → List X
   replaced f n js xs = take f xs ++ (js ++ drop (f + n) xs)
 
@@ -40,7 +41,7 @@ module _ {X : Type 0} where
   front_stays (suc n) (suc f) [] ys h i = absurd (omega arith)
   front_stays (suc n) (suc f) (x ∷ xs) ys h i = ap (λ zs. x ∷ zs) (front_stays n f xs ys (omega arith) (omega arith))
 
-  -- what stands before the replaced part
+  -- the items before the replaced part
   before_replaced : (f n g m : ℕ) (js xs : List X) → g + m ≤ f → f + n ≤ length xs → take m (drop g (replaced f n js xs)) ≡ take m (drop g xs)
   before_replaced f n zero m js xs h i = front_stays m f xs (js ++ drop (f + n) xs) (omega arith) (omega arith)
   before_replaced zero n (suc g) m js xs h i = absurd (omega arith)
@@ -48,7 +49,7 @@ module _ {X : Type 0} where
   before_replaced (suc f) n (suc g) m js (x ∷ xs) h i =
       ap (λ k. take m (drop g (take f xs ++ (js ++ drop k (x ∷ xs))))) (from_next f n) ∙ before_replaced f n g m js xs (omega arith) (omega arith)
 
-  -- what stands behind it
+  -- the items after it
   behind_items : (k n : ℕ) (js xs : List X) → length js ≡ n → n ≤ k → n ≤ length xs → drop k (js ++ drop n xs) ≡ drop k xs
   behind_items k zero [] xs e h i = refl
   behind_items k zero (j ∷ js) xs e h i = absurd (omega (arith, e))
@@ -64,7 +65,7 @@ module _ {X : Type 0} where
   behind_replaced (suc f) n (suc g) js (x ∷ xs) e h i =
       ap (λ k. drop g (take f xs ++ (js ++ drop k (x ∷ xs)))) (from_next f n) ∙ behind_replaced f n g js xs e (omega arith) (omega arith)
 
-  -- what stands apart from it
+  -- the items outside it
   apart_replaced : (f n g : ℕ) (js xs : List X) → length js ≡ n → f + n ≤ length xs → (f < g + n → g < f + n → ⊥) → take n (drop g (replaced f n js xs)) ≡ take n (drop g xs)
   apart_replaced f n g js xs e i apart =
       ⊎_elim
@@ -107,7 +108,7 @@ longer_part : (n f : ℕ) (xs ys : List Summary) → f + n ≤ length xs → tak
 longer_part n f xs ys h =
     ap (take n) (drop-append-le f xs ys (omega arith)) ∙ take-append-le n (drop f xs) ys (omega (arith, length-drop f xs, h))
 
--- a block with more behind it
+-- a block with more after it
 pub keeps_longer : (old new : List (List Summary)) (b : ℕ) (block more : List Summary) → b < length old → block ≡ get_or old b block → new ≡ set old b (block ++ more) → Keeps old new
 keeps_longer old new b block more h was is n p has =
     subst (λ bs. HasPartsAt n bs p × (parts_at n bs p ≡ parts_at n old p)) (sym is)
@@ -133,7 +134,7 @@ keeps_longer old new b block more h was is n p has =
     ))
     (cases_order p.block b))
 
--- what is put behind a block stands there, apart from all that stood before
+-- what is appended after a block is there, apart from all that was before
 pub put_behind : (old new : List (List Summary)) (b : ℕ) (block parts : List Summary) (p : PartsPlace) → b < length old → block ≡ get_or old b block → new ≡ set old b (block ++ parts) → p.block ≡ b → p.from ≡ length block → IsPutAt parts old new p
 put_behind old new b block parts p h was is at from =
     let own : get_or new p.block [] ≡ block ++ parts = ap (λ bs. get_or bs p.block []) is ∙ (ap (λ k. get_or (set old b (block ++ parts)) k []) at ∙ get_or-set_same old b (block ++ parts) [] h) in
@@ -150,7 +151,7 @@ put_behind old new b block parts p h was is at from =
           omega (arith, has.within, ap length mine, from, low, high);
     }
 
--- blocks to which nothing was put are kept, and those that grew before that too
+-- blocks to which nothing was appended are kept, and so are those that grew before
 pub put_later : (parts : List Summary) (old mid new : List (List Summary)) (p : PartsPlace) → Keeps old mid → IsPutAt parts mid new p → IsPutAt parts old new p
 put_later parts old mid new p keeps put = record {
   there = put.there;
@@ -217,7 +218,7 @@ shown_put n old new heads at h parts g many keeps put stand start keys is =
     ap (λ s. with s h.keys (parts_at n new h.place)) start ∙ (ap (λ ks. with g.start ks (parts_at n new h.place)) keys ∙ ap (λ ps. with g.start g.keys ps) are) in
     shown-insert n new heads at h ∙ (ap (λ gs. insert gs at (shown_group n new h)) (shown_kept n old new heads keeps stand.within) ∙ ap (insert (shown_groups n old heads) at) made)
 
--- whether a head was put in, or memory ran out
+-- whether a head was inserted, or memory ran out
 pub stand_tried : {X E : Type 0} (result : Result X E) (n : ℕ) (blocks : List (List Summary)) (old new : List Head) (at : ℕ) (h : Head) → OnOk result (new ≡ insert old at h) → OnErr result (new ≡ old) → StandIn n blocks (insert old at h) → StandIn n blocks old → StandIn n blocks new
 stand_tried (Ok x) n blocks old new at h put kept with without = subst (StandIn n blocks) (sym put) with
 stand_tried (Err x) n blocks old new at h put kept with without = subst (StandIn n blocks) (sym kept) without
@@ -229,7 +230,7 @@ length-parts_at n blocks p has =
     let xs = get_or blocks p.block [] in
     omega (arith, has.within, length-take n (drop p.from xs), length-drop p.from xs)
 
--- groups that have so many parts each have as many as is noted
+-- groups with this many parts each have the recorded number
 same_number : (n m : ℕ) (blocks : List (List Summary)) (h : Head) (hs : List Head) → StandIn n blocks (h ∷ hs) → HaveParts m (shown_groups n blocks (h ∷ hs)) → m ≡ n
 same_number n m blocks h hs stand alike = sym alike.0 ∙ length-parts_at n blocks h.place stand.within.0
 

@@ -1,4 +1,5 @@
--- A group put in its place: where it ends up, and that the order in which groups are put in has no effect.
+-- A group inserted in its place: where it ends up, and that the order in which groups are inserted has no
+-- effect.
 use Rattle.std.proofs.Common.{◌≡◌, List, [], ◌∷◌, ◌++◌, sym, refl, ap, ◌∙◌}
 use Rattle.std.specs.List.{AllByRecursion}
 use Rattle.std.specs.Ordering.{ordering_reverse}
@@ -34,7 +35,7 @@ less_trans g h k p q = group_cmp_total.trans g h k p q
 pub greater_trans : (g h k : Group) → group_cmp g h ≡ Greater → group_cmp h k ≡ Greater → group_cmp g k ≡ Greater
 greater_trans g h k p q = less_back k g (less_trans k h g (greater_back h k q) (greater_back g h p))
 
--- a tied group compares alike
+-- equal groups compare alike
 pub alike : (g h k : Group) → group_cmp g h ≡ Equal → group_cmp g k ≡ group_cmp h k
 alike g h k e = group_cmp_total.congr g h k e
 
@@ -95,9 +96,9 @@ merged_comm g h e =
     let place = group_cmp-place g h e in
     rw (place.0, place.1, joined_parts_comm g.parts h.parts) refl
 
--- ---- the order in which groups are put in
+-- ---- the order in which groups are inserted
 
--- two groups of one place: put in one by one, or merged first
+-- two groups of one place: inserted one by one, or merged first
 pub with_group-twice : (g h : Group) (xs : List Group) → group_cmp g h ≡ Equal → with_group (merge_of g h) xs ≡ with_group g (with_group h xs)
 with_group-twice g h [] e = sym (at_equal g h [] e)
 with_group-twice g h (x ∷ xs) e =
@@ -113,7 +114,7 @@ with_group-twice g h (x ∷ xs) e =
     let q : group_cmp g x ≡ Greater = alike g h x e ∙ o in
     at_greater (merge_of g h) x xs p ∙ ap (λ zs. x ∷ zs) (with_group-twice g h xs e) ∙ sym (at_greater g x (with_group h xs) q) ∙ ap (with_group g) (sym (at_greater h x xs o)))
 
--- of two groups of different places, the lesser first or the greater first
+-- two groups of different places, inserted in either order
 less_first : (g h : Group) (xs : List Group) → group_cmp g h ≡ Less → with_group g (with_group h xs) ≡ with_group h (with_group g xs)
 less_first g h [] e = at_less g h [] e ∙ sym (at_greater h g [] (less_back g h e))
 less_first g h (x ∷ xs) e =
@@ -145,7 +146,7 @@ with_group-commutes g h xs =
     sym (with_group-twice g h xs e) ∙ ap (λ m. with_group m xs) (merged_comm g h e) ∙ with_group-twice h g xs (equal_back g h e))
     (λ e. sym (less_first h g xs (greater_back g h e)))
 
--- a group put into a list, and the list's groups into another
+-- a group inserted into a list, and the list's groups into another
 pub with_groups-with_group : (g : Group) (gs hs : List Group) → with_groups (with_group g gs) hs ≡ with_group g (with_groups gs hs)
 with_groups-with_group g [] hs = refl
 with_groups-with_group g (x ∷ xs) hs =

@@ -1,4 +1,4 @@
--- The next group of two lists in order that are put together.
+-- The next group when two lists in order are combined.
 use Rattle.std.proofs.Common.{◌≡◌, ◌+◌, ◌<◌, ◌^◌, suc, List, [], ◌∷◌, ◌++◌, drop, Option, None, Some, length, sym, refl, ap, ◌∙◌, subst, arith}
 use Rattle.std.specs.Option.{MatchOption, option_to_list}
 use Rattle.std.specs.List.{AllByRecursion}
@@ -20,7 +20,7 @@ use Rattle.group_fold.proofs.RowGroups.{all-with_groups, sorted-groups_of, group
 use Rattle.group_fold.proofs.Counts.{counts_below, fit_together}
 use Rattle.ts_schema.proofs.Cases.{all_weaker}
 
--- ---- what is left can be put together too
+-- ---- the rest can be combined too
 
 pub without_mine : (g : Group) (gs hs : List Group) → CanJoin (g ∷ gs) hs → CanJoin gs hs
 unfolding IsStrictlySortedBy

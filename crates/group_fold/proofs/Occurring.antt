@@ -51,7 +51,7 @@ not_eq-less o e = rw e refl
 pub not_eq-greater : (o : Ordering) → o ≡ Greater → is_eq o ≡ false
 not_eq-greater o e = rw e refl
 
--- ---- a key put in its place
+-- ---- a key inserted in its place
 
 module _ {K : Type 0} (cmp : K → K → Ordering) (total : IsTotalOrder cmp) where
   pub is_eq-swap : (x y : K) → is_eq (cmp x y) ≡ is_eq (cmp y x)

@@ -1,4 +1,4 @@
--- Lists of partial aggregates joined place by place, one place after the other.
+-- Lists of partial aggregates joined place by place.
 use Rattle.std.proofs.Common.{◌≡◌, ℕ, zero, suc, ◌+◌, ◌<◌, ◌^◌, List, [], ◌∷◌, ◌++◌, length, get_or, set, take, drop, sym, refl, ap, ◌∙◌, subst, arith, add-one}
 use Rattle.std.specs.List.{AllByRecursion}
 use Rattle.std.proofs.lemmas.List.{take_all, take_more}
@@ -43,7 +43,7 @@ module _ {X : Type 0} where
   cut_whole (j ∷ js) [] e = absurd (omega (arith, e))
   cut_whole (j ∷ js) (p ∷ ps) e = let h : length js ≡ length ps = omega (arith, e) in ap (λ xs. j ∷ xs) (cut_whole js ps h)
 
--- what is at place k, before its turn
+-- the part at place k, before it is joined
 pub part_before : (k : ℕ) (ps qs now : List Summary) (d : Summary) → length ps ≡ length qs → now ≡ take k (joined_parts ps qs) ++ drop k ps → k < length ps → get_or now k d ≡ get_or ps k d
 part_before k ps qs now d e is h =
     let many = length-joined_parts ps qs e in
@@ -62,7 +62,7 @@ part_within k ps qs now same is h =
     let many = length-cut k (joined_parts ps qs) ps (length-joined_parts ps qs same) in
     rw is (rw many h)
 
--- a fact of all parts holds of the one whose turn it is
+-- a fact of all parts is true of the next one
 pub part_holds : (P : Summary → Type 0) (k : ℕ) (ps qs now : List Summary) (old : Summary) → length ps ≡ length qs → now ≡ take k (joined_parts ps qs) ++ drop k ps → k < length ps → old ≡ get_or now k old → AllByRecursion P ps → P old
 part_holds P k ps qs now old same is h was all =
     subst P (sym (was ∙ part_before k ps qs now old same is h)) (All-from_recursion P ps all k old h)
@@ -76,7 +76,7 @@ parts_whole k ps qs now same is e =
 pub parts_fit-length : (ps qs : List Summary) → PartsFit ps qs → length ps ≡ length qs
 parts_fit-length ps qs h = length_all_zip (λ p q. p.count + q.count < 2 ^ 62) ps qs h
 
--- the two parts whose turn it is fit
+-- the next two parts fit
 pub part_room : (k : ℕ) (ps qs : List Summary) (mine theirs : Summary) → PartsFit ps qs → k < length ps → mine ≡ get_or ps k mine → theirs ≡ get_or qs k theirs → mine.count + theirs.count < 2 ^ 62
 part_room k ps qs mine theirs fit h is are =
     subst (λ p. p.count + theirs.count < 2 ^ 62) (sym is) (subst (λ q. (get_or ps k mine).count + q.count < 2 ^ 62) (sym are) (AllZip-get_or (λ p q. p.count + q.count < 2 ^ 62) ps qs k mine theirs fit h))

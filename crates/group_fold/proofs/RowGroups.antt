@@ -1,4 +1,4 @@
--- Laws of the groups of rows: one row more, two lists one after the other, and their order.
+-- Laws of the groups of rows: one more row, two lists concatenated, and their order.
 use Rattle.std.proofs.lemmas.List.{take_more}
 use Rattle.std.proofs.Common.{ℕ, ◌+◌, ◌<◌, length, get_or, take, ◌≡◌, Bool, true, false, cond, ◌&&◌, List, [], ◌∷◌, ◌++◌, map, ℤ, sym, refl, ap, ◌∙◌}
 use Rattle.std.specs.List.{AllByRecursion, list_any, flat_map, filter}
@@ -67,7 +67,7 @@ module _ (fold : Fold) (wide : IsWidth fold.width) where
       out : (b : ℤ) (row : Row) (rows : List Row) → passes_all row fold.tests ≡ false → bucket_rows fold b (row ∷ rows) ≡ bucket_rows fold b rows
       out b row rows fail = rw (fail, and-false (holds fold.width b row.at)) refl
 
-  -- a row in front is taken in
+  -- a row in front is added
   pub groups_of-more : (row : Row) (rows : List Row) → groups_of fold (row ∷ rows) ≡ groups_with_row fold row (groups_of fold rows)
   groups_of-more row rows =
       by_test (passes_all row fold.tests)
@@ -83,13 +83,13 @@ module _ (fold : Fold) (wide : IsWidth fold.width) where
       both false true = refl
       both false false = refl
 
-  -- a row at the end is taken in too
+  -- a row at the end is added too
   pub groups_of-push : (rows : List Row) (row : Row) → groups_of fold (rows ++ row ∷ []) ≡ groups_with_row fold row (groups_of fold rows)
   groups_of-push [] row = groups_of-more row []
   groups_of-push (x ∷ rows) row =
       groups_of-more x (rows ++ row ∷ []) ∙ ap (groups_with_row fold x) (groups_of-push rows row) ∙ taken-commutes x row (groups_of fold rows) ∙ ap (groups_with_row fold row) (sym (groups_of-more x rows))
 
-  -- the groups of two lists of rows are those of each put together
+  -- the groups of two lists of rows are those of each combined
   pub groups_of-append : (xs ys : List Row) → groups_of fold (xs ++ ys) ≡ with_groups (groups_of fold xs) (groups_of fold ys)
   groups_of-append [] ys = refl
   groups_of-append (x ∷ xs) ys =

@@ -25,19 +25,19 @@ use Rattle.group_fold.specs.Spans.{HaveTimes, rows_in}
 pub same_all : (p : Row → Bool) (xs ys : List Row) → in_order xs ≡ in_order ys → list_all p xs ≡ list_all p ys
 same_all p xs ys e = sym (all-in_order p xs) ∙ (ap (list_all p) e ∙ all-in_order p ys)
 
--- rows behind others may be in any order
+-- rows after others may be in any order
 pub same_behind : (xs ys zs : List Row) → in_order ys ≡ in_order zs → in_order (xs ++ ys) ≡ in_order (xs ++ zs)
 same_behind xs ys zs e = in_order-append xs ys ∙ (ap (with_rows xs) e ∙ sym (in_order-append xs zs))
 
 -- ---- pieces
 
--- what a list has from a place on is a part of it, and what comes behind
+-- the rest of a list from a place on is a part of it and the items after the part
 part_and_rest : (whole : List Row) (from to : ℕ) → from ≤ to → take (to - from) (drop from whole) ++ drop to whole ≡ drop from whole
 part_and_rest whole from to low =
     let sum : from + (to - from) ≡ to = omega (arith, low) in
     ap (λ rest. take (to - from) (drop from whole) ++ rest) (sym (drop-drop (to - from) from whole ∙ ap (λ n. drop n whole) sum)) ∙ take_drop (to - from) (drop from whole)
 
--- a piece more, of the first of the rows that are left
+-- one more piece, of the first rows left
 pub piece_step : (before after : List (List Row)) (piece whole all : List Row) (from to : ℕ) → from ≤ to → piece ≡ take (to - from) (drop from whole) → after ≡ before ++ piece ∷ []
     → all_rows before ++ drop from whole ≡ all → all_rows after ++ drop to whole ≡ all
 piece_step before after piece whole all from to low part pushed so_far =
@@ -46,7 +46,7 @@ piece_step before after piece whole all from to low part pushed so_far =
     ∙ (append_assoc (all_rows before) piece (drop to whole)
     ∙ (ap (λ rs. all_rows before ++ rs) (ap (λ rs. rs ++ drop to whole) part ∙ part_and_rest whole from to low) ∙ so_far))
 
--- the last piece has all rows that are left
+-- the last piece has all rows left
 pub last_piece : (before after : List (List Row)) (piece whole all : List Row) (from to : ℕ) → from ≤ to → length whole ≤ to → piece ≡ take (to - from) (drop from whole) → after ≡ before ++ piece ∷ []
     → all_rows before ++ drop from whole ≡ all → all_rows after ≡ all
 last_piece before after piece whole all from to low high part pushed so_far =
@@ -76,7 +76,7 @@ all-filter p q (x ∷ xs) e =
       | false ↦ all-filter p q xs parts.1
     ]
 
--- what was found of spans has times where the rows have
+-- the rows found in spans have times if all rows do
 pub found_times : (spans : List Span) (pieces : List (List Row)) (rows : List Row) → in_order (all_rows pieces) ≡ in_order (rows_in spans rows) → HaveTimes rows → HaveTimes (all_rows pieces)
 found_times spans pieces rows found times =
     same_all (λ row. is_time row.at) (all_rows pieces) (rows_in spans rows) found ∙ all-filter (λ row. is_time row.at) (λ row. lies_in spans row.at) rows times
@@ -88,7 +88,7 @@ found_groups fold wide spans pieces rows found = order_plays_no_part fold (all_r
 in_order-middle : (x : Row) (xs ys : List Row) → in_order (xs ++ x ∷ ys) ≡ with_row x (in_order (xs ++ ys))
 in_order-middle x xs ys = in_order-append xs (x ∷ ys) ∙ (with_rows-with_row xs x (in_order ys) ∙ ap (with_row x) (sym (in_order-append xs ys)))
 
--- rows of one span, and then those of later ones, of which none holds a number of the first
+-- rows of one span, and then those of later ones; no later span holds a number of the first
 both_spans : (s : Span) (ss : List Span) (xs : List Row) → ((t : ℤ) → in_span s t ≡ true → lies_in ss t ≡ false)
     → in_order (filter (λ row. in_span s row.at) xs ++ filter (λ row. lies_in ss row.at) xs) ≡ in_order (filter (λ row. in_span s row.at || lies_in ss row.at) xs)
 both_spans s ss [] apart = refl
@@ -122,7 +122,7 @@ span_step s left rows found before after apart same cut =
 pub count_step : (near rest whole old now next : ℕ) → now < 2 ^ 64 → next ≡ raised_by near now → raised_by (near + rest) now ≡ raised_by whole old → old ≤ now → (raised_by rest next ≡ raised_by whole old) × (old ≤ next)
 count_step near rest whole old now next small one all up = (omega (arith, small, one, all), omega (arith, small, one, up))
 
--- a scan that was cut off
+-- a scan that ended early
 pub count_cut : (near rest whole old now next : ℕ) → now < 2 ^ 64 → RaisedUpTo near now next → raised_by (near + rest) now ≡ raised_by whole old → old ≤ now → RaisedUpTo whole old next
 count_cut near rest whole old now next small up all low = (omega (arith, low, up.0), omega (arith, up.1, all))
 
@@ -133,7 +133,7 @@ count_kept near rest whole old now next small one all low = (omega (arith, small
 pub small_step : (near now next : ℕ) → next ≡ raised_by near now → next < 2 ^ 64
 small_step near now next one = omega (arith, one)
 
--- however a call ends, where both endings are known
+-- a call's result, if both of its cases are known
 pub ended : {T E A B : Type 0} (r : Result T E) → A → B → MatchResult r (λ _. A) (λ _. B)
 ended (Ok t) a b = a
 ended (Err e) a b = b
@@ -153,7 +153,7 @@ pub none_left : (left : List Span) → length left < 1 → left ≡ []
 none_left [] h = refl
 none_left (x ∷ xs) h = absurd (omega arith)
 
--- no row lies in no span
+-- without spans there are no rows
 pub nothing_in : (rows : List Row) → rows_in [] rows ≡ []
 nothing_in [] = refl
 nothing_in (row ∷ rows) = nothing_in rows

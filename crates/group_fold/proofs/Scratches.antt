@@ -1,4 +1,4 @@
--- What the groups of rows show is the aggregation from scratch.
+-- The groups of rows show the aggregation from scratch.
 use Rattle.std.proofs.Common.{◌≡◌, Bool, true, false, List, [], ◌∷◌, ◌++◌, map, ℤ, sym, refl, ap, ◌∙◌, subst}
 use Rattle.std.specs.List.{AllByRecursion, list_any, flat_map, filter}
 use Rattle.std.specs.List.Sorted.{IsStrictlySortedBy}

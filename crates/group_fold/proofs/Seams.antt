@@ -1,4 +1,4 @@
--- Two lists of groups in order: those of the first list that stand before all of the second one stay in front.
+-- Two lists of groups in order: those of the first list that are before all of the second one stay in front.
 use Rattle.std.proofs.Common.{◌≡◌, ℕ, zero, suc, ◌≤◌, ◌<◌, true, false, List, [], ◌∷◌, ◌++◌, length, get_or, take, drop, sym, refl, ap, ◌∙◌, subst, arith}
 use Rattle.std.specs.List.{AllByRecursion, AllWithin}
 use Rattle.std.specs.List.Sorted.{IsPartitionPoint, IsPartitionedBy, IsStrictlySortedBy}
@@ -16,7 +16,7 @@ use Rattle.group_fold.proofs.Merges.{without_mine}
 use Rattle.group_fold.proofs.Occurring.{all_above}
 use Rattle.group_fold.proofs.RowGroups.{all-with_groups}
 
--- ---- how many stand before a group
+-- ---- how many are before a group
 
 less_of_test : (o : Ordering) → is_lt o ≡ true → o ≡ Less
 less_of_test Less e = refl
@@ -28,7 +28,7 @@ all_at P [] i d all h = absurd (omega arith)
 all_at P (x ∷ xs) zero d all h = all.0
 all_at P (x ∷ xs) (suc i) d all h = all_at P xs i d all.1 (omega arith)
 
--- in a list in order those before a group stand in front of the others
+-- in a list in order those before a group are in front of the others
 pub lesser_parted : (h : Group) (gs : List Group) → AreInOrder gs → IsPartitionedBy (λ g. is_lt (group_cmp g h)) gs
 unfolding IsStrictlySortedBy
 lesser_parted h [] sorted i j d low high e = absurd (omega arith)
@@ -45,7 +45,7 @@ first_less h [] (suc k) high all = tt
 first_less h (g ∷ gs) (suc k) high all =
     (less_of_test (group_cmp g h) (all zero g (omega arith) (omega arith)), first_less h gs k (omega arith) (λ i d low less. all (suc i) d (omega arith) (omega arith)))
 
--- so many stand before the first of another list in order, and so before all of it
+-- this many are before the first of another list in order, and so before all of it
 pub before_all : (gs hs : List Group) (h : Group) (k : ℕ) → 1 ≤ length hs → h ≡ get_or hs 0 h → AreInOrder hs → k ≤ length gs
     → IsPartitionPoint (λ g. is_lt (group_cmp g h) ≡ true) (λ g. is_lt (group_cmp g h) ≡ false) gs k → AreBefore (take k gs) hs
 unfolding IsStrictlySortedBy

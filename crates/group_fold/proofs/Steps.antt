@@ -1,4 +1,4 @@
--- The groups of rows with one more row in front: its group is put in its place.
+-- The groups of rows with one more row in front: its group is inserted in its place.
 use Rattle.std.proofs.Common.{◌≡◌, true, false, List, [], ◌∷◌, ◌++◌, map, Option, ℤ, sym, refl, ap, ◌∙◌, subst}
 use Rattle.std.specs.List.{AllByRecursion, list_any, flat_map}
 use Rattle.std.specs.List.Sorted.{IsStrictlySortedBy}
@@ -39,15 +39,15 @@ parts_more row rows (agg ∷ aggs) =
     ap (λ s. s ∷ map (λ agg. summary (column (row ∷ rows) agg)) aggs) first ∙ ap (λ ss. summary_of_both (summary (field_of row agg.col ∷ [])) (summary (column rows agg)) ∷ ss) (parts_more row rows aggs)
 
 module _ (fold : Fold) (b : ℤ) (row : Row) (found : List Row) where
-  -- the group of other keys stays
+  -- a group with other keys stays
   group_at-other : (q : List (Option ℤ)) → is_eq (values_cmp (keys_of fold.keys row) q) ≡ false → group_at fold b (row ∷ found) q ≡ group_at fold b found q
   group_at-other q e = rw e refl
 
-  -- a group comes up
+  -- a new group
   group_at-new : with_keys fold (keys_of fold.keys row) found ≡ [] → group_at fold b (row ∷ found) (keys_of fold.keys row) ≡ row_at fold b row
   group_at-new none = rw (tied_itself values_cmp_total (keys_of fold.keys row), none) refl
 
-  -- a group takes the row in
+  -- the row is added to a group
   group_at-more : (q : List (Option ℤ)) → values_cmp (keys_of fold.keys row) q ≡ Equal → group_at fold b (row ∷ found) q ≡ merge_of (row_at fold b row) (group_at fold b found q)
   group_at-more q e =
       let same : keys_of fold.keys row ≡ q = values_cmp_exact (keys_of fold.keys row) q e in
@@ -107,7 +107,7 @@ bucket_groups-more fold b row found =
 
 -- ---- over all buckets
 
--- a test of the order tells what the test of numbers tells
+-- a test of the order says what the test of numbers says
 pub untied_number : (a b : ℤ) → is_eq (int_cmp a b) ≡ false → int_eq b a ≡ false
 untied_number a b e =
     false_from_ne_true (int_eq b a) (λ t.
@@ -127,7 +127,7 @@ module _ (fold : Fold) (wide : IsWidth fold.width) (row : Row) (rows : List Row)
       let own : bucket_rows fold (bucket_of fold.width row.at) (row ∷ rows) ≡ row ∷ bucket_rows fold (bucket_of fold.width row.at) rows = rw (holds-bucket_of fold.width row.at wide, pass) refl in
       ap (bucket_groups fold (bucket_of fold.width row.at)) own ∙ bucket_groups-more fold (bucket_of fold.width row.at) row (bucket_rows fold (bucket_of fold.width row.at) rows)
 
-  -- the groups of a later bucket come after, those of an earlier one before
+  -- the groups of a later bucket come after, and those of an earlier one before
   later_groups : (b : ℤ) → int_cmp (bucket_of fold.width row.at) b ≡ Less → AllByRecursion (λ g. group_cmp (row_group fold row) g ≡ Less) (groups_in fold rows b)
   later_groups b e =
       all-map (λ g. group_cmp (row_group fold row) g ≡ Less) (group_at fold b (bucket_rows fold b rows))

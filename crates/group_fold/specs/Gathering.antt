@@ -1,4 +1,4 @@
--- Groups in no order, as rows are taken in.
+-- Groups in any order, as rows are added.
 use Rattle.std.specs.Prelude.{◌≡◌, ◌+◌, ◌^◌, ◌<◌, ◌≤◌, ℕ, suc, max, length, slice_index_or, ℤ, ◌≤ℤ◌, IsTrue, List, [], ◌∷◌, ◌++◌}
 use Rattle.std.specs.List.{AllByRecursion}
 use Rattle.std.specs.declared.cmp.Ordering.TheVariants.{Equal}
@@ -12,7 +12,7 @@ use Rattle.group_fold.specs.Grouping.{row_group}
 use Rattle.ts_model.specs.Groups.{groups_of}
 use Rattle.group_fold.specs.Merging.{with_group, with_groups}
 
--- groups of no order put in order, where those of the same bucket and keys are merged
+-- groups in any order put in order; those of the same bucket and keys are merged
 abbrev pub in_group_order : List Group → List Group
 in_group_order groups = with_groups groups []
 
@@ -34,12 +34,12 @@ abbrev pub most_counted : List Summary → ℕ
 most_counted [] = 0
 most_counted (p ∷ ps) = max p.count (most_counted ps)
 
--- the counts of groups taken together
+-- the total count of groups
 abbrev pub total_rows : List Group → ℕ
 total_rows [] = 0
 total_rows (g ∷ gs) = most_counted g.parts + total_rows gs
 
--- every group has so many parts
+-- every group has this many parts
 abbrev pub HaveParts : ℕ → List Group → Type 0
 HaveParts n groups = AllByRecursion (λ g. length g.parts ≡ n) groups
 
@@ -48,12 +48,12 @@ abbrev pub parts_each : List Group → ℕ
 parts_each [] = 0
 parts_each (g ∷ gs) = length g.parts
 
--- groups of no order can be put in order: they have as many parts, and their counts can be added up
+-- groups in any order can be put in order: they have equally many parts, and their counts can be added up
 pub record CanOrder (groups : List Group) : Type 0 where
   pub alike : HaveParts (parts_each groups) groups
   pub few : total_rows groups < 2 ^ 62
 
--- groups of a plan, with room for so many rows more
+-- groups of a plan, to which this many more rows can be added
 pub record HasRoom (more : ℕ) (fold : Fold) (groups : List Group) : Type 0 where
   pub alike : HaveParts (length fold.aggs) groups
   pub few : total_rows groups + more < 2 ^ 62
@@ -64,12 +64,12 @@ pub record IsGathered (fold : Fold) (rows : List Row) (groups : List Group) : Ty
   pub alike : HaveParts (length fold.aggs) groups
   pub few : total_rows groups ≤ length rows
 
--- one row was taken in
+-- one row was added
 pub record Takes (fold : Fold) (row : Row) (old new : List Group) : Type 0 where
   pub groups_are : in_group_order new ≡ with_group (row_group fold row) (in_group_order old)
   pub alike : HaveParts (length fold.aggs) new
   pub few : total_rows new ≤ suc (total_rows old)
 
--- these rows were taken in: what were the groups of some rows are now those of these rows too
+-- these rows were added: the groups of some rows are now those of these rows as well
 abbrev pub TakesAll : Fold → List Row → List Group → List Group → Type 0
 TakesAll fold rows old new = (before : List Row) → IsGathered fold before old → IsGathered fold (before ++ rows) new

@@ -22,7 +22,7 @@ pub record ShowScratch (fold : Fold) (rows : List Row) (groups : List Group) : T
       → map (cells_of fold) (filter (λ g. int_eq g.start b) groups) ≡ scratch_of fold b rows
   pub of_all : map (cells_of fold) groups ≡ fold_rows fold rows
 
--- these are the groups of the rows, in whatever order the rows come
+-- these are the groups of the rows, in any order of the rows
 abbrev pub AreGroupsInAnyOrder : Fold → List Row → List Group → Type 0
 AreGroupsInAnyOrder fold rows groups = (others : List Row) → IsPermutation rows others → groups ≡ groups_of fold others
 
@@ -42,12 +42,12 @@ row_group fold row = row_at fold (bucket_of fold.width row.at) row
 
 -- ---- rows in pieces
 
--- the rows of all pieces, one piece after the other
+-- the rows of all pieces, in order
 abbrev pub all_rows : List (List Row) → List Row
 all_rows [] = []
 all_rows (piece ∷ pieces) = piece ++ all_rows pieces
 
--- ---- what rows have to have
+-- ---- what rows must have
 
 -- each of these rows has a time
 abbrev pub AreTimes : List Row → Type 0

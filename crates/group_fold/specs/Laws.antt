@@ -15,7 +15,7 @@ use Rattle.ts_model.specs.Jobs.{rows_of_spans}
 use Rattle.ts_model.specs.Windows.{last_end}
 use Rattle.partial_agg.specs.declared.groups.Group.{Group}
 
--- rows that are the same in order have the same groups
+-- rows that are the same when sorted have the same groups
 abbrev pub OrderPlaysNoPart : Type 0
 OrderPlaysNoPart =
     (fold : Fold) (xs ys : List Row) → IsWidth fold.width → in_order xs ≡ in_order ys
@@ -40,14 +40,14 @@ GroupsOfOneBucket =
     (fold : Fold) (rows : List Row) (b : ℤ) → IsWidth fold.width → is_bucket fold.width b ≡ true
     → filter (λ g. int_eq g.start b) (groups_of fold rows) ≡ groups_in fold rows b
 
--- a bucket has over the rows of these spans the groups that it has over all rows, where it lies in the spans, and
--- none elsewhere
+-- over the rows of these spans, a bucket in the spans has the groups that it has over all rows, and any other
+-- bucket has none
 abbrev pub SpansKeepGroups : Type 0
 SpansKeepGroups =
     (fold : Fold) (spans : List Span) (rows : List Row) (b : ℤ) → IsWidth fold.width → is_bucket fold.width b ≡ true
     → groups_in fold (rows_of_spans fold spans rows) b ≡ cond (lies_in spans b) (groups_in fold rows b) []
 
--- the groups of the buckets asked for, one bucket after the other, are the groups that start at such a bucket
+-- the groups of the requested buckets, in order, are the groups that start at such a bucket
 abbrev pub GroupsOfAsked : Type 0
 GroupsOfAsked =
     (fold : Fold) (starts : Span) (rows : List Row) → IsWidth fold.width
@@ -60,7 +60,7 @@ end_of_last w [] = None
 end_of_last w (g ∷ []) = Some (g.start +ℤ w.step)
 end_of_last w (g ∷ h ∷ groups) = end_of_last w (h ∷ groups)
 
--- where the last group ends is the greatest end of a bucket with a row that passes
+-- the end of the last group is the greatest end of a bucket with a row that passes
 abbrev pub LastGroupEnds : Type 0
 LastGroupEnds =
     (fold : Fold) (rows : List Row) → IsWidth fold.width

@@ -1,4 +1,4 @@
--- Rows of some spans, and what it takes to look at them.
+-- Rows of some spans, and what it takes to read them.
 use Rattle.std.specs.Prelude.{◌≡◌, ℕ, ◌+◌, true, false, List, [], ◌∷◌, filter, ℤ}
 use Rattle.std.specs.List.{list_all}
 use Rattle.ts_bucket.specs.Bucket.{is_time}
@@ -21,7 +21,7 @@ HaveTimes rows = list_all (λ row. is_time row.at) rows ≡ true
 abbrev pub rows_in : List Span → List Row → List Row
 rows_in spans rows = filter (λ row. lies_in spans row.at) rows
 
--- how many stored rows are looked at: for each span, those in chunks that meet it
+-- how many stored rows are read: for each span, those in chunks that meet it
 abbrev pub near_each : ℤ → List Row → List Span → ℕ
 near_each interval stored [] = 0
 near_each interval stored (s ∷ ss) = rows_near interval stored (s ∷ []) + near_each interval stored ss

@@ -1,4 +1,4 @@
-//! Blocks of partial aggregates while rows are taken in: those of many groups stand in one.
+//! Blocks of partial aggregates while rows are added: a block holds those of many groups.
 ghost use Rattle.std.specs.Prelude.{◌≡◌, ◌+◌, ◌-◌, ◌^◌, ◌<◌, ◌≤◌, true, [], ◌++◌, length, take, drop, vec_len, vec_capacity, IfOk, OnOk, OnErr};
 ghost use Rattle.std.specs.List.{AllByRecursion};
 ghost use Rattle.group_fold.specs.Grouping.{row_parts};
@@ -13,10 +13,11 @@ use std::marker::Model;
 use ts_model::Agg;
 use ts_schema::{NoMemory, Row, Seq, SharedSlice, field};
 
-/// So many groups share a block. It lives as long as one of its groups, so blocks are small.
+/// The greatest number of groups that share a block. A block lives as long as any of its groups, so blocks are
+/// small.
 const GROUPS_A_BLOCK: usize = 64;
 
-/// The partial aggregates of some groups, those of one behind those of another. Contracts see the list of them.
+/// The partial aggregates of some groups, in the order of the groups. Contracts see the list of them.
 #[derive(Drop)]
 pub(crate) struct Block {
     parts: Vec<Partial>,
@@ -32,7 +33,7 @@ impl Model for Block {
 }
 
 impl Block {
-    /// No partial aggregate, with room for so many.
+    /// No partial aggregates, with room for `room` of them.
     fn with_room(alloc: Global, room: usize) -> Result<Block, NoMemory>
         ensures { IfOk result (λ block. block ≡ []) }
     {
@@ -41,14 +42,14 @@ impl Block {
         })
     }
 
-    /// How many partial aggregates there are.
+    /// The number of partial aggregates.
     fn len(&self) -> usize
         ensures { result ≡ length self.now }
     {
         self.parts.len()
     }
 
-    /// Puts those of the group of one row at the end. Where memory is short, none is put there.
+    /// Appends those of the group of one row, or none when out of memory.
     fn push_row(&mut self, aggs: &[Agg], row: &Row) -> Result<(), NoMemory>
         ensures put { OnOk result (self.new ≡ self.old ++ row_parts aggs.now row.now) }
         ensures kept { OnErr result (self.new ≡ self.old) }
@@ -58,7 +59,7 @@ impl Block {
         Ok(())
     }
 
-    /// Takes a row into the group whose partial aggregates begin at a place.
+    /// Adds a row to the group whose partial aggregates begin at a place.
     #[inline(always)]
     pub(crate) fn add_row(&mut self, from: usize, aggs: &[Agg], row: &Row)
         requires within { from + length aggs.now ≤ length self.old }
@@ -71,7 +72,7 @@ impl Block {
         add_to_parts(aggs, row, &mut parts[from..from + aggs.len()]);
     }
 
-    /// The same list, whose parts groups can share. Room that wasn't needed is given back.
+    /// The same list, whose parts groups can share. Frees unused capacity.
     pub(crate) fn share(self, alloc: Global) -> Result<SharedSlice<Partial>, NoMemory>
         ensures { IfOk result (λ parts. parts ≡ self) }
     {
@@ -90,7 +91,8 @@ fn put_row(aggs: &[Agg], row: &Row, parts: &mut Vec<Partial>)
     }
 }
 
-/// Puts the partial aggregates of the group of one row into the last block, or into a new one where that is full.
+/// Appends the partial aggregates of the group of one row into the last block, or into a new one if that is
+/// full.
 pub(crate) fn put_parts(
     alloc: Global,
     blocks: &mut Vec<Block>,
@@ -116,7 +118,7 @@ fn put_last(blocks: &mut Vec<Block>, aggs: &[Agg], row: &Row) -> Result<PartsPla
     Ok(place)
 }
 
-/// A place, where 32 bits hold its numbers.
+/// A place whose numbers fit 32 bits. Fails as out of memory if they don't.
 fn place_of(block: usize, from: usize) -> Result<PartsPlace, NoMemory>
     ensures block { IfOk result (λ place. place.block ≡ block) }
     ensures from { IfOk result (λ place. place.from ≡ from) }
@@ -128,8 +130,8 @@ fn place_of(block: usize, from: usize) -> Result<PartsPlace, NoMemory>
     }
 }
 
-/// Makes a new block where the last one is full. The first one has room for one group and grows, since often
-/// few come up.
+/// Makes a new block if the last one is full. The first one has room for one group and grows, since there are
+/// often few groups.
 fn make_room(alloc: Global, blocks: &mut Vec<Block>, each: usize) -> Result<(), NoMemory>
     ensures some { OnOk result (0 < length blocks.new.items) }
     ensures kept { Keeps blocks.old.items blocks.new.items }
@@ -143,7 +145,7 @@ fn make_room(alloc: Global, blocks: &mut Vec<Block>, each: usize) -> Result<(), 
     Ok(())
 }
 
-/// Whether the last block takes another group with so many partial aggregates.
+/// Whether another group with `each` partial aggregates fits the last block.
 fn has_room(blocks: &[Block], each: usize) -> bool
     ensures { result ≡ true → 0 < length blocks.now }
 {

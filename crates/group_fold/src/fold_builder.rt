@@ -1,4 +1,4 @@
-//! A fold that takes rows in list after list.
+//! A fold of rows from several lists.
 ghost use Rattle.std.specs.Prelude.{◌≡◌, ◌++◌, [], List, IfOk, OnOk};
 ghost use Rattle.ts_schema.specs.declared.rows.Row.{Row as RowValue};
 ghost use Rattle.ts_model.specs.declared.views.Fold.{Fold as FoldValue};
@@ -31,7 +31,7 @@ impl Model for FoldBuilder {
 }
 
 impl FoldBuilder {
-    /// A fold that hasn't taken in any row.
+    /// A fold that hasn't read any row.
     pub fn new(alloc: Global) -> FoldBuilder
         ensures none { (plan : FoldValue) → HasTaken plan [] result }
     {
@@ -41,8 +41,8 @@ impl FoldBuilder {
         }
     }
 
-    /// Adds these rows, by the plan by which it added the others. Fails as out of memory for 2^62 rows or
-    /// more in all. After a failure the fold can't be used.
+    /// Adds these rows, by the same plan as the others. Fails as out of memory for 2^62 rows or more in all.
+    /// After a failure the fold can't be used.
     pub fn take(&mut self, alloc: Global, plan: &Fold, rows: &[Row]) -> Result<(), NoMemory>
         requires times { AreTimes rows.now }
         requires before { (before : List RowValue) × HasTaken plan.now before self.old }
@@ -55,14 +55,14 @@ impl FoldBuilder {
         if count >= MOST_ROWS {
             return Err(NoMemory);
         }
-        // Reading a width tells that it keeps its bounds.
+        // Reading a width tells the prover that it keeps its bounds.
         let _step = plan.width.step;
         self.gathered.take_rows(alloc, plan, rows)?;
         self.count = count;
         Ok(())
     }
 
-    /// The groups of all rows that were taken in, in order by bucket and keys.
+    /// The groups of all rows that were added, in order by bucket and keys.
     pub fn finish(self, alloc: Global) -> Result<Seq<Group>, NoMemory>
         requires taken { (plan : FoldValue) × (rows : List RowValue) × HasTaken plan rows self }
         ensures groups { (plan : FoldValue) (rows : List RowValue) → HasTaken plan rows self

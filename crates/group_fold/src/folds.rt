@@ -12,8 +12,8 @@ use std::alloc::Global;
 use ts_model::Fold;
 use ts_schema::{NoMemory, Row, Seq};
 
-/// The groups of the rows that pass every test, in order by bucket and keys, with one partial
-/// aggregate for each aggregate of the plan. The order of the rows plays no part.
+/// The groups of the rows that pass every test, in order by bucket and keys, with one partial aggregate for
+/// each aggregate of the plan. The order of the rows has no effect.
 pub fn fold(alloc: Global, plan: &Fold, rows: &Seq<Row>) -> Result<Seq<Group>, NoMemory>
     requires { AreTimes rows.now }
     ensures groups { IfOk result (λ groups. groups ≡ groups_of plan.now rows.now) }
@@ -21,7 +21,7 @@ pub fn fold(alloc: Global, plan: &Fold, rows: &Seq<Row>) -> Result<Seq<Group>, N
     ensures any_order { IfOk result (AreGroupsInAnyOrder plan.now rows.now) }
     ensures bounds { IsWidth plan.now.width }
 {
-    // Reading a width tells that it keeps its bounds.
+    // Reading a width tells the prover that it keeps its bounds.
     let _step = plan.width.step;
     Ok(Seq::of(fold_rows(alloc, plan, rows.items())?))
 }

@@ -1,4 +1,4 @@
-//! Groups as rows are taken in.
+//! Groups as rows are added.
 ghost use Rattle.std.specs.Prelude.{◌≡◌, ◌≤◌, ◌≤ℤ◌, [], IfErr, IfOk, IsTrue, OnOk, length};
 ghost use Rattle.std.specs.List.{insert};
 ghost use Rattle.ts_schema.specs.declared.rows.Row.{Row};
@@ -16,31 +16,31 @@ use ts_bucket::{Width, bucket, first};
 use ts_model::Fold;
 use ts_schema::{NoMemory, Row, field, passes};
 
-/// To move so many groups costs as much as one search.
+/// The number of groups whose move costs as much as one search.
 const MOVES_A_SEARCH: usize = 8;
 
-/// So many groups more than there are may be searched for four times before rows count as out of order.
+/// The number of groups, beyond those that exist, for which four searches each are allowed before rows count as
+/// out of order.
 const FREE_STRAYS: usize = 16;
 
-/// Groups, in order while rows come nearly in order. The other fields only make it fast: each place that they
-/// give is checked before it is used, and a group may occur twice.
+/// Groups, in order while rows come nearly in order. The other fields only make it fast: each place in them is
+/// checked before it is used, and a group may occur twice.
 #[derive(Drop)]
 pub(crate) struct GroupTable {
     pub(crate) groups: OpenGroups,
     /// The place of the group of the last row.
     last: usize,
-    /// How often a group was searched for away from that place, and a part of how many were moved for a
-    /// new one.
+    /// The number of searches away from that place, plus a fraction of the number of groups moved for new ones.
     strayed: usize,
     /// Whether rows came too far out of order. From then on new groups are appended, and `places` has all of
     /// them.
     is_mixed: bool,
-    /// Where a group may be, by the hash of its bucket and keys.
+    /// The place at which a group may be, by the hash of its bucket and keys.
     places: HashMap<u64, usize>,
 }
 
 impl GroupTable {
-    /// No group.
+    /// No groups.
     pub(crate) fn new(alloc: Global) -> GroupTable
         ensures none { result.groups ≡ [] }
     {
@@ -53,7 +53,7 @@ impl GroupTable {
         }
     }
 
-    /// Takes these rows in.
+    /// Adds these rows.
     pub(crate) fn take_rows(
         &mut self,
         alloc: Global,
@@ -100,7 +100,7 @@ impl GroupTable {
         }
     }
 
-    /// The place of the group of a row, or otherwise where to insert it.
+    /// The place of the group of a row, or otherwise the place to insert it.
     #[inline(always)]
     fn find(&self, plan: &Fold, row: &Row, start: i64) -> Result<usize, usize>
         ensures found { IfOk result (IsAt (row_at plan.now start row.now) self.now.groups) }
@@ -131,7 +131,7 @@ impl GroupTable {
         }
     }
 
-    /// Puts the group of a row in.
+    /// Inserts the group of a row.
     fn put(
         &mut self,
         alloc: Global,
@@ -183,8 +183,8 @@ impl GroupTable {
     }
 }
 
-/// The start of the bucket of a time, beside the start of some bucket. Where that is its own, as most often that
-/// of the row before, nothing is divided.
+/// The start of the bucket of a time, given the start of some bucket near it. No division is needed if that
+/// bucket holds the time, as that of the row before usually does.
 #[inline(always)]
 fn start_near(width: Width, near: i64, at: i64) -> i64
     requires width { IsWidth width }
@@ -209,7 +209,8 @@ fn is_held(width: Width, start: i64, at: i64) -> bool
     start <= at && at < start + width.step
 }
 
-/// How often rows have strayed, where a row's group is found at a place, after one that is the last.
+/// The updated count of searches and moves, after a row's group was found at place `at` and the one before it
+/// at `last`.
 #[inline(always)]
 fn astray(before: usize, last: usize, at: usize) -> usize {
     if at == last || at.wrapping_sub(last) == 1 {
@@ -219,7 +220,7 @@ fn astray(before: usize, last: usize, at: usize) -> usize {
     }
 }
 
-/// A number that rows of the same bucket and keys share, and others seldom do.
+/// A hash: rows of the same bucket and keys have the same one, and others seldom do.
 fn print_of(plan: &Fold, row: &Row, start: i64) -> u64 {
     let mut print = mix(0, Some(start));
     for col in plan.keys.items() {
@@ -228,7 +229,7 @@ fn print_of(plan: &Fold, row: &Row, start: i64) -> u64 {
     print
 }
 
-/// The number that the rows of a group share.
+/// The hash of the rows of a group.
 fn print_of_head(head: &Head) -> u64 {
     let mut print = mix(0, Some(head.start));
     for key in head.keys.items() {

@@ -1,8 +1,8 @@
-//! Groups whose partial aggregates stand in blocks.
+//! Groups whose partial aggregates are in blocks.
 
 use partial_agg::Keys;
 
-/// Where the partial aggregates of a group begin.
+/// The place at which the partial aggregates of a group begin.
 #[derive(Drop, Clone, Copy)]
 pub(crate) struct PartsPlace {
     /// The number of the block.
@@ -11,7 +11,7 @@ pub(crate) struct PartsPlace {
     pub(crate) from: u32,
 }
 
-/// A group whose partial aggregates stand in a block.
+/// A group whose partial aggregates are in a block.
 #[derive(Drop)]
 pub(crate) struct Head {
     pub(crate) start: i64,

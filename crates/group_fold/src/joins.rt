@@ -1,4 +1,4 @@
-//! Two lists of groups, joined.
+//! Joins two lists of groups.
 ghost use Rattle.std.specs.Prelude.{◌≡◌, ◌+◌, ◌<◌, ◌≤◌, IfOk, OnOk, OnSome, length, take};
 ghost use Rattle.std.specs.VecDeque.{deque_len};
 ghost use Rattle.partial_agg.specs.Groups.{AreInOrder};
@@ -11,9 +11,9 @@ use std::cmp::Ordering;
 use std::collections::VecDeque;
 use ts_schema::{NoMemory, Seq, SharedSlice};
 
-/// The groups of both lists in order, where groups of the same bucket and keys are merged. So the
-/// groups of two lists of rows become those of both together. It is for callers that keep both lists; a
-/// fold in pieces gives its own up to `join_lists`.
+/// The groups of both lists in order, with groups of the same bucket and keys merged. So the groups of two
+/// lists of rows become those of both together. This is for callers that keep both lists; a fold in pieces
+/// passes its own to `join_lists`.
 pub fn join_parts(alloc: Global, a: &Seq<Group>, b: &Seq<Group>) -> Result<Seq<Group>, NoMemory>
     requires { CanJoin a.now b.now }
     ensures joined { IfOk result (λ groups. groups ≡ with_groups a.now b.now) }
@@ -24,7 +24,7 @@ pub fn join_parts(alloc: Global, a: &Seq<Group>, b: &Seq<Group>) -> Result<Seq<G
     Ok(Seq::of(join_lists(alloc, mine, theirs)?))
 }
 
-/// The same of lists that are given up. Moves groups from one list to the other, and copies none. Moves those
+/// The same, but consumes both lists. Moves groups from one list to the other, and copies none. Moves those
 /// before all of the second list in one step, and likewise those after all of the first.
 pub(crate) fn join_lists(
     alloc: Global,
@@ -39,7 +39,7 @@ pub(crate) fn join_lists(
     let mut front = a;
     let behind = front.split_off(before)?;
     groups.append(&mut front)?;
-    // Its room is given back before those behind are merged.
+    // Frees its memory before the groups after it are merged.
     drop(front);
     let mut mine = VecDeque::from(behind);
     let mut theirs = VecDeque::from(b);
@@ -51,7 +51,7 @@ pub(crate) fn join_lists(
     Ok(groups)
 }
 
-/// How many groups of a list are before all of another one.
+/// The number of groups of a list that are before all of another one.
 fn count_before(groups: &[Group], others: &[Group]) -> usize
     requires mine { AreInOrder groups.now }
     requires theirs { AreInOrder others.now }
@@ -64,7 +64,7 @@ fn count_before(groups: &[Group], others: &[Group]) -> usize
     }
 }
 
-/// Where the next group comes from. `Rest` is what is left of the second list, once the first one is empty.
+/// The source of the next group. `Rest` is the rest of the second list, once the first one is empty.
 #[derive(Clone, Copy)]
 enum Next {
     Rest,
@@ -133,8 +133,8 @@ fn merge_firsts(
     }
 }
 
-/// A group with another one of the same bucket and keys merged in. Its partial aggregates are a new list,
-/// since others share those of both.
+/// A group merged with another one of the same bucket and keys. Its partial aggregates are a new list, since
+/// others share those of both.
 fn merge_groups(alloc: Global, group: Group, other: &Group) -> Result<Group, NoMemory>
     requires { PartsFit group.parts other.now.parts }
     ensures { IfOk result (λ both. both ≡ merge_of group other.now) }

@@ -1,7 +1,7 @@
-//! Laws of groups. Each is the clause of a function that does nothing.
+//! Laws of groups. Each law is the clause of a function that does nothing.
 ghost use Rattle.group_fold.specs.Laws.{GroupsOfAsked, GroupsOfOneBucket, GroupsOfSomeBuckets, GroupsOfSpans, LastGroupEnds, OrderPlaysNoPart, SpansKeepGroups};
 
-/// Rows that are the same in order have the same groups.
+/// Rows that are the same when sorted have the same groups.
 pub fn order_plays_no_part()
     ensures { OrderPlaysNoPart }
 {}
@@ -21,17 +21,18 @@ pub fn groups_of_one_bucket()
     ensures { GroupsOfOneBucket }
 {}
 
-/// A bucket has over the rows of some spans what it has over all rows, or nothing outside the spans.
+/// Over the rows of some spans, a bucket in the spans has the groups that it has over all rows, and any other
+/// bucket has none.
 pub fn spans_keep_groups()
     ensures { SpansKeepGroups }
 {}
 
-/// The groups of the buckets asked for are the groups that start at such a bucket.
+/// The groups of the requested buckets are the groups that start at such a bucket.
 pub fn groups_of_asked()
     ensures { GroupsOfAsked }
 {}
 
-/// Where the last group ends is the greatest end of a bucket with a row.
+/// The end of the last group is the greatest end of a bucket with a row.
 pub fn last_group_ends()
     ensures { LastGroupEnds }
 {}

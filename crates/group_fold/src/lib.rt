@@ -1,16 +1,15 @@
-//! Grouping and aggregation: the groups of rows, in order by bucket and keys, folded in one piece or
-//! in many.
+//! Grouping and aggregation: the groups of rows, in order by bucket and keys, folded in one piece or in many.
 //!
 //! - `folds`: the groups of a list of rows.
-//! - `fold_builder`: the same of rows that come list after list.
+//! - `fold_builder`: the same for rows from several lists.
 //! - `group_table`: groups while rows are added, in order if rows come nearly in order, and otherwise as they
 //!   come.
 //! - `open_groups`: groups that rows are added to, `heads` and `blocks`: their buckets and keys, and their
 //!   totals.
 //! - `near_places`: the place of the group of a row, while rows come nearly in order.
-//! - `members`: one row beside the groups: which is its own, and what it adds to it.
+//! - `members`: the group of a row among groups, and what the row adds to it.
 //! - `orders`: groups put in order.
-//! - `joins`: two lists of groups, joined.
+//! - `joins`: two lists of groups joined.
 //! - `pieces`: the groups of many lists of rows, in as many threads as are useful.
 //! - `scans`: the rows of some spans, in pieces.
 //! - `spans`: the groups of the rows of some spans: one scan for each span, folded in pieces.

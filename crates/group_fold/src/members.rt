@@ -1,4 +1,4 @@
-//! One row beside the groups: which is its own, and what it adds to it.
+//! The group of a row among groups, and what the row adds to it.
 ghost use Rattle.std.specs.Prelude.{◌≡◌, ◌-◌, ◌^◌, ◌<◌, true, [], IfOk, length};
 ghost use Rattle.std.specs.List.{AllByRecursion};
 ghost use Rattle.std.specs.declared.cmp.Ordering.TheVariants.{Less, Equal};
@@ -24,7 +24,7 @@ pub(crate) fn is_of(heads: &[Head], at: usize, plan: &Fold, row: &Row, start: i6
     order_at(heads, at, plan, row, start) == Ordering::Equal
 }
 
-/// How the group at a place compares with that of a row. Behind the last group nothing comes before it.
+/// How the group at a place compares with that of a row. After the last group there is no group to compare.
 #[inline(always)]
 pub(crate) fn order_at(heads: &[Head], at: usize, plan: &Fold, row: &Row, start: i64) -> Ordering
     ensures same { result ≡ Equal → IsHeadAt (row_at plan.now start row.now) heads.now at }
@@ -70,7 +70,7 @@ fn keys_order(keys: &[Option<i64>], cols: &[u32], row: &Row) -> Ordering
     }
 }
 
-/// The keys of a row. Of one column they take no memory.
+/// The keys of a row. A single key takes no memory.
 pub(crate) fn keys_alone(alloc: Global, cols: &[u32], row: &Row) -> Result<Keys, NoMemory>
     ensures { IfOk result (λ keys. keys ≡ keys_of cols.now row.now) }
 {
@@ -90,7 +90,7 @@ fn keys_listed(alloc: Global, cols: &[u32], row: &Row) -> Result<Vec<Option<i64>
     Ok(keys)
 }
 
-/// Takes a row into the partial aggregates of its group.
+/// Adds a row to the partial aggregates of its group.
 #[inline(always)]
 pub(crate) fn add_to_parts(aggs: &[Agg], row: &Row, parts: &mut [Partial])
     requires many { length parts.old ≡ length aggs.now }

@@ -9,9 +9,9 @@ use std::cmp::Ordering;
 use ts_model::Fold;
 use ts_schema::Row;
 
-/// The place of the group of a row, or otherwise where to insert it, so that groups in order stay in order.
-/// Checks the group of the row before and the next one first: in each bucket the same keys occur, mostly in
-/// the same order.
+/// The place of the group of a row, or otherwise the place to insert it, so that groups in order stay in order.
+/// Checks the group of the row before and the next one first: in each bucket the same keys occur, mostly in the
+/// same order.
 pub(crate) fn place_of(
     heads: &[Head],
     last: usize,
@@ -29,7 +29,7 @@ pub(crate) fn place_of(
     }
 }
 
-/// The same, where the group in front of the place `next` comes before that of the row.
+/// The same, if the group in front of the place `next` comes before that of the row.
 fn place_behind(
     heads: &[Head],
     next: usize,
@@ -48,7 +48,7 @@ fn place_behind(
     }
 }
 
-/// The same, by halving.
+/// The same, by binary search.
 fn place_among(heads: &[Head], plan: &Fold, row: &Row, start: i64) -> Result<usize, usize>
     ensures found { IfOk result (IsHeadAt (row_at plan.now start row.now) heads.now) }
     ensures free { IfErr result (λ at. at ≤ length heads.now) }

@@ -1,4 +1,4 @@
-//! Groups while rows are taken in.
+//! Groups while rows are added.
 ghost use Rattle.std.specs.Prelude.{◌≡◌, ℕ, ◌++◌, ◌-◌, ◌^◌, ◌<◌, ◌≤◌, [], IfOk, OnOk, OnErr, length, slice_index_or, slice_set};
 ghost use Rattle.std.specs.List.{AllByRecursion, insert};
 ghost use Rattle.partial_agg.specs.declared.groups.Group.{Group as GroupValue};
@@ -16,13 +16,13 @@ use std::marker::Model;
 use ts_model::Fold;
 use ts_schema::{NoMemory, Row, SharedSlice};
 
-/// Groups that take rows in. Their partial aggregates stand in blocks, which the groups share in the end.
+/// Groups to which rows are added. Their partial aggregates are in blocks, which the groups share in the end.
 /// Contracts see the list of the groups.
 #[derive(Drop)]
 pub(crate) struct OpenGroups {
     heads: Vec<Head>,
     blocks: Vec<Block>,
-    /// How many partial aggregates each group has.
+    /// The number of partial aggregates of each group.
     each: usize,
 }
 
@@ -39,7 +39,7 @@ impl Model for OpenGroups {
 }
 
 impl OpenGroups {
-    /// No group. It takes no memory.
+    /// No groups. It takes no memory.
     pub(crate) fn new(alloc: Global) -> OpenGroups
         ensures { result ≡ [] }
     {
@@ -50,7 +50,7 @@ impl OpenGroups {
         }
     }
 
-    /// How many groups there are.
+    /// The number of groups.
     pub(crate) fn len(&self) -> usize
         ensures { result ≡ length self.now }
     {
@@ -65,7 +65,7 @@ impl OpenGroups {
         self.heads.as_slice()
     }
 
-    /// Takes a row into the group at a place.
+    /// Adds a row to the group at a place.
     #[inline(always)]
     pub(crate) fn add(&mut self, at: usize, plan: &Fold, row: &Row)
         requires within { at < length self.old }
@@ -77,7 +77,7 @@ impl OpenGroups {
         self.blocks[place.block as usize].add_row(place.from as usize, plan.aggs.items(), row);
     }
 
-    /// Puts the group of one row, whose bucket starts at `start`, in at a place.
+    /// Inserts the group of one row, whose bucket starts at `start`, at a place.
     pub(crate) fn put(
         &mut self,
         alloc: Global,
@@ -96,7 +96,7 @@ impl OpenGroups {
         put_at(&mut self.heads, at, Head { start, keys, place })
     }
 
-    /// The groups, now that all rows are in. They share the blocks.
+    /// The groups, after all rows were added. They share the blocks.
     pub(crate) fn settle(self, alloc: Global) -> Result<Vec<Group>, NoMemory>
         ensures { IfOk result (λ groups. groups.items ≡ self) }
     {
@@ -105,7 +105,7 @@ impl OpenGroups {
     }
 }
 
-/// Puts a head in at a place.
+/// Inserts a head at a place.
 fn put_at(heads: &mut Vec<Head>, at: usize, head: Head) -> Result<(), NoMemory>
     requires { at ≤ length heads.old.items }
     ensures put { OnOk result (heads.new.items ≡ insert heads.old.items at head) }
@@ -154,7 +154,7 @@ fn shared_group(head: Head, blocks: &[SharedSlice<Partial>], each: usize) -> Res
     ensures { IfOk result (λ group. group ≡ shown_group each blocks.now head) }
 {
     let block = &blocks[head.place.block as usize];
-    // A length that is read has 64 bits.
+    // Reading the length tells the prover that it has 64 bits.
     let _count = block.len();
     let from = head.place.from as usize;
     let parts = block.part_of(from, from + each)?;

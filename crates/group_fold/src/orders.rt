@@ -10,7 +10,7 @@ use std::alloc::Global;
 use std::cmp::Ordering;
 use ts_schema::{NoMemory, values_order};
 
-/// Groups in order by bucket and keys, where those of the same bucket and keys are merged.
+/// Groups in order by bucket and keys; those of the same bucket and keys are merged.
 pub(crate) fn in_order(alloc: Global, groups: Vec<Group>) -> Result<Vec<Group>, NoMemory>
     requires { CanOrder groups.items }
     ensures { IfOk result (λ sorted. sorted.items ≡ in_group_order groups.items) }
@@ -26,7 +26,7 @@ pub(crate) fn in_order(alloc: Global, groups: Vec<Group>) -> Result<Vec<Group>, 
     merge_equal(alloc, sorted)
 }
 
-/// Whether each group stands before the next one, so that no two have the same bucket and keys.
+/// Whether each group is before the next one, so that no two have the same bucket and keys.
 fn rises(groups: &[Group]) -> bool
     ensures { result ≡ true → AreInOrder groups.now }
 {
@@ -40,7 +40,7 @@ fn rises(groups: &[Group]) -> bool
     true
 }
 
-/// Whether a group stands before the first of others, or there is none.
+/// Whether a group is before the first of others, or there is none.
 fn is_before_all(group: &Group, others: &[Group]) -> bool
     ensures { result ≡ true → AreInOrder others.now → AreInOrder (group.now ∷ others.now) }
 {
@@ -56,7 +56,7 @@ fn is_before(group: &Group, next: &Group) -> bool
     order_of_groups(group, next) == Ordering::Less
 }
 
-/// How two groups compare. Their keys are looked at only where the buckets are the same.
+/// How two groups compare. Their keys are compared only if the buckets are the same.
 fn order_of_groups(a: &Group, b: &Group) -> Ordering
     ensures { result ≡ group_cmp a.now b.now }
 {
@@ -67,7 +67,7 @@ fn order_of_groups(a: &Group, b: &Group) -> Ordering
     }
 }
 
-/// The same of groups of which some have the same bucket and keys.
+/// The same for groups, some of which have the same bucket and keys.
 fn merge_equal(alloc: Global, groups: Vec<Group>) -> Result<Vec<Group>, NoMemory>
     requires { CanOrder groups.items }
     ensures { IfOk result (λ sorted. sorted.items ≡ in_group_order groups.items) }

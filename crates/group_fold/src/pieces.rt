@@ -16,14 +16,14 @@ use std::thread::Threads;
 use ts_model::Fold;
 use ts_schema::{NoMemory, Row, Seq, SharedSlice};
 
-/// More rows than any memory holds. A count of rows stays below it.
+/// A number of rows that no memory can hold. Counts of rows stay below it.
 pub(crate) const MOST_ROWS: u64 = 4_611_686_018_427_387_904;
 
-/// Fewer rows than these are folded in one thread, for which the system isn't asked how many there are.
+/// Fewer rows than this are folded in one thread, without asking the system for the number of processors.
 const FEW_ROWS: u64 = 8_192;
 
-/// The groups of the rows of all pieces, as `fold` gives them for the pieces joined. Fails as out of memory
-/// for 2^62 rows or more.
+/// The groups of the rows of all pieces: those that `fold` returns for the pieces joined. Fails as out of
+/// memory for 2^62 rows or more.
 ///
 /// Folds fewer than 8,192 rows in the caller's thread. Otherwise halves the list of pieces, and its halves
 /// again, into at most as many parts as there are processors. Folds each part in one thread, and joins the
@@ -40,7 +40,7 @@ pub fn fold_pieces<R: Threads + Sync>(
     ensures any_order { IfOk result (AreGroupsInAnyOrder plan.now (all_rows pieces.now)) }
     ensures bounds { IsWidth plan.now.width }
 {
-    // Reading a width tells that it keeps its bounds.
+    // Reading a width tells the prover that it keeps its bounds.
     let _step = plan.width.step;
     let count = count_rows(pieces.items());
     if count >= MOST_ROWS {
@@ -50,7 +50,7 @@ pub fn fold_pieces<R: Threads + Sync>(
     Ok(Seq::of(fold_in_threads(rt, alloc, plan, pieces.items(), halvings)?))
 }
 
-/// How often the pieces of so many rows are halved.
+/// The number of times that pieces with this many rows are halved.
 fn halvings_of<R: Threads + Sync>(rt: &R, rows: u64) -> u32 {
     if rows < FEW_ROWS {
         return 0;
@@ -58,7 +58,7 @@ fn halvings_of<R: Threads + Sync>(rt: &R, rows: u64) -> u32 {
     current_num_threads(rt).ilog2()
 }
 
-/// How many rows the pieces have, at most 2^64 - 1.
+/// The number of rows of the pieces, at most 2^64 - 1.
 fn count_rows(pieces: &[SharedSlice<Row>]) -> u64
     ensures { result ≡ min (length (all_rows pieces.now)) (2 ^ 64 - 1) }
 {
@@ -69,7 +69,7 @@ fn count_rows(pieces: &[SharedSlice<Row>]) -> u64
     count
 }
 
-/// The groups of some pieces, which are halved so often before a thread does its pieces alone.
+/// The groups of some pieces, which are halved this often before a thread folds its own pieces.
 #[cycle(halves)]
 fn fold_in_threads<R: Threads + Sync>(
     rt: &R,

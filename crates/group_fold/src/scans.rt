@@ -10,7 +10,7 @@ use ts_bucket::Span;
 use ts_model::RowsAt;
 use ts_schema::{NoMemory, Row, Seq, SharedSlice, Steps};
 
-/// Pieces have so many rows at most.
+/// The greatest number of rows of a piece.
 const PIECE: usize = 4096;
 
 /// The rows of a table whose times lie in these spans, in pieces.

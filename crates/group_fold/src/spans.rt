@@ -14,9 +14,8 @@ use ts_bucket::Span;
 use ts_model::{Fold, RowsAt};
 use ts_schema::{NoMemory, Seq, Steps};
 
-/// The groups of the rows of a table whose times lie in these spans, of which no two hold the same
-/// number. Each span is scanned once. It counts one step for each stored row in the chunks that meet
-/// the span.
+/// The groups of the rows of a table whose times lie in these spans. No two spans may hold the same number.
+/// Scans each span once, and counts one step for each stored row in the chunks that meet the span.
 pub fn fold_spans<R: Threads + Sync, W: RowsAt, L>(
     rt: &R,
     alloc: Global,
@@ -36,7 +35,7 @@ pub fn fold_spans<R: Threads + Sync, W: RowsAt, L>(
         steps.old steps.new }
 {
     let _so_far = steps.count();
-    // Reading a width tells that it keeps its bounds.
+    // Reading a width tells the prover that it keeps its bounds.
     let _step = plan.width.step;
     let pieces = scan_spans(alloc, rows, table, spans, steps)?;
     fold_pieces(rt, alloc, plan, &pieces)

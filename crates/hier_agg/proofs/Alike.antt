@@ -1,4 +1,4 @@
--- What is summed up of cells shows the same as what the cells were shown of.
+-- The totals of cells show the same as the summaries that the cells were shown from.
 use Rattle.std.proofs.Common.{◌≡◌, ℕ, zero, suc, ◌+◌, ◌<◌, true, false, List, [], ◌∷◌, map, length, Option, Some, None, ℤ, pos, ◌+ℤ◌, sym, refl, ap, ◌∙◌, arith}
 use Rattle.std.specs.List.{AllZip}
 use Rattle.std.proofs.lemmas.Int.{ints}
@@ -19,7 +19,7 @@ use Rattle.hier_agg.specs.Plans.{added_by, is_additive}
 
 -- ---- one part
 
--- where there are no values the sum is 0
+-- if there are no values, the sum is 0
 abbrev pub NoneIsZero : Summary → Type 0
 NoneIsZero q = q.values ≡ 0 → q.sum ≡ pos 0
 
@@ -30,7 +30,7 @@ sum_of_none (v ∷ vs) e = absurd (omega (arith, e))
 pub none_is_zero : (column : List (Option ℤ)) → NoneIsZero (summary column)
 none_is_zero column e = sum_of_none (values column) e
 
--- p, over cells, shows under the function that adds up what q shows under the function itself
+-- summary p, over cells, shows under the adding function what summary q shows under the function itself
 abbrev pub Alike : Fun → Summary → Summary → Type 0
 Alike CountAll p q = (p.sum ≡ pos q.count) × (0 < p.values)
 Alike Count p q = (p.sum ≡ pos q.values) × (0 < p.values)

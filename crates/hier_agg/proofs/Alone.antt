@@ -1,4 +1,4 @@
--- The roll-up by a plan that takes all of an aggregate: each row is alone in its group, and shows itself again.
+-- The roll-up by a plan that takes all of an aggregate: each row is alone in its group, and is shown unchanged.
 use Rattle.std.proofs.Common.{◌≡◌, ℕ, zero, suc, ◌==◌, List, [], ◌∷◌, ◌++◌, map, length, drop, true, Option, None, ℤ, sym, refl, ap, ◌∙◌, arith}
 use Rattle.std.proofs.lemmas.Bool.{and_parts, eqb-true}
 use Rattle.std.proofs.lemmas.List.{append-nil}
@@ -42,7 +42,7 @@ shown_length (x ∷ aggs) [] n a p = absurd (omega (arith, a, p))
 shown_length (x ∷ aggs) (y ∷ parts) zero a p = absurd (omega (arith, a))
 shown_length (x ∷ aggs) (y ∷ parts) (suc n) a p = ap suc (shown_length aggs parts n (omega (arith, a)) (omega (arith, p)))
 
--- ---- a plan that takes all
+-- ---- a plan that takes everything
 
 -- the parts of the test
 record TakesAll (lower : Fold) (plan : UpperPlan) : Type 0 where

@@ -61,7 +61,7 @@ record StandIn (fold : Fold) (b : ℤ) (gs : List Group) : Type 0 where
 none_stand : (fold : Fold) (b : ℤ) → StandIn fold b []
 none_stand fold b = record { order = none_in_order [] (omega arith); each = tt; starts = tt }
 
--- those of rows
+-- the groups of rows
 rows_stand : (fold : Fold) (found : List Row) (b : ℤ) → IsWidth fold.width → is_bucket fold.width b ≡ true → StandIn fold b (groups_in fold found b)
 rows_stand fold found b wide at =
     let own : List Row = bucket_rows fold b found in
@@ -113,7 +113,7 @@ module _ (def : ViewDef) (dirty : List Span) where
       (λ t. rw t (group_is g parts.0, rest))
       (λ t. rw t rest)
 
-  -- those that an image has saved
+  -- the saved groups of an image
   saved_stand : (gs : List SavedGroup) (b : ℤ) → groups_fit def dirty gs ≡ true → StandIn def.fold b (groups_among gs b)
   saved_stand gs b e =
       let parts = and_parts (list_all (group_fits def dirty) gs) (all_rise group_cmp (map group_of gs)) e in
@@ -142,7 +142,7 @@ image_stand n def i b ok is =
     subst (λ (f : Fold). StandIn f b (groups_among v.groups b)) own.1 (saved_stand found v.dirty v.groups b groups.1))
     is
 
--- and those of what stood in the bucket
+-- and the earlier groups of the bucket
 stood_stand : (n : ℕ) (def : ViewDef) (g : History) (s : ℕ) (b : ℤ) → IsWidth def.fold.width → is_bucket def.fold.width b ≡ true → all_consistent g ≡ true → IsOf def (view_of (roster g) n) → StandIn def.fold b (groups_at_last n def g s b)
 stood_stand n def start s b wide at ok is = rows_stand def.fold (rows def.table start) b wide at
 stood_stand n def (resumed i) s b wide at ok is =
@@ -179,7 +179,7 @@ record AreRowsFrom (fold : Fold) (low : ℤ) (found : List (List Datum)) : Type 
 later : (g h : Group) → g.start <ℤ h.start → group_cmp g h ≡ Less
 later g h less = ap (λ o. ordering_then o (values_cmp g.keys h.keys)) (sym (int_cmp_is g.start h.start Less less))
 
--- groups of one bucket stand before those of buckets after it
+-- groups of one bucket are before those of later buckets
 before_later : (b : ℤ) (gs hs : List Group) → AllByRecursion (λ g. g.start ≡ b) gs → AllByRecursion (λ h. (b +ℤ pos 1) ≤ℤ h.start) hs → AreInOrder gs → AreInOrder hs → AreInOrder (gs ++ hs)
 unfolding IsStrictlySortedBy
 before_later b [] hs starts from p q = q

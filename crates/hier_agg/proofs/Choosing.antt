@@ -1,5 +1,5 @@
--- The roll-up by a plan that keeps the groups of an aggregate: each row is alone in its group, and shows the cells that
--- the plan takes of it.
+-- The roll-up by a plan that keeps the groups of an aggregate: each row is alone in its group, and shows those
+-- of its cells that the plan takes.
 use Rattle.std.proofs.Common.{◌≡◌, ℕ, suc, ◌-◌, ◌<◌, ◌≤◌, ◌==◌, ◌&&◌, nat_le, nat_lt, List, [], ◌∷◌, ◌++◌, map, length, get_or, true, sym, refl, ap, ◌∙◌, arith}
 use Rattle.std.proofs.lemmas.Bool.{and_parts, leb-true, ltb-true}
 use Rattle.std.proofs.lemmas.List.{length-map, map-append}
@@ -44,12 +44,12 @@ groups_taken lower plan e =
 
 -- ---- cells
 
--- behind the first cell of a row stand the columns
+-- after the first cell of a row come the columns
 behind_first : (first : Datum) (cells : List Datum) (ks : List ℕ) → map (cell_or_null (first ∷ cells)) (map suc ks) ≡ map (cell_or_null cells) ks
 behind_first first cells [] = refl
 behind_first first cells (k ∷ ks) = ap (λ ds. cell_or_null cells k ∷ ds) (behind_first first cells ks)
 
--- a cell that an aggregate shows, and no mean, is the one that its value shows
+-- a cell that an aggregate shows, except a mean, is the one that its value shows
 cell_kept : (lower : Fold) (group : Group) (c : ℕ) → IsGroupOf lower group → keeps_its_cell lower c ≡ true → shown_or_null (cell_at (columns lower group) c) ≡ cell_or_null (columns lower group) c
 cell_kept lower group c is kept =
     let tests = and_parts (nat_le (length lower.keys) c && nat_lt (c - length lower.keys) (length lower.aggs)) (is_additive (agg_at lower c).fun) kept in

@@ -1,4 +1,4 @@
--- A roll-up that isn't refused fits, and adds up by the functions that are written.
+-- A roll-up that isn't refused fits, and adds up by the functions in the statement.
 use Rattle.std.proofs.Common.{◌≡◌, ◌∙◌, refl, sym, subst, ap, ap₂, ℕ, zero, suc, ◌-◌, ◌<◌, ◌≤◌, Bool, true, false, cond, not, ◌&&◌, List, [], ◌∷◌, map, length, Option, Some, None, is_some, arith, ℤ, ◌-ℤ◌}
 use Rattle.std.specs.Prelude.{nat_lt, nat_le, unwrap_or}
 use Rattle.std.specs.List.{AllByRecursion}
@@ -38,7 +38,7 @@ use Rattle.ts_schema.specs.Counts.{raised_by}
 
 -- ---- functions
 
--- what fits adds up
+-- functions that fit add up
 fits_adds : (f g : Fun) → fits f g ≡ true → (is_additive g ≡ true) × (f ≡ added_by g)
 fits_adds CountAll g e = absurd (cc e)
 fits_adds Count g e = absurd (cc e)
@@ -76,7 +76,7 @@ key_below def (Some (suc k)) e =
     let place = passing_place (nat_lt k (length def.fold.keys)) k e in
     subst (λ n. n < length def.fold.keys) (sym place.1) (ltb-true _ _ place.0)
 
--- an aggregate's column stands behind the keys
+-- an aggregate's column is after the keys
 record IsAgg (def : ViewDef) (c : ℕ) : Type 0 where
   pub behind : length def.fold.keys ≤ c
   pub within : c - length def.fold.keys < length def.fold.aggs

@@ -44,7 +44,7 @@ use Rattle.hier_agg.specs.Upper.{row_of, rows_within}
 use Rattle.hier_agg.proofs.Held.{any_reached}
 use Rattle.hier_agg.proofs.Showing.{wider_buckets_show_the_composed_fold}
 
--- ---- the buckets asked for
+-- ---- the buckets requested
 
 all_among : (P : ℤ → Type 0) (bs : List ℤ) → ((c : ℤ) → among c bs ≡ true → P c) → AllByRecursion P bs
 all_among P [] h = tt
@@ -55,7 +55,7 @@ all_among P (b ∷ bs) h =
 all_asked : (w : Width) → AllByRecursion (λ x. is_asked w all_starts x ≡ true) (buckets_in w all_starts)
 all_asked w = all_among (λ x. is_asked w all_starts x ≡ true) (buckets_in w all_starts) (λ c e. sym (among-buckets_in w all_starts c) ∙ e)
 
--- the bucket of a time is asked for
+-- the bucket of a time is requested
 time_asked : (w : Width) (t : ℤ) → IsWidth w → is_time t ≡ true → is_asked w all_starts (bucket_of w t) ≡ true
 time_asked w t wide e =
     let low : min_time ≤ℤ t = int_le-true min_time t (and_first (int_le min_time t) (int_le t max_time) e) in
@@ -86,7 +86,7 @@ groups_asked fold found wide e =
     (occurring_buckets fold found)
     (all-once int_cmp int_cmp_total (λ x. is_asked fold.width all_starts x ≡ true) (map (λ row. bucket_of fold.width row.at) (filter (λ row. passes_all row fold.tests) found)) (times_asked fold found wide e))
 
--- what all buckets hold, one after another, is what the fold shows
+-- the groups of all buckets, in order, are what the fold shows
 cells_flat : (fold : Fold) (found : List Row) (bs : List ℤ) → map (cells_of fold) (flat_map (groups_in fold found) bs) ≡ flat_map (λ x. scratch_of fold x found) bs
 cells_flat fold found [] = refl
 cells_flat fold found (b ∷ bs) =
@@ -106,7 +106,7 @@ all_scratch fold found wide e =
 pub group_starts : (fold : Fold) (b : ℤ) (found : List Row) (keys : List (List (Option ℤ))) → AllByRecursion (λ g. g.start ≡ b) (map (group_at fold b found) keys)
 group_starts fold b found keys = all-map (λ g. g.start ≡ b) (group_at fold b found) (λ q. refl) keys
 
--- so do those that an image has saved of it
+-- so do its saved groups in an image
 pub saved_start : (gs : List SavedGroup) (b : ℤ) → AllByRecursion (λ g. g.start ≡ b) (groups_among gs b)
 saved_start [] b = tt
 saved_start (g ∷ gs) b =
@@ -114,7 +114,7 @@ saved_start (g ∷ gs) b =
     (λ e. rw e ((Decides-int_eq g.start b).0 e, saved_start gs b))
     (λ e. rw e (saved_start gs b))
 
--- and so does what stood in it
+-- and so do its earlier groups
 pub stood_start : (n : ℕ) (def : ViewDef) (g : History) (s : ℕ) (b : ℤ) → AllByRecursion (λ x. x.start ≡ b) (groups_at_last n def g s b)
 stood_start n def start s b = group_starts def.fold b (bucket_rows def.fold b (rows def.table start)) (key_lists def.fold (bucket_rows def.fold b (rows def.table start)))
 stood_start n def (resumed i) s b =
@@ -124,7 +124,7 @@ stood_start n def (resumed i) s b =
     (λ e. rw e (group_starts def.fold b (bucket_rows def.fold b here) (key_lists def.fold (bucket_rows def.fold b here))))
 stood_start n def (g ▸ e) s b = group_starts def.fold b (bucket_rows def.fold b (rows def.table (g ▸ e))) (key_lists def.fold (bucket_rows def.fold b (rows def.table (g ▸ e))))
 
--- what a bucket outside the wider one shows isn't within it
+-- a bucket outside the wider one shows nothing within it
 none_within : (w : Width) (b x : ℤ) (fold : Fold) (gs : List Group) → AllByRecursion (λ g. g.start ≡ x) gs → holds w b x ≡ false → rows_within w b (map (cells_of fold) gs) ≡ []
 none_within w b x fold [] starts out = refl
 none_within w b x fold (g ∷ gs) starts out =

@@ -21,7 +21,7 @@ use Rattle.hier_agg.specs.Plans.{nests}
 use Rattle.hier_agg.specs.Stale.{AreUpperRanges, AreWholeRanges, holds_stale, reaches}
 use Rattle.hier_agg.proofs.Nesting.{starts_nest}
 
--- a wider bucket holds what lies in a stale bucket that lies in it
+-- a wider bucket holds the numbers of a stale bucket inside it
 pub any_reached : (w : Width) (b x : ℤ) → holds w b x ≡ true → (spans : List Span) → lies_in spans x ≡ true → holds_stale w spans b ≡ true
 any_reached w b x inside [] e = e
 any_reached w b x inside (s ∷ spans) e =
@@ -44,7 +44,7 @@ lies_later : (s : Span) (spans : List Span) (x : ℤ) → lies_in spans x ≡ tr
 lies_later s spans x e = ap (λ t. in_span s x || t) e ∙ or-true (in_span s x)
 
 module _ (lower upper : Width) (low : IsWidth lower) (up : IsWidth upper) (e : nests lower upper ≡ true) (b : ℤ) (at : is_bucket upper b ≡ true) where
-  -- the greater of the starts of the bucket and of a range that it holds some of
+  -- the greater of the starts of the bucket and of a range that it overlaps
   reached_is_held : (s : Span) (spans : List Span) → IsWholeRange lower s → reaches upper b s ≡ true → (x : ℤ) × IsHeld lower upper (s ∷ spans) b x
   reached_is_held s spans whole r =
       let first : s.lo <ℤ (b +ℤ upper.step) = int_lt-true s.lo (b +ℤ upper.step) (and_first (int_lt s.lo (b +ℤ upper.step)) (int_lt b s.hi) r) in
@@ -83,7 +83,7 @@ stale_is_held lower upper spans b x h = any_reached upper b x h.within spans h.s
 
 -- ---- the same width
 
--- a bucket holds some of a range of whole buckets exactly where it lies in it
+-- a bucket overlaps a range of whole buckets if and only if it lies in it
 whole_reached : (w : Width) (s : Span) (b : ℤ) → IsWidth w → IsWholeRange w s → is_bucket w b ≡ true → reaches w b s ≡ in_span s b
 whole_reached w s b wide whole at = same_test (reaches w b s) (in_span s b) to back
   where

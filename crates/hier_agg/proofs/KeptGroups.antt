@@ -71,7 +71,7 @@ parts_read (a ∷ aggs) (p ∷ parts) e =
     ap (λ d. d ∷ map shown_or_null (map value_of (shown_each aggs parts))) (part_read a.fun p both.0)
     ∙ ap (λ ds. datum_of a.fun p ∷ ds) (parts_read aggs parts both.1)
 
--- what adds up shows one value as it is
+-- an adding function shows a single value unchanged
 alone_shown : (fun : Fun) (v : Option ℤ) → datum_of (added_by fun) (needed_summary (added_by fun) (summary (v ∷ []))) ≡ shown_or_null v
 alone_shown CountAll None = refl
 alone_shown CountAll (Some v) = ap Int (omega (arith, ints))
@@ -121,7 +121,7 @@ groups_kept lower plan width keys tests =
       tests = none_of plan.tests (eqb-true (length plan.tests) 0 tests);
     }
 
--- what a group shows behind its bucket
+-- what a group shows after its bucket
 abbrev pub columns : Fold → Group → List Datum
 columns lower group = map shown_or_null group.keys ++ shown_each lower.aggs group.parts
 
@@ -144,7 +144,7 @@ module _ (lower : Fold) (plan : UpperPlan) (wide : IsWidth lower.width) (keeps :
   same_start : (group : Group) → IsGroupOf lower group → (again lower plan group).start ≡ group.start
   same_start group is = ap (λ w. bucket_of w group.start) keeps.width ∙ bucket_of-bucket lower.width group.start wide is.start
 
-  -- its bucket and its keys are shown again, and its columns as they are read
+  -- its bucket, its keys and its columns are shown unchanged
   pub shows_again : (group : Group) → IsGroupOf lower group → row_shown (shape_of lower plan) (again lower plan group) ≡ Int group.start ∷ (map shown_or_null group.keys ++ map shown_or_null (map (cell_at (columns lower group)) plan.cols))
   shows_again group is =
       let added = map (added_at lower) plan.cols in
@@ -178,7 +178,7 @@ module _ (lower : Fold) (plan : UpperPlan) (wide : IsWidth lower.width) (keeps :
       let passed : row_passes plan (cells_of lower g) ≡ true = ap (λ ts. cells_pass ts (columns_of (cells_of lower g))) keeps.tests in
       rw passed (ap (λ hs. again lower plan g ∷ hs) (all_pass gs))
 
-  -- each group is shown again by itself
+  -- each group is shown unchanged
   pub rows_alone : (rows : List (List Datum)) → (are : AreRowsOf lower rows) → upper_rows lower plan rows ≡ rows_shown (shape_of lower plan) (map (again lower plan) are.groups)
   rows_alone rows are =
       let datum_of : List (List Datum) = map (cells_of lower) are.groups in

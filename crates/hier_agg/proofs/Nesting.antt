@@ -30,7 +30,7 @@ multiple_of_multiple m n k p q =
     let n_is = whole_steps n k q in
     ap (λ x. x % k) (m_is ∙ ap (λ x. x * (m / n)) n_is ∙ mul_assoc k (n / k) (m / n)) ∙ mul-mod_right k ((n / k) * (m / n))
 
--- what a step divides, each step that divides it divides
+-- a number that a step divides is also divided by each step that divides that one
 divided_twice : (z d e : ℤ) → pos 0 <ℤ d → pos 0 <ℤ e → int_rem_euclid z d ≡ pos 0 → int_rem_euclid d e ≡ pos 0 → int_rem_euclid z e ≡ pos 0
 divided_twice z d e hd he p q =
     let n = positive_is d hd in
@@ -46,7 +46,7 @@ divided_twice z d e hd he p q =
     let z_is : z +ℤ pos ((unsigned_abs z * (n.0 / k.0)) * k.0) ≡ pos x.0 = ap (λ y. z +ℤ pos y) (sym moved) ∙ x.1 in
     int_rem_euclid_is z e k.0 (unsigned_abs z * (n.0 / k.0)) x.0 k.1 k.2 z_is ∙ ap pos (multiple_of_multiple x.0 n.0 k.0 whole steps)
 
--- what a step divides together with what it divides
+-- a step that divides two numbers divides their sum
 divided_sum : (y z d : ℤ) → pos 0 <ℤ d → int_rem_euclid y d ≡ pos 0 → int_rem_euclid z d ≡ pos 0 → int_rem_euclid (y +ℤ z) d ≡ pos 0
 divided_sum y z d h p q =
     let n = positive_is d h in

@@ -1,4 +1,4 @@
--- Columns that are read one after the other.
+-- Columns that are read in order.
 use Rattle.std.proofs.Common.{◌≡◌, ℕ, zero, suc, ◌==◌, List, [], ◌∷◌, ◌++◌, map, length, drop, get_or, true, refl, ap, ◌∙◌, arith}
 use Rattle.std.proofs.lemmas.Bool.{and_parts, eqb-true}
 use Rattle.hier_agg.specs.Wholes.{run_from}
@@ -15,7 +15,7 @@ read_first [] (suc n) x d rest e = absurd (cc e)
 read_first (y ∷ all) zero x d rest e = cc e
 read_first (y ∷ all) (suc n) x d rest e = read_first all n x d rest e
 
--- what stands from a place on is read at the numbers from it on
+-- the items from a place on are read at the numbers from it on
 pub read_run : {X : Type 0} (d : X) (all : List X) (n : ℕ) (ks : List ℕ) (back others : List X) → drop n all ≡ back ++ others → run_from n ks ≡ true → length ks ≡ length back → map (λ k. get_or all k d) ks ≡ back
 read_run d all n [] [] others is run same = refl
 read_run d all n [] (x ∷ back) others is run same = absurd (omega (arith, same))

@@ -1,4 +1,4 @@
--- Grouping groups more coarsely: what one more group makes of it, and that it gives the groups of the rows.
+-- Grouping groups more coarsely: the effect of one more group, and that the result is the groups of the rows.
 use Rattle.std.proofs.Common.{◌≡◌, ℕ, zero, suc, ◌-◌, ◌<◌, Bool, true, false, cond, ◌&&◌, List, [], ◌∷◌, map, length, get_or, Option, None, ℤ, sym, refl, ap, ◌∙◌, arith}
 use Rattle.std.specs.List.{AllByRecursion}
 use Rattle.std.specs.declared.cmp.Ordering.TheVariants.{Equal}
@@ -68,7 +68,7 @@ tied_same g h p q = rw (p, q) (tied_itself group_cmp_total h)
 -- ---- one group more
 
 module _ (lower : Fold) (plan : UpperPlan) where
-  -- groups that have taken in one more, where its keys pass
+  -- groups with one more added, if its keys pass
   abbrev pub took : Group → List Group → List Group
   took g groups = cond (keys_pass plan.tests g.keys) (with_group (coarse lower plan g) groups) groups
 
@@ -87,7 +87,7 @@ module _ (lower : Fold) (plan : UpperPlan) where
       both false true = refl
       both false false = refl
 
-  -- two groups of one place, coarse and merged or merged and coarse
+  -- two groups of one place: making them coarse and merging them commute
   coarse-merged : (g h : Group) → length g.parts ≡ length h.parts → coarse lower plan (merge_of g h) ≡ merge_of (coarse lower plan g) (coarse lower plan h)
   coarse-merged g h e =
       let made : List Summary → Group = λ ps. record { start = bucket_of plan.width g.start; keys = map (λ k. get_or g.keys k None) plan.keys; parts = ps } in
@@ -104,7 +104,7 @@ module _ (lower : Fold) (plan : UpperPlan) where
       rw (s, t) (ap (λ m. with_group m groups) (coarse-merged g h same) ∙ with_group-twice (coarse lower plan g) (coarse lower plan h) groups tied))
       (λ t. let s : keys_pass plan.tests g.keys ≡ false = tests ∙ t in rw (s, t) refl)
 
-  -- a group put into its place among groups, and the groups grouped more coarsely
+  -- a group inserted in its place among groups, and the groups grouped more coarsely
   regroup-with_group : (n : ℕ) (g : Group) (gs : List Group) → length g.parts ≡ n → HaveParts n gs → regroup lower plan (with_group g gs) ≡ took g (regroup lower plan gs)
   regroup-with_group n g [] p h = regroup-more g []
   regroup-with_group n g (x ∷ xs) p h =
@@ -145,7 +145,7 @@ module _ (lower : Fold) (row : Row) where
         ∙ ap (λ ks. made (bucket_of plan.width row.at) ks parts) (keys_are plan.keys fits.keys)
         ∙ ap (λ ps. made (bucket_of plan.width row.at) (keys_of (composed_fold lower plan).keys row) ps) (parts_are plan.cols fits.cols)
 
-    -- the composed fold takes in a row that passes as its group is taken in
+    -- the composed fold adds a row that passes as its group is added
     took_row : (groups : List Group) → passes_all row lower.tests ≡ true → took lower plan (row_group lower row) groups ≡ groups_with_row (composed_fold lower plan) row groups
     took_row groups e =
         let tests : keys_pass plan.tests (keys_of lower.keys row) ≡ passes_all row (composed_fold lower plan).tests =

@@ -1,4 +1,4 @@
--- What a roll-up shows: the rows of the composed fold, and those of each wider bucket.
+-- The answer of a roll-up: the rows of the composed fold, and those of each wider bucket.
 use Rattle.std.proofs.Common.{◌≡◌, ℕ, zero, suc, ◌-◌, ◌<◌, ◌≤◌, Bool, true, false, cond, ◌&&◌, List, [], ◌∷◌, ◌++◌, map, filter, length, get_or, Option, Some, None, ℤ, sym, refl, ap, ◌∙◌, subst, arith}
 use Rattle.std.specs.List.{AllByRecursion}
 use Rattle.std.specs.Ordering.{int_eq}
@@ -207,7 +207,7 @@ module _ (lower : Fold) (plan : UpperPlan) (rows : List Row) (fits : PlanFits lo
 pub roll_ups_show_the_composed_fold : (lower : Fold) (plan : UpperPlan) (rows : List Row) → PlanFits lower plan → upper_rows lower plan (fold_rows lower rows) ≡ fold_rows (composed_fold lower plan) rows
 roll_ups_show_the_composed_fold lower plan rows fits = shows_all lower plan rows fits
 
--- ---- a bucket takes no notice of rows elsewhere
+-- ---- rows elsewhere have no effect on a bucket
 
 filter_twice : {X Y : Type 0} (p q : Y → Bool) (f : X → Y) (xs : List X) → filter (λ y. p y && q y) (map f xs) ≡ filter q (map f (filter (λ x. p (f x)) xs))
 filter_twice p q f [] = refl
@@ -222,7 +222,7 @@ rows_elsewhere fold b found = ap (group_rows fold b) (filter_twice (λ row. hold
 
 -- ---- the rows of one bucket
 
--- a bucket holds the start of another exactly where it is the same
+-- a bucket holds the start of another if and only if it is the same
 starts_held : (w : Width) (b x : ℤ) → IsWidth w → is_bucket w b ≡ true → is_bucket w x ≡ true → holds w b x ≡ int_eq x b
 starts_held w b x wide at start =
     same_test (holds w b x) (int_eq x b)

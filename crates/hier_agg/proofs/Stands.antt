@@ -73,14 +73,14 @@ module _ (lower : Fold) (plan : UpperPlan) where
   rows_stand [] = tt
   rows_stand (cells ∷ rows) = (row_stands cells, rows_stand rows)
 
-  -- what is gathered shows the rows of the upper answer
+  -- the groups gathered show the rows of the upper answer
   pub gathered_is_upper : IsWidth plan.width → (rows : List (List Datum)) → rows_shown (shape_of lower plan) (with_rows (row_passes plan) (row_group_of plan (shape_of lower plan)) rows []) ≡ upper_rows lower plan rows
   gathered_is_upper wide rows =
       gathered_show (upper_fold lower plan) (shape_of lower plan) wide (row_passes plan) (row_group_of plan (shape_of lower plan)) row_of rows (funs_stand lower plan.cols) (rows_stand rows)
 
 -- ---- a wider bucket
 
--- the numbers from the start of a bucket on, as far as its step goes, are of that bucket
+-- the numbers from the start of a bucket on, up to its step, are in that bucket
 pub numbers_held : (w : WidthValue) (t start end : ℤ) → IsWidth w → start ≡ bucket_of w t → end ≡ start +ℤ w.step → (u : ℤ) → start ≤ℤ u → u <ℤ end → bucket_of w u ≡ start
 numbers_held w t start end wide is ends u low high =
     let own : is_bucket w start ≡ true = ap (is_bucket w) is ∙ is_bucket-bucket_of w t wide in

@@ -16,7 +16,7 @@ use Rattle.hier_agg.specs.Stale.{AreApart, AreWholeRanges, AreUpperRanges, reach
 -- ---- one range
 
 module _ (w : Width) (wide : IsWidth w) where
-  -- a wider bucket lies in a widened range exactly where it holds some of the range
+  -- a wider bucket lies in a widened range if and only if it overlaps the range
   reached : (s : Span) (b : ℤ) → is_bucket w b ≡ true → in_span (widened_range w s) b ≡ reaches w b s
   reached s b start = same_test (in_span (widened_range w s) b) (reaches w b s) to back
     where
@@ -80,7 +80,7 @@ lies_before r (t ∷ ts) b h =
     (λ e. let reach : t.lo ≤ℤ r.hi = grind (arith, ints, e) in
     rw e (ap (λ x. x || lies_in ts b) (merged_span r t b h.0 reach) ∙ or_assoc (in_span r b) (in_span t b) (lies_in ts b)))
 
--- of two numbers the greater is one of them
+-- the greater of two numbers is one of them
 max_is : (P : ℤ → Type 0) (a b : ℤ) → P a → P b → P (int_max a b)
 max_is P a b p q =
     by_test (int_lt a b)

@@ -1,4 +1,4 @@
--- Rows that are taken in one by one, and whose groups are written in order.
+-- Rows that are added one by one, with their groups written in order.
 use Rattle.std.proofs.Common.{◌≡◌, ◌∙◌, List, [], ◌∷◌, Option, Some, None, length, length-append, sym, ap, arith}
 use Rattle.std.specs.Prelude.{IfSome}
 use Rattle.ts_num.specs.declared.values.Datum.{Datum}
@@ -12,11 +12,11 @@ use Rattle.cell_groups.proofs.Gathering.{rows_step}
 use Rattle.hier_agg.specs.declared.plans.UpperPlan.{UpperPlan}
 use Rattle.hier_agg.specs.Taken.{row_group_of, row_passes}
 
--- what rows make of groups
+-- groups after more rows
 abbrev pub made_of : UpperPlan → Shape → List (List Datum) → List Group → List Group
 made_of plan shape rows groups = with_rows (row_passes plan) (row_group_of plan shape) rows groups
 
--- the groups of the rows before those that are left are written, and make the whole with these
+-- the groups of the rows read so far are written, and with the rows left they make up the whole
 pub record AreOnTheWay (plan : UpperPlan) (shape : Shape) (all left : List (List Datum)) (rows : List (List Datum)) (last : Option CellGroup) : Type 0 where
   pub groups : List Group
   pub written : AreWritten shape groups rows last
@@ -43,7 +43,7 @@ module _ (plan : UpperPlan) (shape : Shape) (all : List (List Datum)) where
   way_ends left rows shown last is end w =
       end w.groups w.written ∙ ap (rows_shown shape) (sym (ap (λ ls. made_of plan shape ls w.groups) is) ∙ w.whole)
 
--- where no group was written there is no last one
+-- if no group was written, there is no last one
 pub none_last : (shape : Shape) (rows : List (List Datum)) (last : Option CellGroup) → AreWritten shape [] rows last → IfSome last (HasTallies shape.aggs)
 none_last shape rows None w = tt
 none_last shape rows (Some g) w = absurd (omega (arith, simp length-append at (ap length w.all)))

@@ -9,20 +9,21 @@ use Rattle.hier_agg.specs.declared.plans.UpperPlan.{UpperPlan}
 use Rattle.hier_agg.specs.Plans.{agg_at, is_additive}
 use Rattle.hier_agg.specs.Wholes.{are_all, same_width}
 
--- what adds up this column shows one cell of it as it is: the column is an aggregate's, and no mean
+-- the total of this column shows a single cell unchanged: the column is an aggregate's, and not a mean
 abbrev pub keeps_its_cell : Fold → ℕ → Bool
 keeps_its_cell lower c =
     nat_le (length lower.keys) c && nat_lt (c - length lower.keys) (length lower.aggs)
     && is_additive (agg_at lower c).fun
 
--- a plan keeps the groups of a fold: its width, all its keys, and no test. Of the aggregates it takes any but means, in
--- any order
+-- a plan keeps the groups of a fold: its width, all its keys, and no test. It takes any aggregates except
+-- means, in any order
 abbrev pub takes_groups : Fold → UpperPlan → Bool
 takes_groups lower plan =
     same_width plan.width lower.width && are_all 0 (length lower.keys) plan.keys && length plan.tests == 0
     && list_all (keeps_its_cell lower) plan.cols
 
--- the places of the cells that a plan takes of a row: its bucket, then its keys, then what it adds up
+-- the places of the cells that a plan takes from a row: its bucket, then its keys, then the columns that it
+-- adds up
 abbrev pub chosen_places : UpperPlan → List ℕ
 chosen_places plan = 0 ∷ (map suc plan.keys ++ map suc plan.cols)
 

@@ -29,7 +29,8 @@ use Rattle.hier_agg.specs.Wholes.{AreRowsOf, takes_all}
 
 -- ---- buckets
 
--- where widths nest, the bucket of a time's bucket is the bucket of the time, and the first bucket lies in the first
+-- if widths nest, the bucket of a time's bucket is the bucket of the time, and the first bucket lies in the
+-- first
 pub record BucketsNest : Type 0 where
   pub buckets :
       (lower upper : Width) (t : ℤ) → IsWidth lower → IsWidth upper → nests lower upper ≡ true
@@ -52,8 +53,8 @@ RollUpsShowTheComposedFold =
     (lower : Fold) (plan : UpperPlan) (rows : List Row) → PlanFits lower plan
     → upper_rows lower plan (fold_rows lower rows) ≡ fold_rows (composed_fold lower plan) rows
 
--- a wider bucket in which an answer shows the rows of the lower fold shows the aggregation from scratch under the
--- composed fold, whatever the answer shows elsewhere
+-- a wider bucket in which an answer shows the rows of the lower fold shows the aggregation from scratch under
+-- the composed fold, for any answer elsewhere
 abbrev pub WiderBucketsShowTheComposedFold : Type 0
 WiderBucketsShowTheComposedFold =
     (lower : Fold) (plan : UpperPlan) (rows : List Row) (found : List (List Datum)) (b : ℤ) → PlanFits lower plan
@@ -61,8 +62,8 @@ WiderBucketsShowTheComposedFold =
     → rows_within plan.width b found ≡ rows_within plan.width b (fold_rows lower rows)
     → rows_within plan.width b (upper_rows lower plan found) ≡ scratch_of (composed_fold lower plan) b rows
 
--- so a roll-up whose composed fold is the lower one itself, which has its width, all its keys and columns and no test,
--- shows of a bucket what the lower answer shows of it, of whatever rows that is; and it names the same ranges stale
+-- a roll-up with the lower width, all keys and columns and no test has the lower fold as its composed fold. So
+-- it shows for each bucket what the lower answer shows, for any rows, and names the same ranges stale
 pub record WholeRollUpsShowTheLowerAnswer : Type 0 where
   pub rows :
       (lower : Fold) (plan : UpperPlan) (rows : List Row) (found : List (List Datum)) (b : ℤ) → PlanFits lower plan
@@ -87,7 +88,7 @@ pub record IsHeld (lower upper : Width) (ranges : List Span) (b x : ℤ) : Type 
   pub within : holds upper b x ≡ true
   pub stale : lies_in ranges x ≡ true
 
--- a wider bucket holds a stale one exactly where there is a stale bucket in it
+-- a wider bucket holds a stale one if and only if there is a stale bucket in it
 pub record StaleBucketsAreHeld : Type 0 where
   pub there :
       (lower upper : Width) (stale : List Span) (b : ℤ) → IsWidth lower → IsWidth upper → nests lower upper ≡ true
@@ -122,7 +123,7 @@ WholeRollUpsAreTheLowerAnswer =
     (lower : Fold) (plan : UpperPlan) (shown : Answer) → IsWidth lower.width → takes_all lower plan ≡ true
     → AreRowsOf lower shown.rows → AreWholeRanges lower.width shown.stale → upper_answer lower plan shown ≡ shown
 
--- and by a plan that keeps its groups it is that answer with cells chosen
+-- and the roll-up by a plan that keeps its groups is that answer with cells chosen
 abbrev pub RollUpsOfGroupsChooseCells : Type 0
 RollUpsOfGroupsChooseCells =
     (lower : Fold) (plan : UpperPlan) (shown : Answer) → IsWidth lower.width → takes_groups lower plan ≡ true
@@ -136,8 +137,9 @@ RollUpsOfGroupsChooseCells =
 abbrev pub IsShownWhole : ℕ → ViewDef → History → Width → ℤ → Type 0
 IsShownWhole n def h w b = def.only ≡ true → is_below ((b +ℤ w.step) -ℤ pos 1) (watermark n def h) ≡ true
 
--- at every history, in the roll-up of the answer of an aggregate over all its buckets, a wider bucket that isn't named
--- stale and is shown whole shows the aggregation from scratch of the table's rows under the composed fold
+-- at every history, take the roll-up of the answer of an aggregate over all its buckets. A wider bucket that it
+-- doesn't name stale and shows whole shows the aggregation from scratch of the table's rows under the composed
+-- fold
 abbrev pub FreshBucketsShowTheComposedFold : Type 0
 FreshBucketsShowTheComposedFold =
     (n : ℕ) (def : ViewDef) (h : History) (plan : UpperPlan) (upper : Answer) (b : ℤ) → PlanFits def.fold plan

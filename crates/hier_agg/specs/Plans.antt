@@ -1,4 +1,5 @@
--- Plans of roll-ups: which columns are there, which functions add up, which widths fit, and the composed fold.
+-- Plans of roll-ups: the columns that exist, the functions that add up, the widths that fit, and the composed
+-- fold.
 use Rattle.std.specs.Prelude.{◌≡◌, ℕ, ◌-◌, ◌<◌, ◌≤◌, Bool, true, false, ◌&&◌, pos, ◌-ℤ◌, ◌++◌, length, map, slice_index_or}
 use Rattle.std.specs.Int.{int_rem_euclid}
 use Rattle.std.specs.List.{AllByRecursion}
@@ -21,11 +22,11 @@ use Rattle.hier_agg.specs.declared.plans.UpperPlan.{UpperPlan}
 abbrev pub all_starts : Span
 all_starts = record { lo = least; hi = greatest }
 
--- the query of whose answer a roll-up is made: the aggregate over all its buckets
+-- the query whose answer a roll-up groups: the aggregate over all its buckets
 abbrev pub lower_query : UpperPlan → Query
 lower_query plan = Aggregate plan.view all_starts
 
--- the column of the table that a key of the aggregate shows
+-- the table's column that is a key of the aggregate
 abbrev pub key_at : Fold → ℕ → ℕ
 key_at lower k = slice_index_or lower.keys k 0
 
@@ -33,13 +34,13 @@ key_at lower k = slice_index_or lower.keys k 0
 abbrev pub row_count : Agg
 row_count = record { fun = CountAll; col = 0 }
 
--- what a column after the keys aggregates
+-- the aggregate of a column after the keys
 abbrev pub agg_at : Fold → ℕ → Agg
 agg_at lower c = slice_index_or lower.aggs (c - length lower.keys) row_count
 
 -- ---- what adds up
 
--- what a function shows can be added up
+-- the values of a function can be added up
 abbrev pub is_additive : Fun → Bool
 is_additive CountAll = true
 is_additive Count = true
@@ -48,7 +49,7 @@ is_additive Min = true
 is_additive Max = true
 is_additive Avg = false
 
--- the function that adds up what a function shows; an average has none, and gets the sum as a placeholder
+-- the function that adds up the values of a function; an average has none, and gets the sum as a placeholder
 abbrev pub added_by : Fun → Fun
 added_by CountAll = Sum
 added_by Count = Sum
@@ -59,8 +60,8 @@ added_by Avg = Sum
 
 -- ---- what fits
 
--- the buckets of one width each lie in one bucket of another: the steps divide, and so does what lies between the
--- offsets
+-- the buckets of one width each lie in one bucket of another: one step divides the other, and the difference of
+-- the offsets
 abbrev pub nests : WidthValue → WidthValue → Bool
 nests lower upper =
     int_eq (int_rem_euclid upper.step lower.step) (pos 0)

@@ -1,4 +1,4 @@
--- Laws of what is read, each in one sentence.
+-- Laws of reading statements, each in one sentence.
 use Rattle.std.specs.Prelude.{◌≡◌, ℕ, true, map, None}
 use Rattle.ts_bucket.specs.Bucket.{IsWidth}
 use Rattle.ts_model.specs.Answers.{can_ask}
@@ -14,11 +14,11 @@ use Rattle.hier_agg.specs.Reads.{plan_of, upper_read}
 use Rattle.hier_agg.specs.Refusals.{upper_refusal}
 use Rattle.hier_agg.specs.Upper.{upper_fold}
 
--- a plan fits an aggregate whose width is one
+-- a plan fits an aggregate with a valid width
 abbrev pub FitsWhereSound : UpperPlan → ViewDef → Type 0
 FitsWhereSound plan def = IsWidth def.fold.width → PlanFits def.fold plan
 
--- the aggregate of a plan that is read is in the roster, it can be queried, and the plan fits it
+-- the aggregate of a plan that was read is in the roster, it can be queried, and the plan fits it
 pub record PlansFit : Type 0 where
   pub fits :
       (pos : ℕ) (roster : Roster) (stmt : Stmt) (plan : UpperPlan) → upper_read pos roster stmt ≡ Plan plan
@@ -27,7 +27,7 @@ pub record PlansFit : Type 0 where
       (pos : ℕ) (roster : Roster) (stmt : Stmt) (plan : UpperPlan) → upper_read pos roster stmt ≡ Plan plan
       → can_ask roster (lower_query plan) ≡ true
 
--- where nothing is refused, the fold over the lower answer has the functions that are written
+-- if nothing is refused, the fold over the lower answer has the functions in the statement
 abbrev pub FunctionsAddUp : Type 0
 FunctionsAddUp =
     (pos n : ℕ) (def : ViewDef) (f : NamedFold) → upper_refusal pos def f ≡ None

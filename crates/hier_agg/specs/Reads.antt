@@ -1,4 +1,4 @@
--- What a statement asks of an aggregate: a plan, or the first refusal, or nothing if it is no roll-up.
+-- The request of a statement to an aggregate: a plan, or the first refusal, or nothing if it isn't a roll-up.
 use Rattle.std.specs.Prelude.{◌≡◌, ℕ, List, map, slice_index_or, Option, Some, None, unwrap_or, Result, Ok, Err, ⊤}
 use Rattle.ts_schema.specs.declared.conditions.Test.{Test}
 use Rattle.ts_model.specs.declared.outcomes.Refusal.{Refusal}
@@ -56,12 +56,12 @@ plan_of n def f = record {
 abbrev pub view_numbered : Roster → ℕ → ViewDef
 view_numbered roster n = slice_index_or roster.views n no_view
 
--- the first refusal, or the plan where there is none
+-- the first refusal, or the plan if there is none
 abbrev pub read_as : Option Refusal → UpperPlan → UpperRead
 read_as None plan = reads.Plan plan
 read_as (Some r) plan = reads.Refused r
 
--- what a fold asks of what was found: it is a roll-up where that is an aggregate
+-- the request of a fold over what was found: it is a roll-up if that is an aggregate
 abbrev pub fold_read : ℕ → Roster → NamedFold → Found → UpperRead
 fold_read pos roster f found.None = reads.NotUpper
 fold_read pos roster f (found.Plain n) = reads.NotUpper
@@ -69,7 +69,7 @@ fold_read pos roster f (found.Hyper n) = reads.NotUpper
 fold_read pos roster f (found.View n) =
     read_as (upper_refusal pos (view_numbered roster n) f) (plan_of n (view_numbered roster n) f)
 
--- what a statement asks: only SELECT time_bucket can be a roll-up
+-- the request of a statement: only SELECT time_bucket can be a roll-up
 abbrev pub upper_read : ℕ → Roster → Stmt → UpperRead
 upper_read pos roster (stmts.Table name cols) = reads.NotUpper
 upper_read pos roster (stmts.Hyper table col interval) = reads.NotUpper
@@ -90,7 +90,7 @@ upper_read pos roster (stmts.Buckets fold) = fold_read pos roster fold (found_in
 upper_read pos roster (stmts.Calendar number unit fold) = reads.NotUpper
 upper_read pos roster (stmts.Rows table tests) = reads.NotUpper
 
--- that was read, or there was no memory
+-- this was read, or memory ran out
 abbrev pub IsRead : UpperRead → UpperRead → Type 0
 IsRead read (reads.Plan plan) = read ≡ reads.Plan plan
 IsRead read (reads.Refused r) = read ≡ reads.Refused r

@@ -41,7 +41,7 @@ agg_named def name = agg_place def (view_column_of def name)
 
 -- ---- functions
 
--- what a function shows is summed up by a sum
+-- the values of a function are added up by a sum
 abbrev pub is_summed : Fun → Bool
 is_summed CountAll = true
 is_summed Count = true
@@ -66,7 +66,7 @@ is_most Min = false
 is_most Max = true
 is_most Avg = false
 
--- a function fits a column that another one shows: it adds up what that shows
+-- a function fits a column of another function: it adds up the values of that one
 abbrev pub fits : Fun → Fun → Bool
 fits CountAll f = false
 fits Count f = false
@@ -77,31 +77,32 @@ fits Avg f = false
 
 -- ---- refusals
 
--- one key after so many columns: it is a key, and there aren't too many columns
+-- one key after this many columns: it is a key, and there aren't too many columns
 abbrev pub key_refusal : ℕ → ViewDef → ℕ → ℕ → List ℕ → Option Refusal
 key_refusal pos def count others name =
     refusal_if_none pos no_column (key_named def name) ⊳ marked_refusal pos too_many count (nat_le most_columns others)
 
--- keys from left to right, after so many columns
+-- keys from left to right, after this many columns
 abbrev pub keys_refusal : ℕ → ViewDef → ℕ → ℕ → List (List ℕ) → Option Refusal
 keys_refusal pos def count others [] = None
 keys_refusal pos def count others (k ∷ ks) =
     key_refusal pos def count others k ⊳ keys_refusal pos def count (raised_by 1 others) ks
 
--- the argument of a function, or the function where it has none: it is an aggregate's column, and the function fits
--- it
+-- the argument of a function, or the function if it has none: it is an aggregate's column, and the function
+-- fits it
 abbrev pub argument_refusal : ℕ → ViewDef → Fun → Option (List ℕ) → Option Refusal
 argument_refusal pos def fun None = refusal_if pos bad_rollup true
 argument_refusal pos def fun (Some name) =
     refusal_if_none pos no_column (agg_named def name)
     ⊳ refusal_if pos bad_rollup (not (fits fun (agg_at def.fold (unwrap_or (agg_named def name) 0)).fun))
 
--- one aggregate after so many columns: there aren't too many at its function, and then its argument
+-- one aggregate after this many columns: there aren't too many at its function, and then its argument is
+-- checked
 abbrev pub agg_refusal : ℕ → ViewDef → ℕ → ℕ → NamedAgg → Option Refusal
 agg_refusal pos def count others a =
     marked_refusal pos too_many count (nat_le most_columns others) ⊳ argument_refusal pos def a.fun a.col
 
--- aggregates from left to right, after so many columns
+-- aggregates from left to right, after this many columns
 abbrev pub aggs_refusal : ℕ → ViewDef → ℕ → ℕ → List NamedAgg → Option Refusal
 aggs_refusal pos def count others [] = None
 aggs_refusal pos def count others (a ∷ left) =

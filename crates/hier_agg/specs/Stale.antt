@@ -7,7 +7,7 @@ use Rattle.ts_bucket.specs.Ranges.{IsWholeRange, RiseApart, lies_in}
 use Rattle.ts_bucket.specs.declared.spans.Span.{Span}
 use Rattle.ts_bucket.specs.declared.widths.Width.{Width}
 
--- ranges of whole buckets that aren't empty, rise and don't touch, as those of every answer
+-- ranges of whole buckets that aren't empty, rise and don't touch, like those of every answer
 pub record AreWholeRanges (w : Width) (ranges : List Span) : Type 0 where
   pub whole : AllByRecursion (IsWholeRange w) ranges
   pub rising : RiseApart ranges
@@ -17,7 +17,7 @@ pub record AreApart (ranges : List Span) : Type 0 where
   pub some : AllByRecursion (λ s. s.lo <ℤ s.hi) ranges
   pub rising : RiseApart ranges
 
--- the bucket that starts at b holds some of a range
+-- the bucket that starts at b overlaps a range
 abbrev pub reaches : Width → ℤ → Span → Bool
 reaches w b range = int_lt range.lo (b +ℤ w.step) && int_lt b range.hi
 
@@ -33,11 +33,11 @@ pub record AreUpperRanges (w : Width) (stale found : List Span) : Type 0 where
 
 -- ---- how they are made
 
--- the whole wider buckets that hold some of a range
+-- the whole wider buckets that overlap a range
 abbrev pub widened_range : Width → Span → Span
 widened_range w range = record { lo = bucket_of w range.lo; hi = bucket_of w (range.hi -ℤ pos 1) +ℤ w.step }
 
--- ranges with one before them, which takes in the first of them where it reaches that
+-- ranges with one before them, merged with the first of them if it reaches that
 abbrev pub with_range : Span → List Span → List Span
 with_range r [] = r ∷ []
 with_range r (t ∷ ts) = cond (int_lt r.hi t.lo) (r ∷ t ∷ ts) (record { lo = r.lo; hi = int_max r.hi t.hi } ∷ ts)

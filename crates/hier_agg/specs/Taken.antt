@@ -1,4 +1,4 @@
--- How the code groups the rows of an answer: by the cells after their buckets.
+-- Grouping of the rows of an answer, as the code does it: by the cells after their buckets.
 use Rattle.std.specs.Prelude.{ℕ, Bool, List, drop, map}
 use Rattle.ts_num.specs.declared.values.Datum.{Datum}
 use Rattle.ts_bucket.specs.Bucket.{bucket_of}
@@ -16,7 +16,7 @@ use Rattle.hier_agg.specs.Upper.{row_of}
 abbrev pub columns_of : List Datum → List Datum
 columns_of cells = drop 1 cells
 
--- what adds the column at this place up
+-- the aggregate that adds up the column at this place
 abbrev pub added_at : Fold → ℕ → Agg
 added_at lower c = record { fun = added_by (agg_at lower c).fun; col = c }
 
@@ -28,6 +28,6 @@ shape_of lower plan = record { keys = plan.keys; aggs = map (added_at lower) pla
 abbrev pub row_passes : UpperPlan → List Datum → Bool
 row_passes plan cells = cells_pass plan.tests (columns_of cells)
 
--- what is needed of the group of a row, in its wider bucket
+-- the needed parts of the group of a row, in its wider bucket
 abbrev pub row_group_of : UpperPlan → Shape → List Datum → Group
 row_group_of plan shape cells = cells_at shape (bucket_of plan.width (row_of cells).at) (columns_of cells)

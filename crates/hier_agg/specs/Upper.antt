@@ -20,11 +20,11 @@ abbrev pub row_of : List Datum → Row
 row_of [] = record { at = pos 0; vals = [] }
 row_of (b ∷ cells) = record { at = unwrap_or (value_of b) (pos 0); vals = map value_of cells }
 
--- what adds a column up: in the rows of the answer, column c after the bucket is the one after c
+-- the aggregate that adds up a column: in the rows of the answer, column c after the bucket is the one after c
 abbrev pub adds_up : Fold → ℕ → Agg
 adds_up lower c = record { fun = added_by (agg_at lower c).fun; col = suc c }
 
--- what adds columns up
+-- the aggregates that add up columns
 abbrev pub all_added : Fold → List ℕ → List Agg
 all_added lower cols = map (adds_up lower) cols
 
@@ -45,7 +45,7 @@ upper_fold lower plan = record {
 abbrev pub upper_rows : Fold → UpperPlan → List (List Datum) → List (List Datum)
 upper_rows lower plan rows = fold_rows (upper_fold lower plan) (map row_of rows)
 
--- the upper answer that a plan makes of a lower one
+-- the upper answer of a plan over a lower answer
 abbrev pub upper_answer : Fold → UpperPlan → Answer → Answer
 upper_answer lower plan shown = record {
   rows = upper_rows lower plan shown.rows;

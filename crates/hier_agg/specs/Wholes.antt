@@ -22,7 +22,7 @@ abbrev pub run_from : ℕ → List ℕ → Bool
 run_from n [] = true
 run_from n (k ∷ ks) = k == n && run_from (suc n) ks
 
--- these are so many columns from one on, each once and in their order
+-- these are this many columns from one on, each once and in their order
 abbrev pub are_all : ℕ → ℕ → List ℕ → Bool
 are_all first many cols = length cols == many && run_from first cols
 

@@ -1,4 +1,4 @@
--- A wider bucket at hand.
+-- A known wider bucket.
 use Rattle.std.specs.Prelude.{◌≡◌, ℤ, ◌≤ℤ◌, ◌<ℤ◌}
 use Rattle.ts_bucket.specs.Bucket.{WidthValue, bucket_of}
 use Rattle.hier_agg.specs.declared.wides.WideBucket.{WideBucket}

@@ -19,9 +19,9 @@ use ts_model::{Answer, Fold, ResultRows, ViewDef};
 use ts_num::{Datum, Fun};
 use ts_schema::NoMemory;
 
-/// The upper answer, computed from the answer of an aggregate over all its buckets. A count over 64 bits, a
-/// sum or a wider bucket over 128 bits, and a stale range that can't be widened within 64 bits are reported
-/// as out of memory.
+/// The upper answer, computed from the answer of an aggregate over all its buckets. Reports as out of memory a
+/// count over 64 bits, and a sum or a wider bucket over 128 bits. Reports the same for a stale range that can't
+/// be widened within 64 bits.
 pub fn answer_upper(
     alloc: Global,
     plan: &UpperPlan,
@@ -47,14 +47,14 @@ fn made_rows(
 ) -> Result<CellRows<Datum>, NoMemory>
     ensures { IfOk result (λ upper. upper ≡ upper_rows lower.now plan.now rows.now) }
 {
-    // Reading a width tells that it keeps its bounds.
+    // Reading a width tells the prover that it keeps its bounds.
     let _step = plan.width.step;
     let shape = shape_of(alloc, lower, plan)?;
     let upper = rolled_rows(alloc, plan, lower, &shape, rows)?;
     Ok(upper)
 }
 
-/// The result rows of the rows whose keys pass, in one pass where their groups come in order.
+/// The result rows of the rows whose keys pass, in one pass if their groups come in order.
 fn rolled_rows(
     alloc: Global,
     plan: &UpperPlan,
@@ -72,7 +72,7 @@ fn rolled_rows(
     }
 }
 
-/// For how many result rows to reserve room: if the buckets stay as wide, each row may be one.
+/// The number of result rows to reserve room for: each row may be one if the buckets stay as wide.
 fn room_for(plan: &UpperPlan, lower: &Fold, rows: &ResultRows) -> usize {
     if plan.width.step == lower.width.step {
         return rows.len();
@@ -80,7 +80,7 @@ fn room_for(plan: &UpperPlan, lower: &Fold, rows: &ResultRows) -> usize {
     0
 }
 
-/// The same, however the groups of the rows come.
+/// The same, for groups in any order.
 fn gathered_rows(
     alloc: Global,
     plan: &UpperPlan,
@@ -97,7 +97,7 @@ fn gathered_rows(
     }
 }
 
-/// The function that the lower fold has for a column after its keys.
+/// The function of the lower fold for a column after its keys.
 pub(crate) fn function_at(lower: &Fold, col: u32) -> Fun
     ensures { result ≡ (agg_at lower.now col).fun }
 {

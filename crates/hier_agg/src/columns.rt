@@ -39,7 +39,7 @@ fn agg_of(def: &ViewDef, place: Option<u32>) -> Option<u32>
     }
 }
 
-/// Whether a function fits a column that another one shows.
+/// Whether a function fits a column of another function.
 fn is_fit(fun: Fun, lower: Fun) -> bool
     ensures { result ≡ fits fun lower }
 {
@@ -54,7 +54,7 @@ fn is_fit(fun: Fun, lower: Fun) -> bool
     }
 }
 
-/// The number of a key, after so many columns.
+/// The number of a key, after `others` columns.
 fn check_key(pos: u64, def: &ViewDef, count: u64, others: u64, name: &Name) -> Result<u32, PlanStop>
     requires { length def.now.names < 2 ^ 32 }
     ensures { Checks (key_refusal pos def.now count others name.now) (key_number def.now name.now) result }
@@ -64,7 +64,7 @@ fn check_key(pos: u64, def: &ViewDef, count: u64, others: u64, name: &Name) -> R
     Ok(key)
 }
 
-/// The numbers of keys, after so many columns.
+/// The numbers of keys, after a bucket.
 pub(crate) fn check_keys(
     alloc: Global,
     pos: u64,
@@ -84,7 +84,7 @@ pub(crate) fn check_keys(
     Ok(keys)
 }
 
-/// The number of an aggregate's column, after so many columns.
+/// The number of an aggregate's column, after `others` columns.
 fn check_agg(
     pos: u64,
     def: &ViewDef,
@@ -123,7 +123,7 @@ fn check_argument(pos: u64, def: &ViewDef, fun: Fun, name: &Option<Name>) -> Res
     }
 }
 
-/// The numbers of aggregates' columns, after so many columns.
+/// The numbers of aggregates' columns, after a bucket and keys.
 pub(crate) fn check_aggs(
     alloc: Global,
     pos: u64,

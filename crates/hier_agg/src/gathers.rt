@@ -34,8 +34,8 @@ pub(crate) fn gather<'a>(
     Ok(gathered)
 }
 
-/// Adds a row, if its keys match. `bucket` is that of a row before it, and then its own. A sum over 128 bits
-/// is reported as out of memory.
+/// Adds a row, if its keys match. `bucket` is that of an earlier row, and afterwards that of this row. A sum
+/// over 128 bits is reported as out of memory.
 #[inline(always)]
 fn take_row<'a>(
     alloc: Global,

@@ -1,14 +1,14 @@
-//! Laws of roll-ups. Each is the clause of a function that does nothing.
+//! Laws of roll-ups. Each law is the clause of a function that does nothing.
 ghost use Rattle.hier_agg.specs.Laws.{AnswersHaveWholeRanges, AnswersShowGroups, BucketsNest, FreshBucketsShowTheComposedFold, GroupingInTwoSteps, RollUpsOfGroupsChooseCells, RollUpsShowTheComposedFold, StaleBucketsAreHeld, UpperAnswersAreRolledUp, WholeRollUpsAreTheLowerAnswer, WholeRollUpsShowTheLowerAnswer, WiderBucketsShowTheComposedFold};
 ghost use Rattle.hier_agg.specs.ReadLaws.{FunctionsAddUp, PlansFit};
 
-/// Where widths nest, the bucket of a time's bucket is the bucket of the time, and the first bucket lies in the
+/// If widths nest, the bucket of a time's bucket is the bucket of the time, and the first bucket lies in the
 /// first.
 pub fn buckets_nest()
     ensures { BucketsNest }
 {}
 
-/// Grouping the groups of rows more coarsely gives the groups of the rows under the composed fold.
+/// Grouping the groups of rows more coarsely results in the groups of the rows under the composed fold.
 pub fn grouping_in_two_steps()
     ensures { GroupingInTwoSteps }
 {}
@@ -33,7 +33,7 @@ pub fn answers_have_whole_ranges()
     ensures { AnswersHaveWholeRanges }
 {}
 
-/// A wider bucket holds a stale one exactly if there is a stale bucket in it.
+/// A wider bucket holds a stale one if and only if there is a stale bucket in it.
 pub fn stale_buckets_are_held()
     ensures { StaleBucketsAreHeld }
 {}
@@ -68,7 +68,7 @@ pub fn plans_fit()
     ensures { PlansFit }
 {}
 
-/// A roll-up that isn't refused adds up by the functions that are written.
+/// A roll-up that isn't refused adds up by the functions in the statement.
 pub fn functions_add_up()
     ensures { FunctionsAddUp }
 {}

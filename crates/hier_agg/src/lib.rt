@@ -1,20 +1,20 @@
-//! Roll-ups: what an aggregate's answer shows in wider buckets.
+//! Roll-ups: an aggregate's answer in wider buckets.
 //!
-//! - `reads`: what a statement asks of an aggregate: the plan of a roll-up, or its first refusal.
-//! - `widths`: its width against that of the aggregate.
-//! - `columns`: its keys, aggregates and tests against those of the aggregate.
+//! - `reads`: the request of a statement to an aggregate: the plan of a roll-up, or its first refusal.
+//! - `widths`: checks its width against that of the aggregate.
+//! - `columns`: checks its keys, aggregates and tests against those of the aggregate.
 //! - `stops`: why the reading ends early.
-//! - `plans`: which columns of the lower answer a roll-up takes, and how.
+//! - `plans`: the columns of the lower answer that a roll-up takes, and how it groups them.
 //! - `answers`: the upper answer and its rows.
-//! - `stale`: which wider buckets hold a stale one.
+//! - `stale`: the wider buckets that hold a stale one.
 //! - `wholes`: whether a roll-up takes all of an aggregate, and so is its answer, or all its groups.
-//! - `places`: which cells of that answer it then shows.
+//! - `places`: the cells of that answer that it then shows.
 //! - `shapes`: a roll-up, as a grouping of cells.
 //! - `rows`: a row of an answer: its keys, and its wider bucket.
-//! - `writes`: the result rows of an answer's rows, written in one pass where their groups come in order.
+//! - `writes`: the result rows of an answer's rows, written in one pass if their groups come in order.
 //! - `gathers`: the groups of an answer's rows, in any order.
 //! - `wides`: the wider bucket of a row.
-//! - `laws`: what roll-ups show, at every history.
+//! - `laws`: the answers of roll-ups, at every history.
 #![tactic(auto)]
 
 mod answers;

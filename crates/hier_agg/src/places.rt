@@ -1,4 +1,4 @@
-//! Which cells a roll-up that keeps the groups of an aggregate takes of a row.
+//! The cells of a row that a roll-up takes if it keeps the groups of an aggregate.
 ghost use Rattle.std.specs.Prelude.{◌≡◌, ◌++◌, suc, IfOk, map};
 ghost use Rattle.hier_agg.specs.Choices.{chosen_places};
 
@@ -6,9 +6,9 @@ use crate::plans::UpperPlan;
 use std::alloc::Global;
 use ts_schema::{NoMemory, Seq};
 
-/// The places of the cells that a plan takes of a row of the lower answer: its bucket, then its keys, then
-/// what it adds up. The column with the greatest number of 32 bits has no place, and is reported as out of
-/// memory.
+/// The places of the cells that a plan takes from a row of the lower answer: its bucket, then its keys, then
+/// the columns that it adds up. A column with the greatest 32-bit number has no place, and is reported as out
+/// of memory.
 pub fn chosen_places(alloc: Global, plan: &UpperPlan) -> Result<Seq<u32>, NoMemory>
     ensures places { IfOk result (λ places. places ≡ chosen_places plan.now) }
 {

@@ -1,4 +1,4 @@
-//! What a roll-up takes from the answer of an aggregate.
+//! The plan of a roll-up over the answer of an aggregate.
 ghost use Rattle.std.specs.Prelude.{◌≡◌};
 ghost use Rattle.hier_agg.specs.Plans as plans;
 
@@ -6,8 +6,8 @@ use ts_bucket::{Span, Width};
 use ts_model::Query;
 use ts_schema::{Seq, Test};
 
-/// A roll-up over an aggregate. Columns count from 0 in the SELECT list of the aggregate without its
-/// bucket: its keys come first, and then what it aggregates.
+/// A roll-up over an aggregate. Columns count from 0 in the SELECT list of the aggregate without its bucket:
+/// its keys come first, and then its aggregates.
 #[derive(Drop, Debug, PartialEq, Eq)]
 pub struct UpperPlan {
     /// The number of the aggregate.
@@ -22,7 +22,7 @@ pub struct UpperPlan {
     pub tests: Seq<Test>,
 }
 
-/// The query of whose answer a roll-up is made: the aggregate over all its buckets.
+/// The query whose answer a roll-up groups: the aggregate over all its buckets.
 pub fn lower_query(plan: &UpperPlan) -> Query
     ensures query { result ≡ plans.lower_query plan.now }
 {

@@ -1,4 +1,4 @@
-//! What a statement asks of an aggregate.
+//! The request of a statement to an aggregate.
 ghost use Rattle.std.specs.Prelude.{◌≡◌, ◌<◌, ◌^◌, length};
 ghost use Rattle.ts_catalog.specs.Relations.{found_in};
 ghost use Rattle.stmt_check.specs.Check.{IsNumbered};
@@ -15,20 +15,20 @@ use stmt_syntax::{NamedFold, Stmt};
 use ts_catalog::{Found, find};
 use ts_model::{Refusal, Roster, ViewDef};
 
-/// What a statement asks of an aggregate.
+/// The request of a statement to an aggregate.
 #[derive(Drop, Debug, PartialEq, Eq)]
 pub enum UpperRead {
-    /// This roll-up: nothing is refused.
+    /// A roll-up with this plan. Nothing is refused.
     Plan(UpperPlan),
-    /// A roll-up of which this is the first refusal.
+    /// A roll-up with this first refusal.
     Refused(Refusal),
-    /// Nothing: it isn't SELECT time_bucket over an aggregate.
+    /// The statement isn't SELECT time_bucket over an aggregate.
     NotUpper,
     /// Out of memory.
     NoMemory,
 }
 
-/// What a statement asks of an aggregate of a roster: the plan of a roll-up, or the first refusal of its
+/// The request of a statement to an aggregate of a roster: the plan of a roll-up, or the first refusal of its
 /// names and values. `pos` is the read position.
 pub fn read_upper(alloc: Global, stmt: &Stmt, roster: &Roster, pos: u64) -> UpperRead
     requires { IsNumbered roster.now }
@@ -56,7 +56,7 @@ pub fn read_upper(alloc: Global, stmt: &Stmt, roster: &Roster, pos: u64) -> Uppe
     }
 }
 
-/// What a fold asks of an aggregate.
+/// The request of a fold to an aggregate.
 fn read_fold(alloc: Global, pos: u64, roster: &Roster, fold: &NamedFold) -> UpperRead
     requires { IsNumbered roster.now }
     ensures { IsRead (fold_read pos roster.now fold.now (found_in roster.now fold.now.table)) result }
@@ -112,7 +112,7 @@ fn plan_over(
     })
 }
 
-/// How many output columns the bucket, so many keys and so many aggregates are.
+/// The number of output columns: the bucket, these keys and these aggregates.
 fn columns_up_to(keys: usize, aggs: usize) -> u64
     ensures { result ≡ columns_before keys aggs }
 {

@@ -12,7 +12,8 @@ use cell_groups::{RowCells, passes};
 use ts_model::ResultRow;
 use ts_schema::NoMemory;
 
-/// Whether the keys of a row match. `bucket` is that of a row before it, and then its own, if they do.
+/// Whether the keys of a row match. `bucket` is that of an earlier row, and afterwards that of this row, if
+/// they do.
 #[inline(always)]
 pub(crate) fn passes_to(
     plan: &UpperPlan,

@@ -21,7 +21,7 @@ pub(crate) fn shape_of(alloc: Global, lower: &Fold, plan: &UpperPlan) -> Result<
     })
 }
 
-/// What adds columns up.
+/// The aggregates that add up columns.
 fn all_added(alloc: Global, lower: &Fold, cols: &[u32]) -> Result<Vec<Agg>, NoMemory>
     ensures { IfOk result (λ aggs. aggs.items ≡ map (added_at lower.now) cols.now) }
 {
@@ -35,7 +35,7 @@ fn all_added(alloc: Global, lower: &Fold, cols: &[u32]) -> Result<Vec<Agg>, NoMe
     Ok(aggs)
 }
 
-/// The function that adds up what a function shows.
+/// The function that adds up the values of a function.
 fn added_by(fun: Fun) -> Fun
     ensures { result ≡ added_by fun }
 {

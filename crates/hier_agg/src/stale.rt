@@ -1,4 +1,4 @@
-//! Which wider buckets hold a stale one.
+//! The wider buckets that hold a stale one.
 ghost use Rattle.std.specs.Prelude.{◌≡◌, ◌+ℤ◌, ◌-ℤ◌, ◌<ℤ◌, ◌≤ℤ◌, pos, IfOk, OnOk};
 ghost use Rattle.std.specs.List.{AllByRecursion};
 ghost use Rattle.ts_bucket.specs.Bucket.{bucket_of};
@@ -16,7 +16,7 @@ pub(crate) fn widen(alloc: Global, width: &Width, stale: &Seq<Span>) -> Result<S
     ensures ranges { IfOk result (λ found. found ≡ upper_stale width.now stale.now) }
     ensures stale { IfOk result (λ found. AreUpperRanges width.now stale.now found) }
 {
-    // Reading a width tells that it keeps its bounds.
+    // Reading a width tells the prover that it keeps its bounds.
     let _step = width.step;
     let mut found = VecDeque::new(alloc);
     let mut left = stale.len();
@@ -27,7 +27,7 @@ pub(crate) fn widen(alloc: Global, width: &Width, stale: &Seq<Span>) -> Result<S
     Ok(Seq::of(Vec::from(found)))
 }
 
-/// Puts a range before the others. It absorbs the first of them if it reaches that.
+/// Inserts a range before the others, and merges it with the first of them if it reaches that.
 fn put_first(found: &mut VecDeque<Span>, range: Span) -> Result<(), NoMemory>
     ensures { OnOk result (found.new.items ≡ with_range range found.old.items) }
 {
@@ -46,12 +46,12 @@ fn put_first(found: &mut VecDeque<Span>, range: Span) -> Result<(), NoMemory>
     Ok(())
 }
 
-/// The whole wider buckets that hold some of a range.
+/// The whole wider buckets that overlap a range.
 fn widen_range(width: &Width, range: &Span) -> Result<Span, NoMemory>
     requires { range.now.lo <ℤ range.now.hi }
     ensures { IfOk result (λ wide. wide ≡ widened_range width.now range.now) }
 {
-    // Reading a width tells that it keeps its bounds.
+    // Reading a width tells the prover that it keeps its bounds.
     let _step = width.step;
     let lo = start_of(width, range.lo)?;
     let hi = end_of(width, range.hi)?;

@@ -28,7 +28,7 @@ impl From<NoMemory> for PlanStop {
     }
 }
 
-/// Refuses with this number and mark where something is wrong.
+/// Refuses with this number and mark if `wrong`.
 pub(crate) fn refuse_marked(pos: u64, code: u8, mark: u64, wrong: bool) -> Result<(), PlanStop>
     ensures { Checks (marked_refusal pos code mark wrong) tt result }
 {
@@ -38,7 +38,7 @@ pub(crate) fn refuse_marked(pos: u64, code: u8, mark: u64, wrong: bool) -> Resul
     Ok(())
 }
 
-/// What has to be there, or the refusal of a column.
+/// The value if it exists, or the refusal of a column.
 pub(crate) fn present(pos: u64, found: Option<u32>) -> Result<u32, PlanStop>
     ensures { Checks (refusal_if_none pos no_column found) (unwrap_or found 0) result }
 {

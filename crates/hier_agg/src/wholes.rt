@@ -11,8 +11,9 @@ use ts_bucket::Width;
 use ts_model::{Agg, Fold};
 use ts_num::Fun;
 
-/// Whether a plan takes all of the fold of an aggregate: its width, all its keys and then all its aggregates, each
-/// once and in their order, no test, and no aggregate is a mean. Then the roll-up is the aggregate's answer.
+/// Whether a plan takes all of the fold of an aggregate: its width, and all its keys and then all its
+/// aggregates, each once and in their order. The plan must have no test, and no aggregate may be a mean. If so,
+/// the roll-up is the aggregate's answer.
 pub fn takes_all(plan: &UpperPlan, lower: &Fold) -> bool
     ensures { result ≡ takes_all lower.now plan.now }
 {
@@ -25,8 +26,8 @@ pub fn takes_all(plan: &UpperPlan, lower: &Fold) -> bool
 }
 
 /// Whether a plan keeps the groups of the fold of an aggregate: its width, all its keys, each once and in their
-/// order, and no test. Of the aggregates it takes any but means, in any order. Then the roll-up is the
-/// aggregate's answer with the cells at its `chosen_places`.
+/// order, and no test. It takes any aggregates except means, in any order. Then the roll-up is the aggregate's
+/// answer with the cells at its `chosen_places`.
 pub fn takes_groups(plan: &UpperPlan, lower: &Fold) -> bool
     ensures { result ≡ takes_groups lower.now plan.now }
 {
@@ -36,14 +37,14 @@ pub fn takes_groups(plan: &UpperPlan, lower: &Fold) -> bool
         && keep_their_cells(lower, plan.cols.items())
 }
 
-/// Whether what adds up these columns shows one cell of each as it is.
+/// Whether the totals of these columns show a single cell unchanged.
 fn keep_their_cells(lower: &Fold, cols: &[u32]) -> bool
     ensures { result ≡ list_all (keeps_its_cell lower.now) cols.now }
 {
     cols.iter().all(|col| keeps_its_cell(lower, *col))
 }
 
-/// Whether what adds up a column shows one cell of it as it is: it is an aggregate's, and no mean.
+/// Whether the total of a column shows a single cell unchanged: the column is an aggregate's, and not a mean.
 fn keeps_its_cell(lower: &Fold, col: u32) -> bool
     ensures { result ≡ keeps_its_cell lower.now col }
 {
@@ -59,7 +60,7 @@ fn same_width(width: &Width, other: &Width) -> bool
     width.step == other.step && width.shift == other.shift
 }
 
-/// Whether these are so many columns from one on, each once and in their order.
+/// Whether these are this many columns from one on, each once and in their order.
 fn are_all(first: usize, many: usize, cols: &[u32]) -> bool
     ensures { result ≡ are_all first many cols.now }
 {
@@ -82,14 +83,14 @@ fn run_from(first: u64, cols: &[u32]) -> bool
     true
 }
 
-/// Whether what all of these show can be added up.
+/// Whether the values of all of these can be added up.
 fn are_additive(aggs: &[Agg]) -> bool
     ensures { result ≡ list_all (λ a. is_additive a.fun) aggs.now }
 {
     aggs.iter().all(|agg| is_additive(agg.fun))
 }
 
-/// Whether what a function shows can be added up.
+/// Whether the values of a function can be added up.
 fn is_additive(fun: Fun) -> bool
     ensures { result ≡ is_additive fun }
 {

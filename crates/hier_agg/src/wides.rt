@@ -21,8 +21,8 @@ pub(crate) fn no_bucket() -> WideBucket
     WideBucket { start: 0, end: 0 }
 }
 
-/// Moves to the bucket that holds a number, unless it is the one at hand. A bucket over 128 bits is reported
-/// as out of memory.
+/// Moves to the bucket that holds a number, unless it is the present one. A bucket over 128 bits is reported as
+/// out of memory.
 #[inline(always)]
 pub(crate) fn go_to(width: &Width, bucket: &mut WideBucket, t: i128) -> Result<(), NoMemory>
     requires { HoldsItsNumbers width.now bucket.old }

@@ -48,7 +48,7 @@ fn divides(lower: &Width, z: i64) -> bool
     z.rem_euclid(lower.step) == 0
 }
 
-/// Whether the step of a width divides what lies between its offset and another.
+/// Whether the step of a width divides the difference of its offset and another.
 fn fits_offset(lower: &Width, upper: &Width) -> bool
     ensures { result ≡ divides_evenly (upper.now.shift -ℤ lower.now.shift) lower.now.step }
 {

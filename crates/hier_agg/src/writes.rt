@@ -1,4 +1,4 @@
-//! The result rows of an answer's rows, written in one pass where their groups come in order.
+//! The result rows of an answer's rows, written in one pass if their groups come in order.
 ghost use Rattle.std.specs.Prelude.{◌≡◌, List, [], true, IfOk, IfSome, OnOk};
 ghost use Rattle.partial_agg.specs.declared.groups.Group.{Group};
 ghost use Rattle.cell_groups.specs.Groups.{HasTallies, rows_shown};
@@ -18,8 +18,8 @@ use ts_model::{ResultRow, ResultRows};
 use ts_num::Datum;
 use ts_schema::NoMemory;
 
-/// The result rows of the rows whose keys match, or `None` if a group comes before the one ahead of it. It
-/// reserves room for `many` of them.
+/// The result rows of the rows whose keys match, or `None` if a group comes before the one ahead of it.
+/// Reserves room for `many` of them.
 pub(crate) fn write_in_order(
     alloc: Global,
     plan: &UpperPlan,
@@ -40,8 +40,8 @@ pub(crate) fn write_in_order(
     Ok(Some(written.finish(shape)?))
 }
 
-/// Adds a row, if its keys match. Returns false if its group comes before the last one. `bucket` is that of
-/// a row before it, and then its own. A sum over 128 bits is reported as out of memory.
+/// Adds a row, if its keys match. Returns false if its group comes before the last one. `bucket` is that of an
+/// earlier row, and afterwards that of this row. A sum over 128 bits is reported as out of memory.
 #[inline(always)]
 fn write_row<'a>(
     alloc: Global,

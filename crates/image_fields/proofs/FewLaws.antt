@@ -1,4 +1,4 @@
--- An image whose groups are of few rows is that of a history whose left groups are.
+-- An image whose groups have few rows is that of a history whose stored groups have few rows.
 use Rattle.std.proofs.Common.{◌≡◌, ℕ, zero, suc, ◌^◌, Bool, true, false, ◌&&◌, nat_lt, cond, List, [], ◌∷◌, map, filter, ℤ, Option, Some, None, refl, sym, ◌∙◌, ap}
 use Rattle.std.specs.Prelude.{slice_get, unwrap_or}
 use Rattle.std.specs.List.{list_all}
@@ -51,10 +51,10 @@ are_few h i is few n def b view whole left =
     let there : groups_among (saved_view n i).groups b ≡ groups_left n def h b (last n h b) = (is.views n def view).groups b whole ∙ cond-true _ (groups_left n def h b (last n h b)) [] left in
     ap (list_all is_few) (sym there) ∙ among_few (saved_view n i).groups b (view_few i.views n few)
 
--- the image of an allowed history is valid where its groups are of few rows
+-- the image of an allowed history is valid if its groups have few rows
 pub is_valid : (h : History) (i : Image) → ImagesAreValid → all_allowed h ≡ true → IsImage h i → few_in_image i ≡ true → valid i ≡ true
 is_valid h i law allowed is few = law h i allowed (are_few h i is few) is
 
--- the same of one with these commits as its rows
+-- the same for an image with these commits as its rows
 pub is_valid_with : (h : History) (events : List Event) (i : Image) → ImagesAreValid → all_allowed h ≡ true → IsImage h (with_rows events i) → few_in_image i ≡ true → valid (with_rows events i) ≡ true
 is_valid_with h events i law allowed is few = is_valid h (with_rows events i) law allowed is few

@@ -1,4 +1,4 @@
--- A valid image of the code has a spelling.
+-- A valid image of the code has an encoding.
 use Rattle.std.proofs.Common.{◌≡◌, ℕ, ◌+◌, ◌^◌, ◌<◌, ◌&&◌, true, nat_lt, List, [], ◌∷◌, length, map, ℤ, pos, ◌+ℤ◌, ◌-ℤ◌, ◌≤ℤ◌, ◌<ℤ◌, int_lt, int_le, Option, Some, None, sym, arith}
 use Rattle.std.specs.List.{AllByRecursion, list_all}
 use Rattle.std.proofs.lemmas.Bool.{and_parts, true≢false}
@@ -87,7 +87,7 @@ are_waiting r p (w ∷ ws) fit has =
     let first = and_parts (is_number p w.cut) (span_fits w.span (view_of r w.view)) parts.0 in
     (record { cut = has.0.cut; view = has.0.view; span = is_span w.span (view_of r w.view) has.0.span first.1 }, are_waiting r p ws parts.1 has.1)
 
--- a valid image of fewer than 2 ^ 32 bytes, whose numbers are in range, has a spelling
+-- a valid image of fewer than 2 ^ 32 bytes, whose numbers are in range, has an encoding
 pub formed : (i : Image) → valid i ≡ true → length (image i) < 2 ^ 32 → HasFields i → IsFormed i
 formed i ok few has =
     let v = valid_is i ok in
@@ -101,6 +101,6 @@ formed i ok few has =
       done = (counts.done.0, has.done);
     }
 
--- the same of an image with these commits as its rows
+-- the same for an image with these commits as its rows
 pub formed_with : (i : Image) (events : List Event) → HasFields i → valid (with_rows events i) ≡ true → length (image (with_rows events i)) < 2 ^ 32 → IsFormed (with_rows events i)
 formed_with i events has ok few = formed (with_rows events i) ok few (record { pos = has.pos; views = has.views; waiting = has.waiting; done = has.done })

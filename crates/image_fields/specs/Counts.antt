@@ -1,4 +1,4 @@
--- How many rows the saved groups of an image have.
+-- The number of rows of the saved groups of an image.
 use Rattle.std.specs.Prelude.{◌^◌, Bool, nat_lt}
 use Rattle.std.specs.List.{list_all}
 use Rattle.ts_model.specs.declared.images.Image.{Image}

@@ -1,4 +1,4 @@
-//! The parts of an image are in the range of their fields. Each function states it of a part, and does
+//! The parts of an image are in the range of their fields. Each function states this for a part, and does
 //! nothing.
 ghost use Rattle.std.specs.Prelude.{◌≡◌, ◌<◌, ◌^◌, List, length, true};
 ghost use Rattle.std.specs.List.{AllByRecursion};
@@ -42,7 +42,7 @@ fn value_law(value: Option<i64>)
     }
 }
 
-/// What is kept of a column.
+/// The saved parts of a column.
 fn sums_law(sums: &Sums)
     ensures { IsSums sums.now }
 {
@@ -64,7 +64,7 @@ fn values_law(values: &[Option<i64>])
     }
 }
 
-/// What is kept of a group.
+/// The saved parts of a group.
 fn all_sums_law(parts: &[Sums])
     ensures { AllByRecursion IsSums parts.now }
 {
@@ -126,7 +126,7 @@ fn lasts_law(lasts: &[SavedLast])
     }
 }
 
-/// What is kept of an aggregate.
+/// The saved parts of an aggregate.
 fn view_law(view: &SavedView)
     ensures { HasSaved view.now }
 {
@@ -136,7 +136,7 @@ fn view_law(view: &SavedView)
     value_law(view.mark);
 }
 
-/// What is kept of each aggregate.
+/// The saved parts of each aggregate.
 fn views_law(views: &[SavedView])
     ensures { AllByRecursion HasSaved views.now }
 {
@@ -182,8 +182,8 @@ fn fields_law(image: &Image)
     done_law(image.done.items());
 }
 
-/// States that an image has all its parts in the range of their fields, if it is valid with some events as
-/// its rows and has fewer than 2^32 bytes with them. Does nothing.
+/// States that all parts of an image are in the range of their fields. The image must be valid with some events
+/// as its rows, and have fewer than 2^32 bytes with them. Does nothing.
 #[tactic(auto, using(crate::proofs::FormedLaws::formed_with))]
 pub fn image_law(image: &Image)
     ensures formed { (events : List Event) → valid (with_rows events image.now) ≡ true

@@ -1,4 +1,4 @@
-//! Whether the groups of an image have few rows, as those of a valid one do.
+//! Checks that the groups of an image have few rows, as in a valid image.
 ghost use Rattle.std.specs.Prelude.{◌≡◌, List, true};
 ghost use Rattle.base_image.specs.Outlines.{with_rows};
 ghost use Rattle.ts_model.specs.declared.events.Event.{Event};
@@ -21,7 +21,7 @@ fn group_is_few(group: &SavedGroup) -> bool
     group.parts.items().iter().all(|sums| sums.count < TOO_MANY)
 }
 
-/// Whether the groups of an aggregate do.
+/// Whether the groups of an aggregate have fewer rows.
 fn view_is_few(view: &SavedView) -> bool
     ensures { result ≡ few_in_view view.now }
 {

@@ -1,4 +1,4 @@
--- Alike histories give the same answers and windows, and each call does the same at both.
+-- Alike histories have the same answers and windows, and each call does the same at both.
 use Rattle.std.proofs.Common.{◌≡◌, ℕ, suc, Bool, true, false, ◌&&◌, cond, nat_lt, List, [], ◌∷◌, ◌++◌, map, length, ℤ, Option, Some, None, ◌⊎◌, ⊎_elim, sym, refl, ap, ◌∙◌, subst}
 use Rattle.std.specs.Prelude.{flat_map, is_some}
 use Rattle.std.proofs.lemmas.Bool.{true≢false, and_parts, cond-true, cond-false, cases_Bool}
@@ -39,7 +39,7 @@ use Rattle.image_laws.specs.Alike.{AlikeView, Alike, AlikeAnswers}
 use Rattle.ts_model.proofs.RangeLaws.{RisingBuckets, rising-buckets_in}
 use Rattle.ts_model.proofs.RosterLaws.{is_of_itself}
 
--- ---- what is asked of the same buckets
+-- ---- functions of the same buckets
 
 flat_same : {X : Type 0} (w : Width) (f g : ℤ → List X) (bs : List ℤ) (low : ℤ) → RisingBuckets w low bs → ((b : ℤ) → is_bucket w b ≡ true → f b ≡ g b) → flat_map f bs ≡ flat_map g bs
 flat_same w f g [] low r e = refl
@@ -111,7 +111,7 @@ windows_same n def lo (Some hi) g h a there = refl
 pub refusal_same : (code mark : ℕ) (g h : History) → position g ≡ position h → refusal code g mark ≡ refusal code h mark
 refusal_same code mark g h e = ap (λ p. record { code = code; pos = p; mark = mark }) e
 
--- an event is made at both, or at neither
+-- an event is created at both, or at neither
 made_same : {A : Type 0} (g h : History) (e : Event) (a : ℕ → A) → position g ≡ position h → act_of_event g e (a (position g)) ≡ act_of_event h e (a (position h))
 made_same g h e a p = ap (λ q. cond (nat_lt q last_position) (makes e (a q)) (refuses (record { code = history_full; pos = q; mark = 0 }))) p
 

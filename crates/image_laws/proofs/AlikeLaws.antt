@@ -46,7 +46,8 @@ pub record AlikeSince (p : ℕ) (g h : History) : Type 0 where
 
 -- ---- what one event does
 
--- a bucket is touched after a position by a commit where it was before, or the commit is after it and touches the bucket
+-- a bucket is touched after a position by a commit if it was before, or the commit is after it and touches the
+-- bucket
 touched_further : (n : ℕ) (def : ViewDef) (h : History) (ops : List Op) (b : ℤ) (s : ℕ) → touched n def (h ▸ Commit ops) b s ≡ (touched n def h b s || is_above s (cond (touches def ops h b) (Some (suc (position h))) None))
 touched_further n def h ops b s = is_above-later s (last_touch n def h b) (cond (touches def ops h b) (Some (suc (position h))) None)
 
@@ -64,7 +65,7 @@ touched_same n def g h ops b s places stored e =
 groups_further : (n : ℕ) (def : ViewDef) (h : History) (e : Event) (s : ℕ) (b : ℤ) → s ≤ position h → groups_at n def (h ▸ e) s b ≡ groups_at n def h s b
 groups_further n def h e s b l = ap (λ g. groups_at_last n def g s b) (prefix_further h e s l)
 
--- what is left in a bucket that was touched, after an event that leaves its last refresh
+-- the stored groups of a touched bucket, after an event that keeps its last refresh
 left_further : (n : ℕ) (def : ViewDef) (g h : History) (e : Event) (b : ℤ) (s : ℕ) → all_allowed g ≡ true → all_allowed h ≡ true → last n g b ≡ Some s → last n h b ≡ Some s → groups_at n def g s b ≡ groups_at n def h s b → groups_at n def (g ▸ e) s b ≡ groups_at n def (h ▸ e) s b
 left_further n def g h e b s ok_g ok_h last_g last_h left =
     groups_further n def g e s b (last_bounded n g b s (consistent_of g ok_g) last_g) ∙ left ∙ sym (groups_further n def h e s b (last_bounded n h b s (consistent_of h ok_h) last_h))
@@ -94,7 +95,7 @@ view_commit n def g h ops places stored ok_g ok_h v = record {
   left = λ b s bucket l _. left_further n def g h (Commit ops) b s ok_g ok_h l (sym (v.lasts b bucket) ∙ l) (left_before b s bucket l);
 }
   where
-    -- a bucket untouched until now had left what stands there, on both sides
+    -- a bucket untouched until now has as stored groups its present groups, on both sides
     left_before : (b : ℤ) (s : ℕ) → is_bucket def.fold.width b ≡ true → last n g b ≡ Some s → groups_at n def g s b ≡ groups_at n def h s b
     left_before b s bucket l =
         ⊎_elim
@@ -264,7 +265,7 @@ alike_further p g h e ok_g ok_h from a =
       touched_since = since_same p g h e a;
     }
 
--- alike histories stay so with the same commit on top, whatever it holds: one that isn't allowed too
+-- alike histories stay so with the same commit on top, even one that isn't allowed
 pub alike_commit : (g h : History) (ops : List Op) → all_allowed g ≡ true → all_allowed h ≡ true → Alike g h → Alike (g ▸ Commit ops) (h ▸ Commit ops)
 alike_commit g h ops ok_g ok_h a = record {
   places = ap suc a.places;
@@ -329,7 +330,7 @@ below_base p h (Mode v only) base e = absurd (true≢false e)
 below_base p h (Commit ops) base e = absurd (true≢false e)
 below_base p h (Cut v span) base e = absurd (true≢false e)
 
--- one more event, where what holds after it is known
+-- one more event, if the law is known after it
 over_one : (p : ℕ) (g h : History) (e : Event) (es : List Event) → base_position h ≡ p → all_allowed g ≡ true → all_allowed h ≡ true → AlikeSince p g h → (all_allowed (g ▸ e) ≡ true → all_allowed (h ▸ e) ≡ true → AlikeSince p (g ▸ e) (h ▸ e) → all_allowed ((h ▸ e) ▸▸ es) ≡ (all_allowed ((g ▸ e) ▸▸ es) && are_from p es)) → all_allowed ((h ▸ e) ▸▸ es) ≡ (all_allowed ((g ▸ e) ▸▸ es) && (is_from p e && are_from p es))
 over_one p g h e es base ok_g ok_h a rest = by_from (is_from p e) refl
   where

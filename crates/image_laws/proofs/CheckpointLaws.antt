@@ -1,4 +1,4 @@
--- What comes after the image of a history is answered as after the whole history.
+-- Queries after the image of a history have the same answers as after the whole history.
 use Rattle.std.proofs.Common.{◌≡◌, ℕ, zero, suc, ◌+◌, ◌-◌, ◌≤◌, true, not, ◌==◌, List, [], ◌∷◌, ◌++◌, filter, sym, ap, ◌∙◌, subst, arith}
 use Rattle.ts_model.specs.declared.events.Event.{Event}
 use Rattle.ts_model.specs.declared.events.Event.TheVariants.{Table, Hyper, View, Mode, Commit, Cut, Built}
@@ -34,7 +34,7 @@ waiting_over g h (e ∷ es) p w = waiting_over (g ▸ e) (h ▸ e) es (ap suc p)
 
 -- ---- at a position from the image on
 
--- the first so many events
+-- the first events, up to a given number
 abbrev pub upto : ℕ → List Event → List Event
 upto k [] = []
 upto zero (e ∷ es) = []

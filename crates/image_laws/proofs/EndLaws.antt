@@ -15,7 +15,7 @@ use Rattle.image_laws.specs.Ends.{HistoriesEnd, MadeUpToEnd}
 full_at : (h : History) → position h ≡ 2 ^ 62 → has_room h ≡ false
 full_at h is = le-ltb (position h) last_position (omega (arith, is))
 
--- an allowed event has room
+-- an allowed event fits before the end of a history
 room_of : (h : History) (e : Event) → allowed h e ≡ true → has_room h ≡ true
 room_of h e is = (and_parts (timely_at h e) (has_room h) (and_parts (sound h e) (timely h e) is).1).1
 

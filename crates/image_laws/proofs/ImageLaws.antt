@@ -140,7 +140,7 @@ over_found h t u (suc n) l m =
     further : (u t : ℕ) → u ≤ t → (u == t) ≡ false → suc u ≤ t
     further u t l e = let m : u < t = grind (arith, nat_tests) in omega arith
 
--- a table that isn't there has no rows
+-- a missing table has no rows
 rows_past : (t : ℕ) (h : History) → all_allowed h ≡ true → length (roster h).tables ≤ t → rows t h ≡ []
 rows_past t h ok l = none (rows t h) fit
   where
@@ -211,7 +211,7 @@ waiting_span (h ▸ Built cut snap) k m e =
     ] e
 waiting_span (h ▸ x) k m e = waiting_span h k m e
 
--- and it has one of no other aggregate
+-- and its span is of no other aggregate
 one_among : (ws : List WaitingRefresh) (fs : List FinishedRefresh) (k m n : ℕ) → Rises nat_cmp (map (λ (w : WaitingRefresh). w.cut) ws) → pending_among ws fs k ≡ Waiting m → (m == n) ≡ false → span_among n ws k ≡ None
 one_among [] fs k m n r e other = refl
 one_among (w ∷ ws) fs k m n r e other =
@@ -292,7 +292,7 @@ done_numbers i ok =
     all_weaker (λ (f : FinishedRefresh). is_number i.pos f.cut) (done_fits_one i) (λ f e. (and_parts (is_number i.pos f.cut) _ (and_parts _ (nat_le f.built i.pos) (and_parts _ (not (list_any (λ (w : WaitingRefresh). w.cut == f.cut) i.waiting)) e).0).0).0) i.done
     (and_parts (list_all (done_fits_one i) i.done) _ (valid_is i ok).done).0
 
--- a refresh that is known has a number up to the position
+-- a known refresh has a number up to the position
 pub known_bounds : (h : History) (k : ℕ) → all_allowed h ≡ true → is_known (pending h k) ≡ true → (0 < k) × (k ≤ position h)
 known_bounds start k ok e = absurd (true≢false (sym e))
 known_bounds (resumed i) k ok e = among_bounds i.pos i.waiting i.done k (waiting_numbers i ok) (done_numbers i ok) (ap is_known (known_among i k (pending (resumed i) k) e refl) ∙ e)
@@ -315,7 +315,7 @@ known_bounds (h ▸ Built cut snap) k ok e =
     by_case false e = e
 known_bounds (h ▸ x) k ok e = let b = known_bounds h k (and_parts (all_allowed h) _ ok).0 e in (b.0, omega (arith, b.1))
 
--- the refresh with a number, by the list of those that wait
+-- the refresh with a number, by the list of waiting refreshes
 first_waits : (k : ℕ) (ws : List WaitingRefresh) (fs : List FinishedRefresh) (w : WaitingRefresh) → filter (λ (r : WaitingRefresh). r.cut == k) ws ≡ w ∷ [] → pending_among ws fs k ≡ Waiting w.view
 first_waits k [] fs w e = absurd (cc)
 first_waits k (x ∷ ws) fs w e =
@@ -334,7 +334,7 @@ first_none k (x ∷ ws) fs e =
       | false ↦ λ other f. cond-false (k == x.cut) (Waiting x.view) (pending_among ws fs k) (turned k x.cut ∙ other) ∙ first_none k ws fs f
     ] refl e
 
--- the span of a refresh, by the list of those that wait
+-- the span of a refresh, by the list of waiting refreshes
 span_first : (n k : ℕ) (ws : List WaitingRefresh) → span_among n ws k ≡ span_among n (filter (λ (r : WaitingRefresh). r.cut == k) ws) k
 span_first n k [] = refl
 span_first n k (x ∷ ws) =
@@ -343,7 +343,7 @@ span_first n k (x ∷ ws) =
       | false ↦ λ other. cond-false (k == x.cut && x.view == n) (Some x.span) (span_among n ws k) (and_left _ _ (turned k x.cut ∙ other)) ∙ span_first n k ws
     ] refl
 
--- the finished ones, by their list
+-- the finished refreshes, by their list
 abbrev or_else : Pending → Pending → Pending
 or_else (Waiting n) q = Waiting n
 or_else (Finished f) q = Finished f
@@ -469,7 +469,7 @@ span_again h n k ok w = by_case (pending h k) refl w
     by_case (Finished f) is w = absurd (true≢false (sym w))
     by_case Unknown is w = absurd (true≢false (sym w))
 
--- ---- an aggregate that isn't there
+-- ---- a missing aggregate
 
 absent_before : (h : History) (e : Event) (n : ℕ) → view_of (roster (h ▸ e)) n ≡ None → view_of (roster h) n ≡ None
 absent_before h e n none = by_view (view_of (roster h) n) refl
@@ -501,7 +501,7 @@ never_marked n def (h ▸ Built cut snap) ok none =
     ∙ ap (top_of def h snap) (never_cut n h cut (and_parts (all_allowed h) _ ok).0 none)
 never_marked n def (h ▸ x) ok none = never_marked n def h (and_parts (all_allowed h) _ ok).0 (absent_before h x n none)
 
--- an image has nothing of an aggregate that the history hasn't
+-- an image keeps nothing of an aggregate that the history doesn't have
 none_past : {X : Type 0} (xs : List X) (n : ℕ) → slice_get xs n ≡ None → length xs ≤ n
 none_past [] n e = omega arith
 none_past (x ∷ xs) zero e = absurd (cc)
@@ -513,7 +513,7 @@ saved_none n h i is none =
     let as_many : length i.views ≡ length (roster h).views = is.as_many in
     ap (λ o. unwrap_or o nothing_saved) (slice_get_past i.views n (omega arith))
 
--- ---- names and modes play no part
+-- ---- names and modes have no effect
 
 abbrev relabel : List ℕ → List (List ℕ) → Bool → ViewDef → ViewDef
 relabel name names only def = record { name = name; table = def.table; fold = def.fold; names = names; only = only }

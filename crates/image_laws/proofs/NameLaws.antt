@@ -1,4 +1,5 @@
--- No two relations of an allowed history have the same name, and the events that make its roster may follow one another.
+-- No two relations of an allowed history have the same name, and the events that create its roster may follow
+-- one another.
 use Rattle.std.proofs.Common.{◌≡◌, ℕ, zero, suc, ◌+◌, ◌<◌, ◌≤◌, Bool, true, false, ◌&&◌, ◌||◌, not, cond, nat_lt, ◌==◌, List, [], ◌∷◌, ◌++◌, map, length, length-append, Option, Some, None, sym, refl, ap, ◌∙◌, subst, arith}
 use Rattle.std.specs.Prelude.{is_some, is_none, slice_get, option_and_then, position as place}
 use Rattle.std.specs.List.{list_any, list_all, position_or_len}
@@ -68,7 +69,7 @@ any_view : (name : List ℕ) (vs : List ViewDef) → list_any (λ def. same_name
 any_view name [] = refl
 any_view name (v ∷ vs) = ap (λ b. b || list_any (λ def. same_name def.name name) vs) (name_turned v.name name) ∙ ap (λ b. same_name name v.name || b) (any_view name vs)
 
--- a name is taken where a relation has it
+-- a name is taken if a relation has it
 pub taken_is : (r : Roster) (name : List ℕ) → is_taken r name ≡ (list_any (same_name name) (table_names r.tables) || list_any (same_name name) (view_names r.views))
 taken_is r name =
     ap (λ b. b || is_some (view_named r name)) (place_any (λ info. same_name info.def.name name) r.tables ∙ any_table name r.tables)
@@ -152,7 +153,7 @@ names_apart (h ▸ e) ok =
     let parts = and_parts (all_allowed h) (allowed h e) ok in
     names_after (roster h) e (timely_in_roster h e (and_parts (sound h e) (timely_at h e) (consistent_next h e parts.1)).1) (names_apart h parts.0)
 
--- ---- the events that make a roster
+-- ---- the events that create a roster
 
 apart_first : (n : List ℕ) (xs ys : List (List ℕ)) → all_apart (xs ++ (n ∷ ys)) ≡ true → list_any (same_name n) xs ≡ false
 apart_first n [] ys e = refl
@@ -225,7 +226,7 @@ views_only : (r : Roster) (defs : List ViewDef) → make_views r (map View defs)
 views_only r [] e = refl
 views_only r (def ∷ defs) e = e
 
--- the events that make a sound roster whose names are apart may follow one another
+-- the events that create a sound roster with different names may follow one another
 pub roster_follows : (r : Roster) → IsSoundRoster r → NamesApart r → make_relations no_relations (roster_events r) ≡ true
 roster_follows r ok apart =
     tables_follow no_relations 0 r.tables (map View r.views) refl refl (λ info n e. ok.tables n info e) (tables_part (table_names r.tables) (view_names r.views) apart) (let l : length r.tables ≤ most_relations = ok.few_tables in omega arith)

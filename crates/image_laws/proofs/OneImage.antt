@@ -49,7 +49,7 @@ none_some e = absurd (cc)
 pos_first : (w : Width) (l : SavedLast) (ls : List SavedLast) → IsWholeRange w l.span → pos_in (l ∷ ls) l.span.lo ≡ Some l.pos
 pos_first w l ls whole = ap (λ t. cond t (Some l.pos) (pos_in ls l.span.lo)) (first_in w l.span whole)
 
--- the end of the first range has another last refresh, or none
+-- the bucket at the end of the first range has another last refresh, or none
 end_other : (w : Width) (l : SavedLast) (ls : List SavedLast) → AreWhole w (l ∷ ls) → LastsRise (l ∷ ls) → pos_in (l ∷ ls) l.span.hi ≡ Some l.pos → ⊥
 end_other w l [] whole rise e =
     let out : in_span l.span l.span.hi ≡ false = past l.span in
@@ -69,7 +69,7 @@ end_other w l (m ∷ ls) whole rise e =
     past : (s : Span) → in_span s s.hi ≡ false
     past s = grind (arith, ints)
 
--- in the first range the others hold nothing
+-- the other ranges hold nothing of the first
 none_within : (w : Width) (l : SavedLast) (ls : List SavedLast) (c : ℤ) → AreWhole w (l ∷ ls) → LastsRise (l ∷ ls) → in_span l.span c ≡ true → pos_in ls c ≡ None
 none_within w l [] c whole rise inside = refl
 none_within w l (m ∷ ls) c whole rise inside = by_pos (pos_in (m ∷ ls) c) refl
@@ -149,7 +149,7 @@ itself b = grind (arith, ints)
 among_first : (g : SavedGroup) (gs : List SavedGroup) → groups_among (g ∷ gs) g.start ≡ group_of g ∷ groups_among gs g.start
 among_first g gs = ap (λ t. map group_of (cond t (g ∷ filter (λ x. int_eq x.start g.start) gs) (filter (λ x. int_eq x.start g.start) gs))) (itself g.start)
 
--- groups that rise start at or above the first
+-- groups in order start at or above the first
 starts_by : (o p : Ordering) (x y : ℤ) → int_cmp x y ≡ o → is_lt (ordering_then o p) ≡ true → x ≤ℤ y
 starts_by Less p x y e l = grind (arith, ints)
 starts_by Equal p x y e l = grind (arith, ints)

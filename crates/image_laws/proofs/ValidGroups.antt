@@ -1,4 +1,4 @@
--- What the image of a history keeps of an aggregate is valid: its groups.
+-- The saved groups of an aggregate in the image of a history are valid.
 use Rattle.std.proofs.Common.{◌≡◌, ℕ, zero, suc, ◌+◌, ◌*◌, ◌-◌, ◌^◌, ◌<◌, ◌≤◌, Bool, true, false, ◌&&◌, ◌||◌, not, cond, nat_lt, nat_le, ◌==◌, List, [], ◌∷◌, map, filter, length, ℤ, pos, ◌+ℤ◌, ◌≤ℤ◌, int_le, Option, Some, None, sym, refl, ap, ◌∙◌, subst, arith}
 use Rattle.std.specs.Prelude.{is_some, is_none, neg_ℤ, slice_index_or}
 use Rattle.std.specs.List.{list_all, AllByRecursion}
@@ -105,7 +105,7 @@ sums_back : (ps : List Sums) → list_all summary_fits (map summary_of ps) ≡ l
 sums_back [] = refl
 sums_back (p ∷ ps) = ap (λ t. sums_fit p && t) (sums_back ps)
 
--- a saved group fits where it is a group of the right shape with few rows in a dirty bucket
+-- a saved group fits if it is a group of the right shape with few rows in a dirty bucket
 pub group_is_fit : (def : ViewDef) (dirty : List Span) (g : SavedGroup) → is_bucket def.fold.width g.start ≡ true → lies_in dirty g.start ≡ true → group_shape def.fold (group_of g) ≡ true → list_all is_few (group_of g).parts ≡ true → group_fits def dirty g ≡ true
 group_is_fit def dirty g bucket lies shape few =
     let stands = and_parts _ (list_all summary_stands (group_of g).parts) shape in

@@ -146,7 +146,7 @@ module _ (n : ℕ) (def : ViewDef) (h : History) (v : SavedView) (ok : all_allow
       let k = left_last b (sym (s.dirty b bucket) ∙ e) in
       (last_spanned n def h b k.0 is (consistent_of h ok) k.1, ap is_some (s.lasts b bucket ∙ k.1)))
 
-  -- what was left in a bucket at or above the mark is nothing
+  -- a bucket at or above the mark has no stored groups
   none_left : (b : ℤ) (k : ℕ) → is_bucket def.fold.width b ≡ true → last n h b ≡ Some k → is_below b v.mark ≡ false → groups_at n def h k b ≡ []
   none_left b k bucket e above = no_groups def.fold (groups_at n def h k b) (nothing_above_watermark n def h b k (consistent_of h ok) there bucket e (ap (is_below b) (sym s.mark) ∙ above))
 

@@ -1,5 +1,5 @@
--- Worked rows of images: the image of a small history, what is answered over it, and an image for each reason not to be
--- valid.
+-- Worked examples of images: the image of a small history, answers over it, and one invalid image for each
+-- reason.
 use Rattle.std.proofs.Common.{◌≡◌, ℕ, Bool, true, false, List, [], ◌∷◌, ℤ, pos, negsuc, Option, Some, None, refl}
 use Rattle.std.specs.Prelude.{codes, map}
 use Rattle.std.specs.List.{flat_map}
@@ -182,7 +182,7 @@ group_above_mark : valid (image_with (record kept { mark = Some (pos 120) })) �
 unfolding numbers_from
 group_above_mark = refl
 
--- no mark, though there is a group
+-- no mark, although there is a group
 group_without_mark : valid (image_with (record kept { mark = None })) ≡ false
 unfolding numbers_from
 group_without_mark = refl
@@ -217,23 +217,23 @@ measures = Table (record { name = codes "m"; cols = column (codes "time") true �
 abbrev made_hyper : Event
 made_hyper = Hyper 0 (record { at = 0; interval = pos 100 })
 
--- an aggregate stands before a table
+-- an aggregate is before a table
 view_before_table : valid (record image { roster = measures ∷ made_hyper ∷ View sums ∷ plain (codes "k") ∷ [] }) ≡ false
 view_before_table = refl
 
--- what makes a table a hypertable doesn't stand directly after it
+-- what makes a table a hypertable doesn't come directly after it
 hyper_too_late : valid (record image { roster = measures ∷ plain (codes "k") ∷ made_hyper ∷ View sums ∷ [] }) ≡ false
 hyper_too_late = refl
 
--- an aggregate is over a table that is no hypertable
+-- an aggregate is over a table that isn't a hypertable
 view_over_plain : valid (record image { roster = measures ∷ View sums ∷ [] }) ≡ false
 view_over_plain = refl
 
--- a name is there twice
+-- a name occurs twice
 name_twice : valid (record image { roster = measures ∷ made_hyper ∷ View sums ∷ View sums ∷ [] }) ≡ false
 name_twice = refl
 
--- a mode is no event of a roster
+-- a mode isn't an event of a roster
 mode_in_roster : valid (record image { roster = measures ∷ made_hyper ∷ View sums ∷ Mode 0 true ∷ [] }) ≡ false
 mode_in_roster = refl
 
@@ -258,13 +258,13 @@ no_rows = refl
 two_operations : valid (with_held (Commit (Insert 0 (row 50 1 5 ∷ []) ∷ Insert 0 (row 250 1 9 ∷ []) ∷ []) ∷ [])) ≡ false
 two_operations = refl
 
--- rows of a table that isn't there
+-- rows of a missing table
 rows_of_no_table : valid (with_held (Commit (Insert 1 (row 50 1 5 ∷ []) ∷ []) ∷ [])) ≡ false
 rows_of_no_table = refl
 
 -- ---- of the aggregates
 
--- there are fewer than aggregates, or more
+-- there are fewer kept aggregates than aggregates, or more
 none_kept : valid (record image { views = [] }) ≡ false
 none_kept = refl
 
@@ -307,7 +307,7 @@ groups_in_order : valid (with_groups (group_with 110 eight ∷ group_with 120 ei
 unfolding numbers_from
 groups_in_order = refl
 
--- groups are out of order, or there twice
+-- groups are out of order, or occur twice
 groups_out_of_order : valid (with_groups (group_with 120 eight ∷ group_with 110 eight ∷ [])) ≡ false
 unfolding numbers_from
 groups_out_of_order = refl
@@ -316,7 +316,7 @@ group_twice : valid (with_groups (group_with 120 eight ∷ group_with 120 eight 
 unfolding numbers_from
 group_twice = refl
 
--- a group has another count of keys or of parts than the aggregate, or doesn't begin where a bucket does
+-- a group doesn't have as many keys or parts as the aggregate, or doesn't begin where a bucket does
 key_too_many : valid (with_groups (record { start = pos 120; keys = None ∷ []; parts = parts ∷ eight ∷ [] } ∷ [])) ≡ false
 unfolding numbers_from
 key_too_many = refl
@@ -351,7 +351,7 @@ sum_too_small : valid (with_groups (group_with 120 (record eight { sum = negsuc 
 unfolding numbers_from
 sum_too_small = refl
 
--- there is a value and no least one, or no value and a greatest one
+-- there is a value but no least one, or no value but a greatest one
 least_missing : valid (with_groups (group_with 120 (record eight { least = None }) ∷ [])) ≡ false
 unfolding numbers_from
 least_missing = refl
@@ -365,7 +365,7 @@ values_none : valid (with_groups (group_with 120 (record { count = 2; values = 0
 unfolding numbers_from
 values_none = refl
 
--- a mark is no end of a bucket
+-- a mark isn't the end of a bucket
 mark_within_bucket : valid (image_with (record kept { mark = Some (pos 135) })) ≡ false
 unfolding numbers_from
 mark_within_bucket = refl
@@ -418,7 +418,7 @@ done_fits : valid (with_done (finished 3 4 ∷ [])) ≡ true
 unfolding numbers_from
 done_fits = refl
 
--- a number was finished and waits
+-- a number is among the finished and the waiting refreshes
 done_and_waiting : valid (record waits { pos = 6; done = finished 5 6 ∷ [] }) ≡ false
 unfolding numbers_from
 done_and_waiting = refl
@@ -460,7 +460,7 @@ waiting_falls : valid (waiting_with (waits_for 5 0 (span 100 200) ∷ waits_for 
 unfolding numbers_from
 waiting_falls = refl
 
--- a refresh waits of no aggregate, or over what is no range of whole buckets
+-- a refresh waits that is of no aggregate, or whose span isn't one of whole buckets
 waiting_of_none : valid (waiting_with (waits_for 5 1 (span 100 200) ∷ [])) ≡ false
 unfolding numbers_from
 waiting_of_none = refl
@@ -484,6 +484,6 @@ full_mode = refl
 full_event : allowed full (Mode 0 true) ≡ false
 full_event = refl
 
--- a window without a bucket is refused as E15 first, and one with nothing to do is no event
+-- a window without a bucket is refused as E15 first, and one with nothing to do creates no event
 full_no_bucket : act_of_cut 0 (Some (pos 3)) (Some (pos 9)) full ≡ refuses (record { code = 15; pos = 4611686018427387904; mark = 0 })
 full_no_bucket = refl

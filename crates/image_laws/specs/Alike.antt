@@ -1,4 +1,4 @@
--- Histories that are alike: from now on, both give the same answers.
+-- Histories that are alike: from now on, both have the same answers.
 use Rattle.std.specs.Prelude.{◌≡◌, ℕ, ◌≤◌, Bool, true, false, ◌&&◌, nat_le, List, [], ◌∷◌, ℤ, Option, Some, None}
 use Rattle.ts_bucket.specs.Bucket.{is_bucket}
 use Rattle.ts_model.specs.declared.events.Event.{Event}
@@ -20,8 +20,8 @@ use Rattle.ts_model.specs.Windows.{window}
 use Rattle.ts_model.specs.Allowed.{all_allowed}
 use Rattle.ts_model.specs.Calls.{making_table, making_hyper, making_view, setting_mode, act_of_commit, act_of_cut, act_of_finish}
 
--- two histories agree on an aggregate: its watermark, the last refresh of each bucket, whether the bucket was touched
--- after it, and what it has left in a bucket that was
+-- two histories agree on an aggregate: its watermark, the last refresh of each bucket, whether the bucket was
+-- touched after it, and what it stored in a touched bucket
 pub record AlikeView (n : ℕ) (def : ViewDef) (g h : History) : Type 0 where
   pub marks : watermark n def g ≡ watermark n def h
   pub lasts : (b : ℤ) → is_bucket def.fold.width b ≡ true → last n g b ≡ last n h b
@@ -49,9 +49,8 @@ abbrev pub are_from : ℕ → List Event → Bool
 are_from p [] = true
 are_from p (e ∷ es) = is_from p e && are_from p es
 
--- a history that is alike to one that begins with an image and has no event after it stays alike to it under the same
--- events, and these are allowed after the one exactly if they are allowed after the other and no snapshot is below
--- the image
+-- a history that is alike to one that consists of an image stays alike to it under the same events. These are
+-- allowed after the image if and only if they are allowed after the history and no snapshot is below the image
 pub record AlikeStays : Type 0 where
   pub allowed :
       (h : History) (i : Image) (es : List Event) → all_allowed h ≡ true → all_allowed (resumed i) ≡ true
@@ -64,7 +63,7 @@ pub record AlikeStays : Type 0 where
   pub queued : (g h : History) (ops : List Op) → all_allowed g ≡ true → all_allowed h ≡ true → Alike g h
       → Alike (with_queue ops g) (with_queue ops h)
 
--- alike histories give the same answers and windows, and each call does the same at both
+-- alike histories have the same answers and windows, and each call does the same at both
 pub record AlikeAnswers : Type 0 where
   pub answers : (query : Query) (g h : History) → Alike g h → answer query g ≡ answer query h
   pub windows :

@@ -36,17 +36,17 @@ use Rattle.image_laws.specs.Alike.{Alike, are_from}
 
 -- ---- the roster and the rows
 
--- the event that makes table number t a hypertable, if it is one
+-- the event that turns table number t into a hypertable, if it is one
 abbrev pub hyper_events : ℕ → Option HyperInfo → List Event
 hyper_events t None = []
 hyper_events t (Some hyper) = Hyper t hyper ∷ []
 
--- the events that make these tables, of which the first has number t
+-- the events that create these tables, the first of which has number t
 abbrev pub table_events : ℕ → List TableInfo → List Event
 table_events t [] = []
 table_events t (info ∷ infos) = Table info.def ∷ (hyper_events t info.hyper ++ table_events (suc t) infos)
 
--- the events that make a roster
+-- the events that create a roster
 abbrev pub roster_events : Roster → List Event
 roster_events r = table_events 0 r.tables ++ map View r.views
 
@@ -75,7 +75,7 @@ finished_upto h (suc p) = finished_upto h p ++ finished_as (suc p) (pending h (s
 
 -- ---- aggregates
 
--- what the last refresh of a bucket has left, as groups
+-- what the last refresh of a bucket stored, as groups
 abbrev pub groups_left : ℕ → ViewDef → History → ℤ → Option ℕ → List Group
 groups_left n def h b None = []
 groups_left n def h b (Some s) = groups_at n def h s b
@@ -84,12 +84,12 @@ groups_left n def h b (Some s) = groups_at n def h s b
 abbrev pub was_left : ℕ → ViewDef → History → ℤ → Bool
 was_left n def h b = is_some (last n h b) && invalid n def h b
 
--- a range is above another, and where it begins where that ends, it has another position
+-- a range is above another, and if it begins where that ends, it has another position
 pub record Follows (l m : SavedLast) : Type 0 where
   pub above : l.span.hi ≤ℤ m.span.lo
   pub other : l.span.hi ≡ m.span.lo → l.pos ≢ m.pos
 
--- ranges rise, and where one begins where another ends, their positions differ
+-- ranges rise, and if one begins where another ends, their positions differ
 abbrev pub LastsRise : List SavedLast → Type 0
 LastsRise [] = Unit {0}
 LastsRise (l ∷ []) = Unit {0}
@@ -105,7 +105,7 @@ pub record IsSavedView (n : ℕ) (def : ViewDef) (h : History) (v : SavedView) :
   pub dirty_whole : AllByRecursion (IsWholeRange def.fold.width) v.dirty
   pub dirty_rise : RiseApart v.dirty
   pub dirty : (b : ℤ) → is_bucket def.fold.width b ≡ true → lies_in v.dirty b ≡ was_left n def h b
-  -- for each of these buckets, in order, what its last refresh has left
+  -- for each of these buckets, in order, what its last refresh stored
   pub groups_rise : all_rise group_cmp (map group_of v.groups) ≡ true
   pub groups_whole : list_all (λ g. is_bucket def.fold.width g.start) v.groups ≡ true
   pub groups : (b : ℤ) → is_bucket def.fold.width b ≡ true
@@ -122,7 +122,7 @@ pub record IsImage (h : History) (i : Image) : Type 0 where
   pub waits : i.waiting ≡ waiting h
   pub done : i.done ≡ finished_upto h (position h)
 
--- each group that a last refresh has left in a bucket touched after it has fewer than 2 ^ 62 rows
+-- each group that a last refresh stored in a bucket touched after it has fewer than 2 ^ 62 rows
 abbrev pub AreFew : History → Type 0
 AreFew h =
     (n : ℕ) (def : ViewDef) (b : ℤ) → view_of (roster h) n ≡ Some def → is_bucket def.fold.width b ≡ true
@@ -141,8 +141,8 @@ OneImage = (h : History) (i j : Image) → IsImage h i → IsImage h j → i ≡
 abbrev pub ImagesAreAlike : Type 0
 ImagesAreAlike = (h : History) (i : Image) → all_allowed h ≡ true → IsImage h i → Alike h (resumed i)
 
--- events are allowed after the image of a history exactly if they are allowed after the history and no snapshot is
--- below the image, and then each question has the same answer over both
+-- events are allowed after the image of a history if and only if they are allowed after the history and no
+-- snapshot is below the image. Then each query has the same answer over both
 pub record CheckpointsKeep : Type 0 where
   pub allowed :
       (h : History) (i : Image) (es : List Event) → all_allowed h ≡ true → IsImage h i → valid i ≡ true

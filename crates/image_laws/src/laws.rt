@@ -1,4 +1,4 @@
-//! Laws of checkpoint images. Each is the clause of a function that does nothing.
+//! Laws of checkpoint images. Each law is the clause of a function that does nothing.
 ghost use Rattle.image_laws.specs.Alike.{AlikeAnswers, AlikeStays};
 ghost use Rattle.image_laws.specs.Ends.{HistoriesEnd};
 ghost use Rattle.image_laws.specs.Images.{CheckpointsKeep, ImagesAreAlike, ImagesAreValid, OneImage};
@@ -9,7 +9,7 @@ pub fn alike_histories_stay_alike()
     ensures { AlikeStays }
 {}
 
-/// Alike histories give the same answers and windows, and each call does the same at both.
+/// Alike histories have the same answers and windows, and each call does the same at both.
 pub fn alike_histories_answer_alike()
     ensures { AlikeAnswers }
 {}
@@ -19,7 +19,7 @@ pub fn images_are_alike()
     ensures { ImagesAreAlike }
 {}
 
-/// What comes after the image of a history is answered as after the whole history.
+/// Queries after the image of a history have the same answers as after the whole history.
 pub fn checkpoints_keep_answers()
     ensures { CheckpointsKeep }
 {}
@@ -35,8 +35,8 @@ pub fn a_history_has_one_image()
     ensures { OneImage }
 {}
 
-/// An allowed history goes to position 2^62 at most, wherever it begins. A call makes its event below that
-/// position, and at it is refused as E30.
+/// An allowed history reaches at most position 2^62, wherever it begins. A call creates its event below that
+/// position, and is refused as `E30` at it.
 pub fn histories_end()
     ensures { HistoriesEnd }
 {}

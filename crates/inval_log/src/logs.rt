@@ -41,7 +41,7 @@ impl InvalLog {
         }
     }
 
-    /// Hulls that begin below it are logged.
+    /// The threshold. Hulls that begin below it are logged.
     pub fn threshold(&self) -> i64
         ensures threshold { result ≡ self.now.threshold }
     {
@@ -55,8 +55,8 @@ impl InvalLog {
         &self.entries
     }
 
-    /// A copy of the log, which shares all entries except those that were noted since the log was last
-    /// `share`. Its room may differ.
+    /// A copy of the log, which shares all entries except those that were noted since the last `share`. It may
+    /// have a different capacity.
     pub fn copy(&self) -> Result<InvalLog, NoMemory>
         ensures threshold { IfOk result (λ copy. copy.threshold ≡ self.now.threshold) }
         ensures entries { IfOk result (λ copy. copy.entries ≡ self.now.entries) }
@@ -68,8 +68,8 @@ impl InvalLog {
     }
 
     /// The same log with all its entries shared, so that a copy of it only increments a reference count. It
-    /// costs what `BlockList::share` does: a block and, once in a block of new entries, the blocks of the
-    /// last inner node and the number of inner nodes.
+    /// costs as much as `BlockList::share`: a block and, once per block of new entries, the blocks of the last
+    /// inner node and the number of inner nodes.
     pub fn share(&self) -> Result<InvalLog, NoMemory>
         ensures threshold { IfOk result (λ shared. shared.threshold ≡ self.now.threshold) }
         ensures entries { IfOk result (λ shared. shared.entries ≡ self.now.entries) }
@@ -91,7 +91,7 @@ impl InvalLog {
     }
 
     /// Logs the hull of the commit at this position if it begins below the threshold, and returns whether it
-    /// does. It allocates no memory: there must be room for the entry, which `reserve` makes.
+    /// does. It allocates no memory: `reserve` must have made room for the entry.
     pub fn note(&mut self, hull: Hull, pos: u64) -> bool
         requires { 1 ≤ self.old.room }
         ensures logged { result ≡ begins_below hull self.old.threshold }

@@ -1,4 +1,4 @@
--- What lies below a mark.
+-- Buckets and spans below a mark.
 use Rattle.std.proofs.Common.{◌≡◌, Bool, true, false, ◌&&◌, ℤ, ◌-ℤ◌, ◌≤ℤ◌, ◌<ℤ◌, int_le, int_lt, Option, Some, None, refl, ap, ◌∙◌, arith}
 use Rattle.std.specs.Int.{int_min, int_max}
 use Rattle.std.specs.Option.{ForSome}
@@ -25,7 +25,7 @@ near_mark w m h mark =
     let early : min_time <ℤ m = mark.above_a_time in
     record { low = omega (arith, ints); high = omega (arith, ints) }
 
--- what is below a mark is in the range of buckets, from the first one on
+-- a bucket below a mark is in the range of buckets, from the first one on
 pub below_in_range : (w : WidthValue) (mark : Option ℤ) (a c : Bool) (b : ℤ) → IsWidth w → ForSome mark (IsMark w) → first_of w ≤ℤ b → c ≡ (a && is_below b mark) → (in_span (whole_span w) b && c) ≡ (a && is_below b mark)
 below_in_range w mark a c b h are first e = ap (λ x. in_span (whole_span w) b && x) e ∙ by mark are a
   where

@@ -1,4 +1,5 @@
--- Laws of feeding: entries fed one after another leave what their latest positions say, and something is pending after them exactly where it was or one of them is above the last refresh.
+-- Laws of feeding: the latest positions of entries fed in order determine what is pending. Something is pending
+-- after them if and only if something was, or one of them is above the last refresh.
 use Rattle.std.proofs.Common.{◌≡◌, ℕ, ◌≤◌, ◌<◌, ◌+◌, length, drop, get_or, max, Bool, true, false, cond, ◌&&◌, ◌||◌, nat_le, nat_lt, List, [], ◌∷◌, ◌++◌, filter, ℤ, ◌+ℤ◌, ◌≤ℤ◌, ◌<ℤ◌, Option, Some, None, is_some, refl, sym, ap, ◌∙◌, arith}
 use Rattle.std.proofs.lemmas.Int.{ints}
 use Rattle.std.proofs.lemmas.List.{drop_more}
@@ -108,7 +109,8 @@ fed_step p true (Some s) v (Some q) f =
     by true false e g = absurd (grind (arith, nat_tests))
     by false false e g = refl
 
--- what is pending after entries whose positions rise is the latest of them that is above the last refresh, and else what was
+-- the pending position after entries whose positions rise is the latest of them that is above the last refresh,
+-- and otherwise what was pending
 pub fed_is : (w : WidthValue) (b : ℤ) (n : ℕ) (r : Option ℕ) (es : List Entry) (v : Option ℕ) → IsWidth w → is_bucket w b ≡ true → are_rising n es ≡ true → pending_after_all w b r es v ≡ combined_by Over v (combined_by Above r (touch_at w es b))
 fed_is w b n r [] v h bucket rising = sym (ap (combined_by Over v) (above_last-nothing r))
 fed_is w b n r (e ∷ es) v h bucket rising =
@@ -128,7 +130,7 @@ some_step p true (Some s) v = by (nat_lt s p)
     by true = sym (or-true (is_some v))
     by false = sym (or-false (is_some v))
 
--- something is pending after any entries exactly where it was, or the latest of them is above the last refresh
+-- something is pending after any entries if and only if it was, or the latest of them is above the last refresh
 pub fed_some : (w : WidthValue) (b : ℤ) (r : Option ℕ) (es : List Entry) (v : Option ℕ) → IsWidth w → is_bucket w b ≡ true → is_some (pending_after_all w b r es v) ≡ (is_some v || is_some (above_last r (touch_at w es b)))
 fed_some w b r [] v h bucket = sym (ap (λ x. is_some v || is_some x) (above_last-nothing r) ∙ or-false (is_some v))
 fed_some w b r (e ∷ es) v h bucket =
@@ -145,7 +147,7 @@ some_over None (Some q) = refl
 some_over (Some p) None = refl
 some_over (Some p) (Some q) = refl
 
--- the same by the entries near a span
+-- the same for the entries near a span
 pub near_some : (w : WidthValue) (s : SpanValue) (b : ℤ) (r : Option ℕ) (es : List Entry) (v : Option ℕ) → IsWidth w → IsWholeSpan w s → is_bucket w b ≡ true → in_span s b ≡ true → is_some (combined_by Over v (combined_by Above r (touch_at w (filter (λ e. overlaps e.hull s) es) b))) ≡ is_some (pending_after_all w b r es v)
 near_some w s b r es v h whole bucket inside =
     ap (λ q. is_some (combined_by Over v (above_last r q))) (touch_at-near w s es b h whole bucket inside)
@@ -174,7 +176,7 @@ in_step-with w p r p' es h is = record {
     still false (Some p) None m = refl
     still false (Some p) (Some q) m = refl
 
--- within a span alone
+-- only within a span
 pub with_within : (i : Bool) (p r q : Option ℕ) → combined_by Over (cond i p None) (combined_by Above (cond i r None) (cond i q None)) ≡ cond i (combined_by Over p (combined_by Above r q)) None
 with_within true p r q = refl
 with_within false p r q = refl
@@ -183,7 +185,7 @@ pub cond_twice : (i : Bool) (v : Option ℕ) → cond i (cond i v None) None ≡
 cond_twice true v = refl
 cond_twice false v = refl
 
--- the chain of what the code makes at a number
+-- the chain of values that the code computes at a number
 pub fed_chain : (shared made p' p fresh r' r newest q : Option ℕ) → shared ≡ made → made ≡ combined_by Over p' fresh → p' ≡ p → fresh ≡ combined_by Above r' newest → r' ≡ r → newest ≡ q → shared ≡ combined_by Over p (combined_by Above r q)
 fed_chain shared made p' p fresh r' r newest q a c d e f g =
     a ∙ c ∙ ap (λ v. combined_by Over v fresh) d ∙ ap (combined_by Over p) (e ∙ ap (λ v. combined_by Above v newest) f ∙ ap (combined_by Above r) g)
@@ -192,7 +194,7 @@ pub near_chain : (i : Bool) (made p' p fresh r' r newest q q' : Option ℕ) → 
 near_chain i made p' p fresh r' r newest q q' c d e f g k =
     c ∙ ap (λ v. combined_by Over v fresh) d ∙ ap (combined_by Over (cond i p None)) (e ∙ ap (λ v. combined_by Above v newest) f ∙ ap (combined_by Above (cond i r None)) (g ∙ ap (λ v. cond i v None) k)) ∙ with_within i p r q'
 
--- ---- one entry after another
+-- ---- entries in order
 
 pub fed_one : (first old new : LogValue) (b : ℤ) (entries : List Entry) (i : ℕ) (e : Entry) → i < length entries → e ≡ get_or entries i e → old.width ≡ first.width → last_at old b ≡ last_at first b
     → (is_bucket old.width b ≡ true → pending_at new b ≡ pending_after old.width b (last_at old b) e (pending_at old b)) → is_bucket first.width b ≡ true

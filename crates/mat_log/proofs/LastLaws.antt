@@ -1,4 +1,4 @@
--- Laws of last refreshes as pieces: merged, they are ranges of whole buckets, as long as can be.
+-- Laws of last refreshes as pieces: merged, they are ranges of whole buckets, of maximal length.
 use Rattle.std.proofs.Common.{◌≡◌, ℕ, zero, suc, Bool, true, false, cond, ◌&&◌, ◌||◌, ◌==◌, ◌<◌, ℤ, pos, ◌-ℤ◌, ◌≤ℤ◌, ◌<ℤ◌, List, [], ◌∷◌, ◌++◌, take, length, get_or, Option, Some, None, Result, IfOk, refl, sym, ap, ◌∙◌, subst, arith, true≢false}
 use Rattle.std.specs.Prelude.{◌≢◌, is_none, is_some, nat_lt}
 use Rattle.std.proofs.Math.Bool.{or-false}
@@ -127,7 +127,7 @@ same_value v = eq-eqb v v refl
 other_value : (v x : ℕ) → v ≢ x → (v == x) ≡ false
 other_value v x d = elim (v == x) as (λ t. (v == x) ≡ t → t ≡ false) [ true ↦ λ e. absurd (d (eqb-true v x e)) | false ↦ λ _. refl ] refl
 
--- the value behind a piece is another
+-- the value after a piece differs from it
 behind : (p : Piece) (ps : List Piece) → AreSized (p ∷ ps) → is_value p.pos (piece_at (p ∷ ps) p.span.hi) ≡ false
 behind p ps s =
     let end : in_span p.span p.span.hi ≡ false = out_above p.span p.span.hi (omega (arith, ints)) in
@@ -147,7 +147,7 @@ behind p ps s =
         own : (r : Piece) (rs : List Piece) → (q ∷ qs) ≡ r ∷ rs → q.span.lo ≤ℤ r.span.lo
         own r rs e = let same : q ≡ r = cc in subst (λ (x : Piece). q.span.lo ≤ℤ x.span.lo) same (omega (arith, ints))
 
--- and the value before the next one is another
+-- and the value before the next one differs from it
 ahead : (p q : Piece) (qs : List Piece) → AreSized (p ∷ q ∷ qs) → is_value q.pos (piece_at (p ∷ q ∷ qs) (q.span.lo -ℤ pos 1)) ≡ false
 ahead p q qs s =
     let up : p.span.hi ≤ℤ q.span.lo = s.1.above in
@@ -178,7 +178,7 @@ whole_one w f p ps h one s before is =
       some = size;
     }
 
--- and so does each
+-- and so does each piece
 whole_each : (w : WidthValue) (f : ℤ → Option ℕ) (p : Piece) (ps : List Piece) → IsWidth w → ((t : ℤ) → f t ≡ f (bucket_of w t)) → AreSized (p ∷ ps) → is_value p.pos (f (p.span.lo -ℤ pos 1)) ≡ false → ((t : ℤ) → p.span.lo ≤ℤ t → piece_at (p ∷ ps) t ≡ f t) → AllByRecursion (λ (q : Piece). IsWholeRange w q.span) (p ∷ ps)
 whole_each w f p [] h one s before is = (whole_one w f p [] h one s before is, tt)
 whole_each w f p (q ∷ qs) h one s before is =
@@ -213,7 +213,7 @@ lasts_merged w f g s pieces h one bucket is_whole same values rising =
       exact = λ b q. are b ∙ ap (λ (x : SpanValue). cond (in_span x b) (f b) None) is_whole;
     }
 
--- the same of results
+-- the same for results
 pub lasts_as : {E : Type 0} (w : WidthValue) (f g : ℤ → Option ℕ) (s : SpanValue) (pieces : List Piece) (found : Result (List Piece) E) → IsWidth w → ((t : ℤ) → f t ≡ f (bucket_of w t)) → s ≡ whole_span w → ((t : ℤ) → g t ≡ f t) → ((t : ℤ) → piece_at pieces t ≡ cond (in_span s t) (g t) None) → ArePieces s.lo s.hi pieces → IfOk found (λ ps. ps ≡ all_merged pieces) → IfOk found (AreLasts w f)
 lasts_as w f g s pieces found h one is_whole same values rising =
     IfOk-weaker found _ _ (λ ps e. subst (AreLasts w f) (sym e) (lasts_merged w f g s pieces h one bucket is_whole same values rising))
@@ -221,7 +221,7 @@ lasts_as w f g s pieces found h one is_whole same values rising =
     bucket : (t : ℤ) → in_span s t ≡ in_span s (bucket_of w t)
     bucket t = ap (λ (x : SpanValue). in_span x t) is_whole ∙ in_span-bucket w (whole_span w) t h (is_bucket-first w h) (is_bucket-bucket_of w greatest h) ∙ ap (λ (x : SpanValue). in_span x (bucket_of w t)) (sym is_whole)
 
--- ---- what is pending where the last refreshes are known
+-- ---- what is pending if the last refreshes are known
 
 pending_is : (v : Option ℕ) (inside dirty : Bool) (at : ℕ) → combined_by Over (combined_by Above v (cond inside (Some 0) None)) (cond dirty (Some at) None) ≡ cond dirty (Some at) (cond (inside && is_none v) (Some 0) None)
 pending_is v inside true at = refl
@@ -266,7 +266,7 @@ in_step-resumed w ps ss at p r h pieces ranges rs are = record {
     either None true inside e = refl
     either None false inside e = ap (λ b. is_some {T = ℕ} (cond (b && true) (Some 0) None)) e
 
--- what is pending, by the maps that it is combined of
+-- what is pending, by the maps that it is combined from
 pub pending_resumed : (w : WidthValue) (ps : List Piece) (ss : List SpanValue) (at : ℕ) (s : SpanValue) (r n p : Option ℕ) (t : ℤ) → s ≡ whole_span w → r ≡ piece_at ps t → n ≡ combined_by Above r (cond (lies_in (s ∷ []) t) (Some 0) None) → p ≡ combined_by Over n (cond (lies_in ss t) (Some at) None)
     → p ≡ cond (lies_in ss t) (Some at) (cond (in_span (whole_span w) t && is_none (piece_at ps t)) (Some 0) None)
 pending_resumed w ps ss at s r n p t whole rs ns is =
@@ -298,7 +298,7 @@ none_earlier lo hi (p ∷ ps) (suc i) d t a l e =
         let rest : p.span.hi ≤ℤ t = low p.span.hi ps i a.3 (omega arith) e in
         omega (arith, ints)
 
--- one piece more
+-- one more piece
 pub piece_more : (lo hi : ℤ) (ps : List Piece) (i : ℕ) (p : Piece) (t : ℤ) → ArePieces lo hi ps → i < length ps → p ≡ get_or ps i p → cond (in_span p.span t) (Some p.pos) (piece_at (take i ps) t) ≡ piece_at (take (suc i) ps) t
 piece_more lo hi [] i p t a l is = absurd (omega arith)
 piece_more lo hi (q ∷ qs) zero p t a l is = ap (λ (x : Piece). cond (in_span x.span t) (Some x.pos) None) is

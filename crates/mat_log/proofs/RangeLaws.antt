@@ -1,4 +1,4 @@
--- Laws of ranges: pieces joined where they touch are ranges of whole buckets, as long as can be.
+-- Laws of ranges: pieces joined where they touch are ranges of whole buckets, of maximal length.
 use Rattle.std.proofs.Common.{◌≡◌, ℕ, Bool, true, false, not, cond, nat_le, nat_lt, ◌&&◌, ◌||◌, ℤ, pos, ◌+ℤ◌, ◌-ℤ◌, ◌≤ℤ◌, ◌<ℤ◌, int_le, List, [], ◌∷◌, ◌++◌, filter, Option, Some, None, is_some, is_none, Result, IfOk, refl, sym, ap, ◌∙◌, subst, arith, true≢false}
 use Rattle.std.specs.Ordering.{int_eq}
 use Rattle.std.specs.List.{AllByRecursion}
@@ -46,7 +46,7 @@ out_above s t l = grind (arith, ints)
 
 -- ---- pieces joined
 
--- the open range, where there is one, has numbers and ends at or below lo
+-- the open range, if there is one, has numbers and ends at or below lo
 abbrev OpenFits : Option SpanValue → ℤ → Type 0
 OpenFits None lo = Unit {0}
 OpenFits (Some s) lo = (s.lo <ℤ s.hi) × (s.hi ≤ℤ lo)
@@ -91,7 +91,7 @@ before_step : (x : ℤ) (s : SpanValue) (p : Piece) (ps : List Piece) (touching 
 before_step x s p ps true l rest = rest (record { lo = s.lo; hi = p.span.hi }) l
 before_step x s p ps false l rest = l
 
--- what is below the open range is below all of them
+-- a number below the open range is below all ranges
 before-joined : (x : ℤ) (s : SpanValue) (ps : List Piece) → x <ℤ s.lo → IsBeforeRanges x (ranges_joined (Some s) ps)
 before-joined x s [] l = l
 before-joined x s (p ∷ ps) l = before_step x s p ps (int_eq s.hi p.span.lo) l (λ o g. before-joined x o ps g)
@@ -113,7 +113,7 @@ apart-joined (Some s) lo hi (p ∷ ps) a f =
 
 -- ---- whole buckets
 
--- no number below the first range, or at its end before the next, is in a range
+-- no number below the first range is in a range, nor is the end of a range before the next
 pub before_none : (x t : ℤ) (ss : List SpanValue) → IsBeforeRanges x ss → AreApart ss → t ≤ℤ x → lies_in ss t ≡ false
 before_none x t [] b a l = refl
 before_none x t (s ∷ ss) b a l =
@@ -121,7 +121,7 @@ before_none x t (s ∷ ss) b a l =
     let size : s.lo <ℤ s.hi = a.0 in
     ap (λ c. c || lies_in ss t) (out_below s t (omega (arith, ints))) ∙ before_none s.hi t ss a.1 a.2 (omega (arith, ints))
 
--- where a test that has one answer for a whole bucket changes, a bucket starts
+-- if a test that has one answer for a whole bucket changes, a bucket starts
 pub changes_at_bucket : (w : WidthValue) (test : ℤ → Bool) (x : ℤ) → IsWidth w → ((t : ℤ) → test t ≡ test (bucket_of w t)) → (test (x -ℤ pos 1) ≡ test x → ⊥) → is_bucket w x ≡ true
 changes_at_bucket w test x h one differs =
     let low : bucket_of w x ≤ℤ x = (bucket_of_meets w x h).at_or_below in
@@ -171,7 +171,7 @@ and_some : (b : Bool) (v : Option ℕ) → is_some (cond b v None) ≡ (b && is_
 and_some true v = refl
 and_some false v = refl
 
--- a bucket of a span of whole buckets is asked for
+-- a bucket of a span of whole buckets is requested
 asked : (w : WidthValue) (s : SpanValue) (b : ℤ) → IsWholeSpan w s → is_bucket w b ≡ true → is_asked w s b ≡ in_span s b
 asked w s b whole bucket = by (in_span s b) refl
   where
@@ -198,7 +198,8 @@ some_ranges w f s pieces h one whole values rising =
 
 -- ---- dirty buckets
 
--- where something is pending in each bucket without a last refresh, the buckets with something pending are the dirty ones
+-- if something is pending in each bucket without a last refresh, the buckets with something pending are the
+-- dirty ones
 pub dirty_ranges : (w : WidthValue) (p r : ℤ → Option ℕ) (s : SpanValue) (pieces : List Piece) → IsInStep w p r → IsWholeSpan w s → s.hi ≤ℤ greatest → ((t : ℤ) → piece_at pieces t ≡ cond (in_span s t) (p t) None) → ArePieces s.lo s.hi pieces → AreRanges w s (λ b. is_none (r b) || is_some (p b)) (ranges_joined None pieces)
 dirty_ranges w p r s pieces h whole end values rising =
     AreRanges-same w s s (λ b. is_some (p b)) (λ b. is_none (r b) || is_some (p b)) (ranges_joined None pieces)
@@ -220,7 +221,7 @@ dirty_ranges w p r s pieces h whole end values rising =
         let inside : in_span (whole_span w) b ≡ true = in_span-from_ends (whole_span w) b (omega (arith, ints)) (omega (arith, ints)) in
         pending_is (p b) (r b) (h.marked b inside)
 
--- the same as if entries had been fed, where the pieces are those of what is pending then near a span
+-- the same as if entries had been fed, given the pieces of what is then pending near a span
 pub dirty_with_as : {E : Type 0} (log : LogValue) (es : List Entry) (s : SpanValue) (f : ℤ → Option ℕ) (pieces : List Piece) (found : Result (List SpanValue) E) → IsInStep log.width (pending_at log) (last_at log) → IsWholeSpan log.width s → s.hi ≤ℤ greatest → ((t : ℤ) → f t ≡ cond (in_span s t) (pending_or_fresh log (filter (λ e. overlaps e.hull s) es) t) None) → ((t : ℤ) → piece_at pieces t ≡ cond (in_span s t) (f t) None) → ArePieces s.lo s.hi pieces → IfOk found (λ ranges. ranges ≡ ranges_joined None pieces) → IfOk found (AreRanges log.width s (is_dirty_with log es))
 dirty_with_as log es s f pieces found h whole end is values rising =
     IfOk-weaker found _ _ (λ ranges e. subst (AreRanges w s (is_dirty_with log es)) (sym e)
@@ -243,7 +244,7 @@ dirty_with_as log es s f pieces found h whole end is values rising =
     same : (b : ℤ) → is_bucket w b ≡ true → (is_asked w s b && (is_none (last_at log b) || is_some (p b))) ≡ (is_asked w s b && is_dirty_with log es b)
     same b q = ap (λ c. c && (is_none (last_at log b) || is_some (p b))) (asked w s b whole q) ∙ by b (in_span s b) q refl ∙ ap (λ c. c && is_dirty_with log es b) (sym (asked w s b whole q))
 
--- the same of results
+-- the same for results
 pub dirty_as : {E : Type 0} (w : WidthValue) (p r : ℤ → Option ℕ) (s : SpanValue) (pieces : List Piece) (found : Result (List SpanValue) E) → IsInStep w p r → IsWholeSpan w s → s.hi ≤ℤ greatest → ((t : ℤ) → piece_at pieces t ≡ cond (in_span s t) (p t) None) → ArePieces s.lo s.hi pieces → IfOk found (λ ranges. ranges ≡ ranges_joined None pieces) → IfOk found (AreRanges w s (λ b. is_none (r b) || is_some (p b)))
 dirty_as w p r s pieces found h whole end values rising = IfOk-weaker found _ _ (λ ranges e. subst (AreRanges w s (λ b. is_none (r b) || is_some (p b))) (sym e) (dirty_ranges w p r s pieces h whole end values rising))
 
@@ -253,7 +254,7 @@ some_as w f s pieces found h one whole values rising = IfOk-weaker found _ _ (λ
 pub same_as : {E : Type 0} (w : WidthValue) (s s' : SpanValue) (test test' : ℤ → Bool) (found : Result (List SpanValue) E) → ((b : ℤ) → is_bucket w b ≡ true → (is_asked w s b && test b) ≡ (is_asked w s' b && test' b)) → IfOk found (AreRanges w s test) → IfOk found (AreRanges w s' test')
 same_as w s s' test test' found same = IfOk-weaker found _ _ (λ ranges h. AreRanges-same w s s' test test' ranges same h)
 
--- buckets below a mark that are asked for within a span, and that pass a test
+-- buckets below a mark that are requested within a span, and that pass a test
 pub stale_same : (w : WidthValue) (s starts : SpanValue) (mark : Option ℤ) (test : ℤ → Bool) (b : ℤ) → is_bucket w b ≡ true → (first_of w ≤ℤ b → in_span s b ≡ (in_span starts b && is_below b mark)) → (is_asked w s b && test b) ≡ (is_asked w starts b && (is_below b mark && test b))
 stale_same w s starts mark test b bucket exact = by_lt_z b (first_of w)
     (λ below.
@@ -277,7 +278,8 @@ stale_same w s starts mark test b bucket exact = by_lt_z b (first_of w)
         ∙ ap (λ x. (in_span t b && (x && true)) && z) bucket
         ∙ ap (λ x. x && z) (and-true (in_span t b))
 
--- the ranges of the buckets with a last refresh and something pending, where the pieces are those of what is pending then near a span
+-- the ranges of the buckets with a last refresh and something pending, given the pieces of what is then pending
+-- near a span
 pub changed_with_as : {E : Type 0} (log : LogValue) (es : List Entry) (s : SpanValue) (f q r : ℤ → Option ℕ) (pieces : List Piece) (found : Result (List SpanValue) E) → IsInStep log.width (pending_at log) (last_at log) → IsWholeSpan log.width s → ((t : ℤ) → q t ≡ cond (in_span s t) (pending_or_fresh log (filter (λ e. overlaps e.hull s) es) t) None) → ((t : ℤ) → r t ≡ cond (in_span s t) (last_at log t) None) → ((t : ℤ) → f t ≡ combined_by Where (r t) (q t)) → ((t : ℤ) → piece_at pieces t ≡ cond (in_span s t) (f t) None) → ArePieces s.lo s.hi pieces → IfOk found (λ ranges. ranges ≡ ranges_joined None pieces) → IfOk found (AreRanges log.width s (is_changed_with log es))
 changed_with_as log es s f q r pieces found h whole qs rs fs values rising =
     IfOk-weaker found _ _ (λ ranges e. subst (AreRanges w s (is_changed_with log es)) (sym e)
@@ -329,7 +331,7 @@ some_not_below snap (Some p) = by (nat_le p snap) (nat_lt snap p) refl refl
     by false true e f = refl
     by false false e f = absurd (grind (arith, nat_tests))
 
--- ranges of whole buckets have the whole of a bucket or nothing of it
+-- ranges of whole buckets hold a whole bucket or none of it
 lies_in-bucket : (w : WidthValue) (ranges : List SpanValue) (t : ℤ) → IsWidth w → AllByRecursion (IsWholeRange w) ranges → lies_in ranges t ≡ lies_in ranges (bucket_of w t)
 lies_in-bucket w [] t h whole = refl
 lies_in-bucket w (s ∷ ss) t h whole =
@@ -361,7 +363,7 @@ renewed_as log s ranges snap f pieces found h whole parts is values rising =
     inside true v u = refl
     inside false v u = refl
 
--- what is left within a span of a value above a snapshot
+-- the values above a snapshot that remain within a span
 pub cut_above : (i : Bool) (snap : ℕ) (v : Option ℕ) → cond i (above snap (cond i v None)) (cond i v None) ≡ cond i (above snap v) None
 cut_above true snap v = refl
 cut_above false snap v = refl

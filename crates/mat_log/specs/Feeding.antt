@@ -9,12 +9,12 @@ use Rattle.ts_bucket.specs.WholeSpans.{IsWithin, is_below}
 use Rattle.inval_log.specs.declared.entries.Entry.{Entry}
 use Rattle.mat_log.specs.Logs.{LogValue, is_refreshed_after, pending_at, last_at}
 
--- what is pending at the bucket b, whose last refresh is r, after one entry: its position, where its hull meets the
--- bucket and the bucket wasn't refreshed at or after it
+-- what is pending at the bucket b, whose last refresh is r, after one entry: its position, if its hull meets
+-- the bucket and the bucket wasn't refreshed at or after it
 abbrev pub pending_after : WidthValue → ℤ → Option ℕ → Entry → Option ℕ → Option ℕ
 pending_after w b r e v = cond (meets w b e.hull && is_before e.pos r) (Some e.pos) v
 
--- the same after entries, one after another
+-- the same after entries, in order
 abbrev pub pending_after_all : WidthValue → ℤ → Option ℕ → List Entry → Option ℕ → Option ℕ
 pending_after_all w b r [] v = v
 pending_after_all w b r (e ∷ es) v = pending_after_all w b r es (pending_after w b r e v)
@@ -50,7 +50,7 @@ is_changed_with log entries b = is_some (last_at log b) && is_some (pending_with
 abbrev pub is_redone_with : LogValue → List Entry → ℕ → ℤ → Bool
 is_redone_with log entries snap b = is_dirty_with log entries b || is_refreshed_after log snap b
 
--- an entry as what it notes
+-- an entry as a noted hull
 abbrev pub note_of : Entry → Noted
 note_of e = record { hull = e.hull; at = e.pos }
 

@@ -4,7 +4,7 @@ use Rattle.std.specs.Ordering.{int_eq}
 use Rattle.ts_bucket.specs.Spans.{SpanValue}
 use Rattle.span_map.specs.declared.pieces.Piece.{Piece}
 
--- the range that is open, where there is one, after a piece
+-- the range that is open, if there is one, after a piece
 abbrev pub open_after : Option SpanValue → SpanValue → SpanValue
 open_after None t = t
 open_after (Some s) t = cond (int_eq s.hi t.lo) (record { lo = s.lo; hi = t.hi }) t

@@ -9,12 +9,12 @@ use Rattle.ts_bucket.specs.WholeSpans.{whole_span}
 use Rattle.span_map.specs.declared.pieces.Piece.{Piece}
 use Rattle.span_map.specs.Pieces.{piece_at}
 
--- a piece is above another, and where it begins where that ends, it has another position
+-- a piece is above another, and if it begins where that ends, it has another position
 pub record Follows (p q : Piece) : Type 0 where
   pub above : p.span.hi ≤ℤ q.span.lo
   pub other : p.span.hi ≡ q.span.lo → p.pos ≢ q.pos
 
--- pieces rise, and where one begins where another ends, their positions differ
+-- pieces rise, and if one begins where another ends, their positions differ
 abbrev pub PiecesRise : List Piece → Type 0
 PiecesRise [] = Unit {0}
 PiecesRise (p ∷ []) = Unit {0}
@@ -36,7 +36,7 @@ goes_on p q = int_eq p.span.hi q.span.lo && p.pos == q.pos
 abbrev pub longer : Piece → Piece → Piece
 longer p q = record { span = record { lo = p.span.lo; hi = q.span.hi }; pos = p.pos }
 
--- a piece and those after it, where adjacent pieces with the same position are merged
+-- a piece and those after it, with adjacent pieces of the same position merged
 abbrev pub pieces_merged : Piece → List Piece → List Piece
 pieces_merged p [] = p ∷ []
 pieces_merged p (q ∷ qs) = cond (goes_on p q) (pieces_merged (longer p q) qs) (p ∷ pieces_merged q qs)

@@ -32,19 +32,19 @@ is_stale log mark b = is_below b mark && is_dirty log b
 abbrev pub is_refreshed_after : LogValue → ℕ → ℤ → Bool
 is_refreshed_after log snap b = is_above snap (last_at log b)
 
--- a refresh with this snapshot renews the bucket that starts at b: its last refresh, if there is one, isn't above the
--- snapshot
+-- a refresh with this snapshot updates the bucket that starts at b: its last refresh, if there is one, isn't
+-- above the snapshot
 abbrev pub is_renewed : LogValue → ℕ → ℤ → Bool
 is_renewed log snap b = not (is_above snap (last_at log b))
 
--- the same of every bucket: what is pending there, and its last refresh
+-- the same for every bucket: what is pending there, and its last refresh
 pub record IsSame (old new : LogValue) : Type 0 where
   pub width : new.width ≡ old.width
   pub pending : (b : ℤ) → pending_at new b ≡ pending_at old b
   pub refreshed : (b : ℤ) → last_at new b ≡ last_at old b
 
--- what keeps the two functions in step: each has one value for a whole bucket, and where nothing was refreshed
--- something is pending
+-- the invariant that keeps the two functions in step: each has one value for a whole bucket, and if nothing was
+-- refreshed something is pending
 pub record IsInStep (w : WidthValue) (pending refreshed : ℤ → Option ℕ) : Type 0 where
   pub bounds : IsWidth w
   pub one_pending : (t : ℤ) → pending t ≡ pending (bucket_of w t)

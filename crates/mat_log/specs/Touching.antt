@@ -1,4 +1,4 @@
--- What entries touched last, number by number.
+-- The last touches of entries, number by number.
 use Rattle.std.specs.Prelude.{ℕ, cond, List, [], ◌∷◌, ℤ, Option, Some, None}
 use Rattle.ts_bucket.specs.Bucket.{WidthValue}
 use Rattle.ts_bucket.specs.Positions.{later}
@@ -13,7 +13,7 @@ abbrev pub touch_at : WidthValue → List Entry → ℤ → Option ℕ
 touch_at w [] t = None
 touch_at w (e ∷ es) t = later (cond (in_span (touched_span w e.hull) t) (Some e.pos) None) (touch_at w es t)
 
--- the latest of these positions where it is above the last refresh, and else what is pending
+-- the latest of these positions if it is above the last refresh, and otherwise what is pending
 abbrev pub pending_or_fresh : LogValue → List Entry → ℤ → Option ℕ
 pending_or_fresh log es t =
     combined_by Over (pending_at log t) (combined_by Above (last_at log t) (touch_at log.width es t))

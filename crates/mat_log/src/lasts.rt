@@ -41,7 +41,7 @@ fn join_pieces(piece: &Piece, next: &Piece) -> Option<Piece>
     }
 }
 
-/// The last piece after the next one. It is appended to the others, unless the next one continues it.
+/// Appends the last piece to the others, unless the next piece continues it. Returns the new last piece.
 fn push_or_extend(pieces: &mut Vec<Piece>, last: &Piece, next: &Piece) -> Result<Piece, NoMemory>
     ensures { IfOk result (λ now. (rest : List PieceValue) →
         pieces.new.items ++ pieces_merged now rest ≡ pieces.old.items ++ pieces_merged last.now (next.now ∷ rest)) }
@@ -55,7 +55,7 @@ fn push_or_extend(pieces: &mut Vec<Piece>, last: &Piece, next: &Piece) -> Result
     }
 }
 
-/// A piece and those after it, where adjacent pieces with the same position are merged.
+/// A piece and those after it, with adjacent pieces of the same position merged.
 fn merge_all(alloc: Global, first: Piece, rest: &[Piece]) -> Result<Seq<Piece>, NoMemory>
     ensures { IfOk result (λ pieces. pieces ≡ pieces_merged first rest.now) }
 {
@@ -68,7 +68,7 @@ fn merge_all(alloc: Global, first: Piece, rest: &[Piece]) -> Result<Seq<Piece>, 
     Ok(Seq::of(pieces))
 }
 
-/// The pieces, where adjacent ones with the same position are merged.
+/// The pieces, with adjacent ones of the same position merged.
 pub(crate) fn merge_pieces(alloc: Global, pieces: &[Piece]) -> Result<Seq<Piece>, NoMemory>
     ensures { IfOk result (λ found. found ≡ all_merged pieces.now) }
 {

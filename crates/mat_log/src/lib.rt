@@ -1,4 +1,4 @@
-//! What is out of date of one aggregate: which buckets were touched since their last refresh.
+//! The stale buckets of one aggregate: those that were touched since their last refresh.
 #![tactic(auto)]
 
 mod lasts;

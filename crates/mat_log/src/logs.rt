@@ -29,11 +29,11 @@ use std::marker::Model;
 use ts_bucket::{Span, Width, all_buckets, span_touched};
 use ts_schema::{NoMemory, Seq};
 
-/// Feeding one entry costs about as much as this many edges in a sweep over all.
+/// Feeding one entry costs about as much as this many edges in a sweep over all edges.
 const EDGES_AN_ENTRY: usize = 128;
 
-/// For each bucket of an aggregate, the position that is pending there, if there is one, and the
-/// position of its last refresh, if there is one.
+/// The pending position of each bucket of an aggregate, and the position of its last refresh. A bucket may have
+/// neither, one or both.
 #[derive(Drop, Debug)]
 pub struct MatLog {
     alloc: Global,
@@ -135,9 +135,9 @@ impl MatLog {
         })
     }
 
-    /// The log after a refresh of a span of whole buckets finished, with a snapshot at this position: in the
-    /// span nothing up to it is pending, and the last refresh is raised to it. The cost grows with the
-    /// pieces in the span; the others are shared.
+    /// The log after a refresh of a span of whole buckets finished, with a snapshot at this position. In the
+    /// span nothing up to this position is pending, and the last refresh is raised to it. The cost grows with
+    /// the pieces in the span; the others are shared.
     pub fn with_refresh(&self, span: Span, snap: u64) -> Result<MatLog, NoMemory>
         requires whole { IsWholeSpan self.now.width span }
         ensures width { IfOk result (λ new. new.width ≡ self.now.width) }
@@ -165,7 +165,7 @@ impl MatLog {
     pub fn lasts(&self) -> Result<Seq<Piece>, NoMemory>
         ensures lasts { IfOk result (AreLasts self.now.width (last_at self.now)) }
     {
-        // Reading the width tells that each bucket has one value.
+        // Reading the width tells the prover that each bucket has one value.
         let _width = self.width;
         let pieces = self.refreshed.ranges(all_buckets(self.width))?;
         merge_pieces(self.alloc, pieces.items())
@@ -177,14 +177,14 @@ impl MatLog {
         requires { IsWholeSpan self.now.width span }
         ensures ranges { IfOk result (AreRanges self.now.width span (is_dirty self.now)) }
     {
-        // Reading the end tells that it is a number of 64 bits.
+        // Reading the end tells the prover that it has 64 bits.
         let _end = span.hi;
         join_pieces(self.pending.ranges(span)?)
     }
 
     /// The dirty buckets below the mark that start in a span, as maximal ranges. The mark is the end of a
     /// bucket that holds a time; without a mark there are none. The log must have been fed all entries. The
-    /// engine calls `stale_with`, which needs no such log.
+    /// engine calls `stale_with`, which doesn't need that.
     pub fn stale(&self, starts: Span, mark: Option<i64>) -> Result<Seq<Span>, NoMemory>
         requires { ForSome mark (IsMark self.now.width) }
         ensures ranges { IfOk result (AreRanges self.now.width starts (is_stale self.now mark)) }
@@ -206,13 +206,13 @@ impl MatLog {
         }
     }
 
-    /// Whether one sweep over all pieces costs less than feeding so many entries in order.
+    /// Whether one sweep over all pieces costs less than feeding `entries` entries in order.
     fn is_swept(&self, entries: usize) -> bool {
         let edges = self.pending.size().saturating_add(self.refreshed.size());
         entries > edges / EDGES_AN_ENTRY
     }
 
-    /// The same of entries whose positions rise, in one sweep over the pieces.
+    /// The same for entries whose positions rise, in one sweep over the pieces.
     fn fed_at_once(&self, entries: &[Entry]) -> Result<MatLog, NoMemory>
         requires within { AreWithin entries.now self.now }
         requires rising { are_rising 0 entries.now ≡ true }
@@ -241,8 +241,8 @@ impl MatLog {
         Ok(fed)
     }
 
-    /// What is pending in a span of whole buckets, as if the entries had been fed: a map with just
-    /// the values there.
+    /// What is pending in a span of whole buckets, as if the entries had been fed: a map with only the values
+    /// there.
     fn pending_near(&self, entries: &BlockList<Entry>, span: Span) -> Result<SpanMap, NoMemory>
         requires within { AreWithin entries.now.items self.now }
         ensures values { let near = filter (λ e. overlaps e.hull span) entries.now.items in
@@ -261,8 +261,8 @@ impl MatLog {
         requires within { AreWithin entries.now.items self.now }
         ensures ranges { IfOk result (AreRanges self.now.width span (is_dirty_with self.now entries.now.items)) }
     {
-        // Reading the end tells that it is a number of 64 bits, and reading the width that the two
-        // maps are in step.
+        // Reading the end tells the prover that it has 64 bits, and reading the width that the two maps are in
+        // step.
         let _end = span.hi;
         let _width = self.width;
         let pending = self.pending_near(entries, span)?;
@@ -283,8 +283,8 @@ impl MatLog {
         self.dirty_with(entries, buckets_below(self.width, starts, mark))
     }
 
-    /// The buckets of a span of whole buckets that have a last refresh and at which something is pending, as
-    /// if the entries had been fed to the log, as maximal ranges.
+    /// The buckets of a span of whole buckets that have a last refresh and something pending, as maximal
+    /// ranges. The result is as if the entries had been fed to the log.
     pub fn changed_with(
         &self,
         entries: &BlockList<Entry>,
@@ -294,7 +294,7 @@ impl MatLog {
         requires within { AreWithin entries.now.items self.now }
         ensures ranges { IfOk result (AreRanges self.now.width span (is_changed_with self.now entries.now.items)) }
     {
-        // Reading the width tells that the two maps are in step.
+        // Reading the width tells the prover that the two maps are in step.
         let _width = self.width;
         let pending = self.pending_near(entries, span)?;
         let refreshed = self.refreshed.within(span)?;
@@ -302,16 +302,16 @@ impl MatLog {
         join_pieces(changed.ranges(span)?)
     }
 
-    /// The buckets in a span of whole buckets that are in these ranges of whole buckets and have no last
-    /// refresh above a snapshot, as maximal ranges. A refresh of the span that recomputes the ranges with
-    /// this snapshot renews them.
+    /// The buckets of a span and of these ranges, all of whole buckets, that have no last refresh above a
+    /// snapshot. The result is maximal ranges. A refresh of the span that recomputes the ranges with this
+    /// snapshot updates them.
     pub fn to_renew(&self, span: Span, ranges: &[Span], snap: u64) -> Result<Seq<Span>, NoMemory>
         requires whole { IsWholeSpan self.now.width span }
         requires ranges { AllByRecursion (IsWholeRange self.now.width) ranges.now }
         ensures ranges { IfOk result (AreRanges self.now.width span (λ b.
             lies_in ranges.now b && is_renewed self.now snap b)) }
     {
-        // Reading the width tells that the two maps are in step.
+        // Reading the width tells the prover that the two maps are in step.
         let _width = self.width;
         let all = position_map(self.alloc, ranges, snap)?;
         let refreshed = self.refreshed.within(span)?;
@@ -319,9 +319,9 @@ impl MatLog {
         join_pieces(renewed.ranges(span)?)
     }
 
-    /// The buckets of a span of whole buckets that a repeated refresh with this snapshot recomputes: those
-    /// that are dirty, as if the entries had been fed to the log, and those whose last refresh is above the
-    /// snapshot, as maximal ranges.
+    /// The buckets of a span of whole buckets that a repeated refresh with this snapshot recomputes, as maximal
+    /// ranges. These are the dirty buckets, as if the entries had been fed to the log, and those whose last
+    /// refresh is above the snapshot.
     pub fn redone_with(
         &self,
         entries: &BlockList<Entry>,
@@ -332,8 +332,8 @@ impl MatLog {
         requires within { AreWithin entries.now.items self.now }
         ensures ranges { IfOk result (AreRanges self.now.width span (is_redone_with self.now entries.now.items snap)) }
     {
-        // Reading the end tells that it is a number of 64 bits, and reading the width that the two
-        // maps are in step.
+        // Reading the end tells the prover that it has 64 bits, and reading the width that the two maps are in
+        // step.
         let _end = span.hi;
         let _width = self.width;
         let pending = self.pending_near(entries, span)?;

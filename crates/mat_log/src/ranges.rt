@@ -9,7 +9,7 @@ use std::alloc::Global;
 use ts_bucket::Span;
 use ts_schema::{NoMemory, Seq};
 
-/// The range that is open after a piece, where one may be open before it.
+/// The range that is open after a piece, if one may be open before it.
 fn open_range(range: &Option<Span>, next: Span) -> Span
     ensures { result ≡ open_after range.now next }
 {
@@ -19,7 +19,7 @@ fn open_range(range: &Option<Span>, next: Span) -> Span
     }
 }
 
-/// The open range with the next one at its end, or else the next one.
+/// The open range with the next one at its end, or otherwise the next one.
 fn extend_range(range: Span, next: Span) -> Span
     ensures { result ≡ open_after (Some range) next }
 {
@@ -63,7 +63,7 @@ fn close(ranges: &mut Vec<Span>, range: Option<Span>) -> Result<(), NoMemory>
     Ok(())
 }
 
-/// The ranges that pieces make together.
+/// The ranges that pieces form when joined.
 fn joined_ranges(alloc: Global, pieces: &[Piece]) -> Result<Seq<Span>, NoMemory>
     ensures { IfOk result (λ ranges. ranges ≡ ranges_joined None pieces.now) }
 {
@@ -78,7 +78,7 @@ fn joined_ranges(alloc: Global, pieces: &[Piece]) -> Result<Seq<Span>, NoMemory>
     Ok(Seq::of(ranges))
 }
 
-/// The same of a list of pieces, in its allocator.
+/// The same for a list of pieces, with its allocator.
 pub(crate) fn join_pieces(pieces: Seq<Piece>) -> Result<Seq<Span>, NoMemory>
     ensures { IfOk result (λ ranges. ranges ≡ ranges_joined None pieces) }
 {

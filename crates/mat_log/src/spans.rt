@@ -40,7 +40,7 @@ pub(crate) fn buckets_below(w: Width, starts: Span, mark: Option<i64>) -> Span
     buckets_in(w, span_below(starts, mark))
 }
 
-/// The map with this position at each number of the spans, and nothing elsewhere.
+/// The map with this position at each number of the spans, and no value elsewhere.
 pub(crate) fn position_map(alloc: Global, spans: &[Span], pos: u64) -> Result<SpanMap, NoMemory>
     ensures { IfOk result (λ map. (t : ℤ) → at map t ≡ cond (lies_in spans.now t) (Some pos) None) }
 {

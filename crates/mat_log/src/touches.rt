@@ -1,4 +1,4 @@
-//! What the entries of a log touched last.
+//! The last touches of the entries of a log.
 
 ghost use Rattle.std.specs.Prelude.{◌≡◌, ℤ, true, IfOk, filter};
 ghost use Rattle.std.specs.List.{All};
@@ -15,7 +15,7 @@ use std::alloc::Global;
 use ts_bucket::{Span, Width, meets, span_touched};
 use ts_schema::NoMemory;
 
-/// So many entries are written to a map in order; of more, the two halves are combined.
+/// Up to this many entries are written to a map in order. For more, the results of two halves are combined.
 const FEW: usize = 16;
 
 /// Whether the positions of the entries rise.
@@ -32,7 +32,7 @@ pub(crate) fn do_rise(entries: &[Entry]) -> bool
     true
 }
 
-/// All entries, as one slice has them.
+/// All entries, as one slice.
 pub(crate) fn all_entries(entries: &BlockList<Entry>) -> Result<Vec<Entry>, NoMemory>
     ensures { IfOk result (λ all. all.items ≡ entries.now.items) }
 {
@@ -54,8 +54,7 @@ pub(crate) fn entries_near(entries: &BlockList<Entry>, span: Span) -> Result<Vec
     )
 }
 
-/// The latest positions of the entries at the buckets that their hulls meet, one entry after
-/// another.
+/// The latest positions of the entries at the buckets that their hulls meet, computed entry by entry.
 fn touches_in_turn(alloc: Global, w: Width, entries: &[Entry]) -> Result<SpanMap, NoMemory>
     requires { All (λ e. IsWithin w e.hull) entries.now }
     ensures { IfOk result (λ touches. (t : ℤ) → at touches t ≡ touch_at w entries.now t) }

@@ -60,7 +60,7 @@ not_below : (x : ℤ) (g : Group) (b : Bool) → int_lt g.start x ≡ b → int_
 not_below x g true e = grind (arith, ints)
 not_below x g false e = grind (arith, ints)
 
--- where the search parts the groups they are below the number, and from it on
+-- the search splits the groups into those below the number and those from it on
 pub point_before : (gs : List Group) (x : ℤ) (i : ℕ) → i ≤ length gs → IsPartitionPoint (λ (g : Group). int_lt g.start x ≡ true) (λ g. int_lt g.start x ≡ false) gs i → take i gs ≡ below x gs
 point_before [] x zero l h = refl
 point_before [] x (suc i) l h = refl
@@ -144,7 +144,7 @@ order_from x gs h = IsStrictlySortedBy-filter group_cmp (λ g. int_le x g.start)
 pub order_within : (s : SpanValue) (gs : List Group) → AreInOrder gs → AreInOrder (within s gs)
 order_within s gs h = IsStrictlySortedBy-filter group_cmp (λ g. in_span s g.start) gs h
 
--- the same of what is left from a place on
+-- the same for the rest from a place on
 pub parts_later : (gs : List Group) (x : ℤ) (at i : ℕ) → at ≤ i → i ≤ length gs → PartsAt x gs i → PartsAt x (drop at gs) (i - at)
 parts_later gs x at i le m h =
     let left : length (drop at gs) ≡ length gs - at = length-drop at gs in (

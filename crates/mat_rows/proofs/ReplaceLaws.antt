@@ -1,4 +1,4 @@
--- Laws of groups replaced: by the groups at each bucket, in order, and nothing else.
+-- Laws of groups replaced: each bucket has the right groups, in order, and no others.
 use Rattle.std.proofs.Common.{◌≡◌, ℕ, ◌+◌, ◌-◌, ◌<◌, ◌≤◌, length, take, drop, get_or, Bool, true, false, cond, ◌&&◌, ◌||◌, ℤ, ◌≤ℤ◌, ◌<ℤ◌, int_lt, int_le, List, [], ◌∷◌, ◌++◌, filter, refl, sym, ap, ◌∙◌, subst, arith}
 use Rattle.std.specs.List.{AllByRecursion, list_all}
 use Rattle.std.specs.List.Sorted.{IsStrictlySortedBy}
@@ -34,7 +34,7 @@ bucket_step p b c g gs false at same rest =
     by true = ap (λ y. cond y (g ∷ of_bucket b (filter p gs)) (of_bucket b (filter p gs))) at
     by false = refl
 
--- a test of the start passes all groups of a bucket, or none
+-- all groups of a bucket pass a test of the start, or none does
 pub bucket_of_filter : (p : ℤ → Bool) (b : ℤ) (gs : List Group) → of_bucket b (filter (λ g. p g.start) gs) ≡ cond (p b) (of_bucket b gs) []
 bucket_of_filter p b [] = by (p b)
   where
@@ -67,7 +67,7 @@ rise_rest : (s : SpanValue) (ss : List SpanValue) → SpansRise (s ∷ ss) → S
 rise_rest s [] r = tt
 rise_rest s (t ∷ ss) r = r.1
 
--- at each bucket the groups are the new ones where it lies in a span, and else the old ones
+-- at each bucket the groups are the new ones if it lies in a span, and otherwise the old ones
 pub of_bucket-replaced : (b : ℤ) (ss : List SpanValue) (new old : List Group) → AreSpans ss → SpansRise ss → of_bucket b (groups_replaced ss new old) ≡ cond (lies_in ss b) (of_bucket b new) (of_bucket b old)
 of_bucket-replaced b [] new old a r = refl
 of_bucket-replaced b (s ∷ ss) new old a r =
@@ -137,7 +137,7 @@ all_kept : (p : Group → Bool) (P : Group → Type 0) (gs : List Group) → All
 all_kept p P [] h = tt
 all_kept p P (g ∷ gs) h = filter_step P g (filter p gs) (p g) (λ e. h.0) (all_kept p P gs h.1)
 
--- what holds of the new groups and of the old ones holds of all
+-- a property of the new groups and of the old ones is true of all groups
 pub all_replaced : (P : Group → Type 0) (ss : List SpanValue) (new old : List Group) → AllByRecursion P new → AllByRecursion P old → AllByRecursion P (groups_replaced ss new old)
 all_replaced P [] new old p q = q
 all_replaced P (s ∷ ss) new old p q =
@@ -152,7 +152,7 @@ order_join x (g ∷ gs) hs p q a b =
     let less : g.start <ℤ x = a.0 in
     (all_append (λ h. group_cmp g h ≡ Less) gs hs p.0 (all_weaker (λ h. x ≤ℤ h.start) (λ h. group_cmp g h ≡ Less) (λ h le. less_by_start g h (omega (arith, ints))) hs b), order_join x gs hs p.1 q a.1 b)
 
--- all start from x on, where the old ones do, and the spans are above it
+-- all start from x on, if the old ones do, and the spans are above it
 from_replaced : (x : ℤ) (ss : List SpanValue) (new old : List Group) → AreSpans ss → AllByRecursion (λ (t : SpanValue). x ≤ℤ t.lo) ss → AllByRecursion (λ g. x ≤ℤ g.start) old → AllByRecursion (λ g. x ≤ℤ g.start) (groups_replaced ss new old)
 from_replaced x [] new old a h o = o
 from_replaced x (s ∷ ss) new old a h o =
@@ -174,14 +174,14 @@ order_replaced (s ∷ ss) new old a r n o =
     (all_filter (λ g. int_lt g.start s.lo) (λ g. g.start <ℤ s.lo) (λ g e. grind (arith, ints)) old)
     (all_append (λ g. s.lo ≤ℤ g.start) (within s new) rest inside (all_weaker (λ g. s.hi ≤ℤ g.start) (λ g. s.lo ≤ℤ g.start) (λ g le. omega (arith, ints)) rest after))
 
--- ---- one span after another
+-- ---- spans in order
 
 -- the place is at or before where the next span starts
 abbrev pub IsAhead : List Group → ℕ → List SpanValue → Type 0
 IsAhead old at [] = Unit {0}
 IsAhead old at (s ∷ ss) = (start : ℕ) → start ≤ length old → PartsAt s.lo old start → at ≤ start
 
--- what is made so far, with what is to come of the groups from a place on, is what is wanted
+-- the groups built so far, with those still to be built from a place on, are the wanted ones
 pub record IsReplacing (wanted new old made : List Group) (at : ℕ) (ss : List SpanValue) : Type 0 where
   pub bound : at ≤ length old
   pub ahead : IsAhead old at ss
@@ -221,7 +221,7 @@ replacing_step wanted new old made at s ss start end made' l p m q e h =
           ∙ h.done;
     }
 
--- the same of the span at a place
+-- the same for the span at a place
 pub replacing_at : (wanted new old made : List Group) (at : ℕ) (ss : List SpanValue) (k : ℕ) (s : SpanValue) (start end : ℕ) (made' : List Group) → k < length ss → s ≡ get_or ss k s → start ≤ length old → PartsAt s.lo old start → end ≤ length old → PartsAt s.hi old end → made' ≡ (made ++ take (start - at) (drop at old)) ++ within s new → IsReplacing wanted new old made at (drop k ss) → IsReplacing wanted new old made' end (drop (k + 1) ss)
 replacing_at wanted new old made at ss k s start end made' l e a b c d f h =
     let next : drop k ss ≡ s ∷ drop (k + 1) ss = drop_more ss k s l ∙ ap (λ x. x ∷ drop (k + 1) ss) (sym e) in
@@ -246,6 +246,6 @@ tested : (test : Group → Bool) (gs : List Group) → AllByRecursion (λ g. tes
 tested test [] h = refl
 tested test (g ∷ gs) h = ap (λ b. b && list_all test gs) h.0 ∙ tested test gs h.1
 
--- the same of a test
+-- the same for a test
 pub list_all-replaced : (test : Group → Bool) (ss : List SpanValue) (new old : List Group) → list_all test new ≡ true → list_all test old ≡ true → list_all test (groups_replaced ss new old) ≡ true
 list_all-replaced test ss new old p q = tested test (groups_replaced ss new old) (all_replaced (λ g. test g ≡ true) ss new old (all_passed test new p) (all_passed test old q))

@@ -17,7 +17,7 @@ from_on x groups = filter (λ g. int_le x g.start) groups
 abbrev pub within : SpanValue → List Group → List Group
 within s groups = filter (λ g. in_span s g.start) groups
 
--- the groups of the list start below x before a place, and from x on after it
+-- the groups of the list before a place start below x, and those after it from x on
 abbrev pub PartsAt : ℤ → List Group → ℕ → Type 0
 PartsAt x groups place = IsPartitionPoint (λ g. int_lt g.start x ≡ true) (λ g. int_lt g.start x ≡ false) groups place
 
@@ -30,12 +30,12 @@ abbrev pub groups_replaced : List SpanValue → List Group → List Group → Li
 groups_replaced [] new old = old
 groups_replaced (s ∷ ss) new old = below s.lo old ++ (within s new ++ groups_replaced ss new (from_on s.hi old))
 
--- each bucket has its new groups where it starts in one of the spans, and its old ones elsewhere
+-- each bucket has its new groups if it starts in one of the spans, and otherwise its old ones
 abbrev pub BucketsAreOfBoth : List SpanValue → List Group → List Group → List Group → Type 0
 BucketsAreOfBoth spans new old groups =
     (b : ℤ) → of_bucket b groups ≡ cond (lies_in spans b) (of_bucket b new) (of_bucket b old)
 
--- a test that all new groups pass and all old ones, all of these groups pass
+-- a test that all new and all old groups pass, all of these groups pass
 abbrev pub PassAsBoth : List Group → List Group → List Group → Type 0
 PassAsBoth new old groups =
     (test : Group → Bool) → list_all test new ≡ true → list_all test old ≡ true → list_all test groups ≡ true

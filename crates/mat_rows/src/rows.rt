@@ -16,7 +16,7 @@ use ts_schema::{NoMemory, Seq};
 
 /// Groups in order: by bucket, and then by keys. Contracts see them as a list.
 ///
-/// They are kept in blocks of at most 64, which copies share.
+/// They are stored in blocks of at most 64, which copies share.
 #[derive(Drop, Debug)]
 pub struct MatRows {
     groups: BlockList<Group>,
@@ -35,7 +35,7 @@ impl Model for MatRows {
 }
 
 impl MatRows {
-    /// No group. It allocates no memory.
+    /// No groups. It allocates no memory.
     pub fn new(alloc: Global) -> MatRows
         ensures groups { result ≡ [] }
     {
@@ -54,7 +54,7 @@ impl MatRows {
         })
     }
 
-    /// How many groups there are.
+    /// The number of groups.
     pub fn len(&self) -> usize
         ensures len { result ≡ length self.now }
     {
@@ -68,7 +68,7 @@ impl MatRows {
         self.groups.is_empty()
     }
 
-    /// States that the groups are in order. It does nothing.
+    /// States that the groups are in order. Does nothing.
     pub fn order(&self)
         ensures order { AreInOrder self.now }
     {
@@ -92,8 +92,8 @@ impl MatRows {
     }
 
     /// The groups, with those whose buckets start in the spans, which rise, replaced by new ones. New groups
-    /// that start in no span are ignored. The cost grows with the groups of both lists in the blocks in
-    /// which the spans end, the blocks of the inner nodes there, and the number of inner nodes.
+    /// that start in no span are ignored. The cost grows with the groups of both lists in the blocks in which
+    /// the spans end. It also grows with the blocks of the inner nodes there, and the number of inner nodes.
     pub fn replace(&self, spans: &Seq<Span>, groups: &MatRows) -> Result<MatRows, NoMemory>
         requires sizes { AreSpans spans.now }
         requires rising { SpansRise spans.now }

@@ -1,4 +1,4 @@
-//! Where the groups from a number on begin.
+//! The place at which the groups from a number on begin.
 
 ghost use Rattle.std.specs.Prelude.{◌≤◌, length};
 ghost use Rattle.mat_rows.specs.Replacing.{PartsAt};
@@ -8,7 +8,7 @@ use block_list::BlockList;
 use partial_agg::Group;
 use ts_bucket::Span;
 
-/// How many groups of a list in order start below a number.
+/// The number of groups of a list in order that start below a number.
 pub(crate) fn place_from(groups: &BlockList<Group>, x: i64) -> usize
     requires { AreInOrder groups.now.items }
     ensures bound { result ≤ length groups.now.items }
@@ -27,7 +27,7 @@ pub(crate) fn place_from(groups: &BlockList<Group>, x: i64) -> usize
     low
 }
 
-/// Where the groups of a list in order that start in a span begin and end.
+/// The places at which the groups that start in a span begin and end, in a list in order.
 pub(crate) fn places(groups: &BlockList<Group>, span: Span) -> (usize, usize)
     requires { AreInOrder groups.now.items }
     ensures start { result.0 ≤ length groups.now.items }

@@ -1,4 +1,4 @@
--- What holds of every partial aggregate holds of two joined.
+-- What is true of every partial aggregate is true of two joined.
 use Rattle.std.proofs.Common.{ℕ, ◌+◌, ◌<◌, ◌^◌, ℤ, pos, negsuc, arith}
 use Rattle.std.specs.Prelude.{◌+ℤ◌}
 use Rattle.std.specs.Int.{w64, w128}

@@ -1,4 +1,5 @@
--- Laws of the order of groups: it is total, it goes by the bucket first, and groups that it ties have one bucket and the same keys.
+-- Laws of the order of groups. It is total, it compares the bucket first, and groups that compare equal have
+-- the same bucket and keys.
 use Rattle.std.proofs.Common.{◌≡◌, refl, true, false, cond, ℤ, ◌≤ℤ◌, arith}
 use Rattle.std.specs.Cmp.{IsTotalOrder}
 use Rattle.std.specs.Prelude.{int_lt}

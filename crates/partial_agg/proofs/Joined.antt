@@ -1,4 +1,4 @@
--- The summary of two columns, one after the other, is their summaries joined.
+-- The summary of two columns, concatenated, is their summaries joined.
 use Rattle.std.proofs.Common.{◌≡◌, List, [], ◌∷◌, ◌++◌, length, Option, None, Some, ℤ, sym, refl, ap, ◌∙◌, arith, length-append, add_assoc, add_comm}
 use Rattle.std.specs.Prelude.{◌+ℤ◌}
 use Rattle.std.proofs.lemmas.Int.{ints}
@@ -34,7 +34,7 @@ shown-summary Min column = refl
 shown-summary Max column = refl
 shown-summary Avg column = elim (values column) as (λ vs. mean_shown (length vs) (sum_of vs) ≡ unless_empty vs (Ratio (lowest_terms (sum_of vs) (length vs)))) [ [] ↦ refl | v ∷ vs ↦ refl ]
 
--- ---- the order in which summaries are joined plays no part
+-- ---- the order in which summaries are joined has no effect
 
 pub joined_assoc : (a b c : Summary) → summary_of_both (summary_of_both a b) c ≡ summary_of_both a (summary_of_both b c)
 joined_assoc a b c =

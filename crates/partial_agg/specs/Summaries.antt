@@ -35,21 +35,21 @@ summary_of_both a b = record {
   most = greater a.most b.most;
 }
 
--- what was the summary of a column is that of the column with one more value
+-- a summary of a column becomes that of the column with one more value
 abbrev pub TakesIn : Option ℤ → Summary → Summary → Type 0
 TakesIn v old new = (column : List (Option ℤ)) → old ≡ summary column → new ≡ summary (column ++ v ∷ [])
 
--- what was the summary of a column is that of it and of a column after it, of which there is a summary too
+-- a summary of a column, joined with that of a second column, becomes that of both in order
 abbrev pub TakesInAll : Summary → Summary → Summary → Type 0
 TakesInAll other old new =
     (mine theirs : List (Option ℤ)) → old ≡ summary mine → other ≡ summary theirs → new ≡ summary (mine ++ theirs)
 
--- the sum of so many values, NULL where there are none
+-- the sum of this many values, NULL if there are none
 abbrev pub sum_shown : ℕ → ℤ → Datum
 sum_shown zero sum = Null
 sum_shown (suc n) sum = Int sum
 
--- the mean of so many values with this sum, NULL where there are none
+-- the mean of this many values with this sum, NULL if there are none
 abbrev pub mean_shown : ℕ → ℤ → Datum
 mean_shown zero sum = Null
 mean_shown (suc n) sum = Ratio (lowest_terms sum (suc n))
@@ -69,7 +69,8 @@ value_of Null = None
 value_of (Int v) = Some v
 value_of (Ratio q) = None
 
--- there are no more values than rows and fewer than 2^62 rows, and the sum is one of so many 64-bit values
+-- there are at most as many values as rows and fewer than 2^62 rows, and that many 64-bit values can have the
+-- sum
 pub record IsBounded (count values : ℕ) (sum : ℤ) : Type 0 where
   pub counted : values ≤ count
   pub fewer : count < 2 ^ 62

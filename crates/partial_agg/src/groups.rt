@@ -14,12 +14,12 @@ pub struct Group {
     pub start: i64,
     /// The values of the columns that the rows are grouped by; NULL is `None`.
     pub keys: Keys,
-    /// One partial aggregate for each aggregate that is asked for. Groups may share a block of them.
+    /// One partial aggregate for each requested aggregate. Groups may share a block of them.
     pub parts: SharedSlice<Partial>,
 }
 
 impl Group {
-    /// The same group again. Its partial aggregates take no memory.
+    /// A copy of the group. Its partial aggregates take no memory.
     pub fn copy(&self) -> Result<Group, NoMemory>
         ensures same { IfOk result (λ copy. copy ≡ self.now) }
     {

@@ -1,4 +1,4 @@
-//! The keys of a group, of which one alone takes no memory.
+//! The keys of a group. A single key takes no memory.
 ghost use Rattle.std.specs.Prelude.{◌≡◌, [], ◌∷◌, length, IfOk};
 
 use std::alloc::AllocError;
@@ -6,7 +6,7 @@ use std::marker::Model;
 use ts_schema::{NoMemory, Seq};
 
 /// The values of the columns that rows are grouped by, where NULL is `None`. Contracts see them as a plain
-/// list. One key alone takes no memory beside the list itself.
+/// list. A single key takes no memory beside the list itself.
 #[derive(Drop, Debug)]
 pub struct Keys {
     held: KeyStorage,
@@ -38,7 +38,7 @@ impl Keys {
         }
     }
 
-    /// The list of these keys. It takes no memory, and gives that of a list of one key back.
+    /// The list of these keys. It takes no memory, and frees that of a list of one key.
     pub fn of(keys: Seq<Option<i64>>) -> Keys
         ensures items { result ≡ keys }
     {
@@ -50,7 +50,7 @@ impl Keys {
         }
     }
 
-    /// How many keys there are.
+    /// The number of keys.
     #[inline]
     pub fn len(&self) -> usize
         ensures len { result ≡ length self.now }
@@ -69,7 +69,7 @@ impl Keys {
         }
     }
 
-    /// The same keys again.
+    /// A copy of the keys.
     pub fn copy(&self) -> Result<Keys, NoMemory>
         ensures same { IfOk result (λ copy. copy ≡ self.now) }
     {

@@ -1,7 +1,7 @@
-//! Partial aggregates: what a column of values sums up to, for every aggregate function at once, so
-//! that what was aggregated in parts can be put together.
+//! Partial aggregates: running totals of a column of values, for every aggregate function. They combine what
+//! was aggregated in parts.
 //!
-//! - `partials`: the partial aggregate of a column, and what a function shows of it.
+//! - `partials`: the partial aggregate of a column, and the value of a function of it.
 //! - `keys`: the keys of a group.
 //! - `groups`: a group of rows with its bucket, its keys and its partial aggregates.
 #![tactic(auto)]

@@ -7,8 +7,8 @@ ghost use Rattle.partial_agg.specs.Summaries.{IsBounded, summary_of_both, mean_s
 use std::marker::Model;
 use ts_num::{Datum, Fun, lowest};
 
-/// What a column of values, one for each row of a group, sums up to. Contracts see it as a
-/// `Summary`; it is the partial aggregate of a column where that is the column's `summary`.
+/// What a column of values, one for each row of a group, sums up to. Contracts see it as a `Summary`; it is the
+/// partial aggregate of a column if that is the column's `summary`.
 #[derive(Clone, Copy, Debug, PartialEq, Eq)]
 pub struct Partial {
     /// The number of rows.
@@ -17,7 +17,7 @@ pub struct Partial {
     pub values: u64,
     /// The sum of the values.
     pub sum: i128,
-    /// The least value. It counts only where there are values, and is 0 where there are none.
+    /// The least value. It counts only if there are values, and is 0 if there are none.
     least: i64,
     /// The greatest value, in the same way.
     most: i64,
@@ -95,8 +95,8 @@ impl Partial {
     }
 
     /// The partial aggregate with these numbers of rows and of values, this sum, and this least and greatest
-    /// value. The last two have to be there exactly where there are values. There have to be fewer than `2^62` rows
-    /// and no more values than rows, and the sum has to be one that so many 64-bit values can have.
+    /// value. The last two must be given if and only if there are values. There must be fewer than `2^62` rows
+    /// and at most as many values as rows. The sum must be one that `values` 64-bit values can have.
     pub fn of(count: u64, values: u64, sum: i128, least: Option<i64>, most: Option<i64>) -> Partial
         requires bounded { IsBounded count values sum }
         requires least { is_some least ≡ nat_lt 0 values }
@@ -112,7 +112,7 @@ impl Partial {
         }
     }
 
-    /// The least value, `None` where there are none.
+    /// The least value, `None` if there are none.
     #[inline]
     pub fn least(&self) -> Option<i64>
         ensures { result ≡ self.now.least }
@@ -120,7 +120,7 @@ impl Partial {
         end(self.values, self.least)
     }
 
-    /// The greatest value, `None` where there are none.
+    /// The greatest value, `None` if there are none.
     #[inline]
     pub fn most(&self) -> Option<i64>
         ensures { result ≡ self.now.most }
@@ -128,7 +128,7 @@ impl Partial {
         end(self.values, self.most)
     }
 
-    /// Takes in one more row, with this value. There have to be fewer than `2^62 - 1` rows before.
+    /// Adds one more row, with this value. There must be fewer than `2^62 - 1` rows before.
     #[inline(always)]
     pub fn add(&mut self, v: Option<i64>)
         requires { self.old.count < 2 ^ 62 - 1 }
@@ -141,7 +141,7 @@ impl Partial {
         }
     }
 
-    /// Takes in one more row, with NULL.
+    /// Adds one more row, with NULL.
     #[inline(always)]
     fn add_null(&mut self)
         requires { self.old.count < 2 ^ 62 - 1 }
@@ -150,7 +150,7 @@ impl Partial {
         self.count += 1;
     }
 
-    /// Takes in one more row, with this value.
+    /// Adds one more row, with this value.
     #[inline(always)]
     fn add_value(&mut self, v: i64)
         requires { self.old.count < 2 ^ 62 - 1 }
@@ -164,7 +164,7 @@ impl Partial {
         self.most = most;
     }
 
-    /// Takes in the rows of another partial aggregate. Together there have to be fewer than `2^62`.
+    /// Adds the rows of another partial aggregate. Together there must be fewer than `2^62`.
     #[inline]
     pub fn merge(&mut self, other: &Partial)
         requires { self.old.count + other.now.count < 2 ^ 62 }
@@ -180,7 +180,7 @@ impl Partial {
         self.most = most;
     }
 
-    /// What an aggregate function shows of the rows.
+    /// The value of an aggregate function for the rows.
     #[inline]
     pub fn finish(&self, fun: Fun) -> Datum
         ensures shown { result ≡ datum_of fun self.now }
@@ -196,7 +196,7 @@ impl Partial {
         }
     }
 
-    /// The whole number that an aggregate function shows of the rows: none where it shows NULL or a mean.
+    /// The whole number that an aggregate function returns for the rows, or none for NULL and for a mean.
     #[inline(always)]
     pub fn number(&self, fun: Fun) -> Option<i128>
         ensures number { result ≡ value_of (datum_of fun self.now) }
@@ -212,7 +212,7 @@ impl Partial {
     }
 }
 
-/// The end that is kept beside so many values.
+/// The end stored along with `values` values.
 #[inline(always)]
 fn end(values: u64, v: i64) -> Option<i64>
     ensures { result ≡ end_of values v }
@@ -223,7 +223,7 @@ fn end(values: u64, v: i64) -> Option<i64>
     }
 }
 
-/// The least and the greatest of so many values and of one more.
+/// The least and the greatest of `values` values and of one more.
 #[inline(always)]
 fn ends_with(values: u64, least: i64, most: i64, v: i64) -> (i64, i64)
     ensures least { Some result.0 ≡ lesser (end_of values least) (Some v) }
@@ -235,7 +235,7 @@ fn ends_with(values: u64, least: i64, most: i64, v: i64) -> (i64, i64)
     }
 }
 
-/// The least value of two columns, each with so many values, as it is kept.
+/// The least value of two columns, given the number of values of each, as it is stored.
 fn least_joined(values: u64, least: i64, more: u64, other: i64) -> i64
     requires own { IsEnd values least }
     requires other { IsEnd more other }
@@ -248,7 +248,7 @@ fn least_joined(values: u64, least: i64, more: u64, other: i64) -> i64
     }
 }
 
-/// The greatest value of two columns, each with so many values, as it is kept.
+/// The greatest value of two columns, given the number of values of each, as it is stored.
 fn most_joined(values: u64, most: i64, more: u64, other: i64) -> i64
     requires own { IsEnd values most }
     requires other { IsEnd more other }
@@ -261,7 +261,7 @@ fn most_joined(values: u64, most: i64, more: u64, other: i64) -> i64
     }
 }
 
-/// A number, or NULL where it is missing.
+/// A number, or NULL if it is missing.
 fn value(v: Option<i64>) -> Datum
     ensures { result ≡ shown_or_null v }
 {
@@ -271,7 +271,7 @@ fn value(v: Option<i64>) -> Datum
     }
 }
 
-/// The sum of so many values.
+/// The sum of `values` values.
 fn sum(values: u64, sum: i128) -> Datum
     ensures { result ≡ sum_shown values sum }
 {
@@ -281,7 +281,7 @@ fn sum(values: u64, sum: i128) -> Datum
     }
 }
 
-/// The mean of so many values.
+/// The mean of `values` values.
 fn mean(values: u64, sum: i128) -> Datum
     ensures { result ≡ mean_shown values sum }
 {
@@ -291,7 +291,7 @@ fn mean(values: u64, sum: i128) -> Datum
     }
 }
 
-/// A number, where it isn't missing.
+/// A number, if it isn't missing.
 #[inline]
 fn number(v: Option<i64>) -> Option<i128>
     ensures { result ≡ value_of (shown_or_null v) }
@@ -302,7 +302,7 @@ fn number(v: Option<i64>) -> Option<i128>
     }
 }
 
-/// The sum of so many values as a number.
+/// The sum of `values` values as a number.
 #[inline(always)]
 fn sum_number(values: u64, sum: i128) -> Option<i128>
     ensures { result ≡ value_of (sum_shown values sum) }
@@ -313,7 +313,7 @@ fn sum_number(values: u64, sum: i128) -> Option<i128>
     }
 }
 
-/// The mean of so many values as a whole number: none, since it is shown as a ratio.
+/// The mean of `values` values as a whole number: none, since it is shown as a ratio.
 #[inline(always)]
 fn mean_number(values: u64, sum: i128) -> Option<i128>
     ensures { result ≡ value_of (mean_shown values sum) }

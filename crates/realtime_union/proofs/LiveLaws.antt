@@ -63,7 +63,7 @@ groups_ranged fold wide (row ∷ rows) e =
     (λ pass. rw pass (all-with_group (Ranged fold.width) (λ g h p. p) (row_group fold row) (groups_of fold rows) (row_ranged fold.width row.at wide here) rest))
     (λ fail. rw fail rest))
 
--- a bucket of the range of buckets is in the live span exactly where it is live
+-- a bucket of the range of buckets is in the live span if and only if it is live
 live_at : (w : WidthValue) (mark : Option ℤ) (starts live : SpanValue) (b : ℤ) → IsLiveSpan w mark starts live → is_bucket w b ≡ true → in_span (whole_span w) b ≡ true → in_span live b ≡ is_live w mark starts b
 live_at w mark starts live b is bucket inside =
     let first : int_le (first_of w) b ≡ true = and_first (int_le (first_of w) b) (int_lt b (whole_span w).hi) inside in
@@ -108,6 +108,6 @@ pub all_shown : (fold : Fold) → IsWidth fold.width → (rows : List Row) (grou
 all_shown fold wide rows groups times made =
     ap (map (cells_of fold)) (made ∙ (ap (groups_of fold) (all_inside rows times) ∙ groups_as_in_order fold wide rows)) ∙ (groups_show_scratch fold wide (in_order rows)).of_all
 
--- what a scan of all times finds
+-- the rows that a scan of all times finds
 pub all_scanned : (rows : List Row) → HaveTimes rows → filter (λ row. in_span all_times row.at) rows ≡ rows
 all_scanned rows times = filter_same (λ row. in_span all_times row.at) (λ row. lies_in (all_times ∷ []) row.at) rows (λ row. sym (or-false (in_span all_times row.at))) ∙ all_inside rows times

@@ -1,4 +1,4 @@
--- What is looked at: the chunks near live buckets, and near all times.
+-- The chunks that are read: those near live buckets, and those near all times.
 use Rattle.std.proofs.Common.{◌≡◌, ◌+◌, Bool, true, false, not, ◌&&◌, ◌||◌, cond, map, filter, List, [], ◌∷◌, ℤ, pos, ◌+ℤ◌, ◌-ℤ◌, ◌≤ℤ◌, ◌<ℤ◌, int_le, Option, refl, sym, ap, ◌∙◌, arith}
 use Rattle.std.specs.List.{list_all, list_any}
 use Rattle.std.specs.Int.{int_rem_euclid}
@@ -75,7 +75,7 @@ module _ (w : Width) (wide : IsWidth w) (mark : Option ℤ) (starts live : Span)
       let inside : in_span (whole_span w) b ≡ true = in_span-from_ends (whole_span w) b from (omega (arith, ints, before, last, bounded, low)) in
       is.exact b bucket.0 ∙ rw (inside, asked_parts.0, parts.1) refl
 
-  -- where the live span is empty, the chunk meets no live bucket
+  -- if the live span is empty, the chunk meets no live bucket
   chunk_of_live : (b : ℤ) → among b live_list ≡ true → near b ≡ true → Meet chunk live
   chunk_of_live b among_live meets =
       let inside = in_span-ends live b (near_is_live b among_live meets) in

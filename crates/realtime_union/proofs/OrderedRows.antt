@@ -1,4 +1,4 @@
--- Rows put in order by a sort.
+-- Rows sorted into row order.
 use Rattle.std.proofs.Common.{◌≡◌, suc, ◌+◌, false, not, List, [], ◌∷◌, get_or, refl, sym, ap, subst, ◌∙◌, arith}
 use Rattle.std.specs.Ordering.{is_gt, is_lt, ordering_reverse}
 use Rattle.std.specs.declared.cmp.Ordering.{Ordering}
@@ -39,7 +39,7 @@ rows_gathered : (xs : List Row) → in_order xs ≡ gathered with_row [] with_ro
 rows_gathered [] = refl
 rows_gathered (x ∷ xs) = ap (with_row x) (rows_gathered xs)
 
--- rows in another order that ascend are the rows in order
+-- a permutation of rows that ascends is the rows in order
 pub sorted_rows : (xs ys : List Row) → IsPermutation xs ys → IsSorted row_cmp ys → ys ≡ in_order xs
 sorted_rows xs ys moved up =
     sym (in_order-is ys (sorted_in_order ys up))

@@ -2,7 +2,7 @@
 use Rattle.std.proofs.Common.{◌≡◌, sym, ap, ap₂, ◌∙◌, ℕ, ◌+◌, ◌-◌, ◌≤◌, ◌<◌, ℤ, List, [], ◌∷◌, ◌++◌, Option, None, length, take, drop, get_or, map, append_assoc, arith, length-drop}
 use Rattle.std.proofs.lemmas.List.{take_more, get_or-drop, map_push}
 
--- one value more is made of those from a place on
+-- one more value of those from a place on
 pub part_more : {Y : Type 0} (f : Option ℤ → Y) (before made more : List Y) (from i : ℕ) (vals : List (Option ℤ)) (y : Y) → from ≤ i → i < length vals → made ≡ before ++ map f (take (i - from) (drop from vals)) → more ≡ made ++ y ∷ [] → y ≡ f (get_or vals i None) → more ≡ before ++ map f (take (i + 1 - from) (drop from vals))
 part_more f before made more from i vals y past within so_far put is =
     let n = i - from in

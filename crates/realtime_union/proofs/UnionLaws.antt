@@ -1,4 +1,4 @@
--- What is shown, bucket by bucket.
+-- The answer, bucket by bucket.
 use Rattle.std.proofs.Common.{◌≡◌, Bool, true, false, not, ◌&&◌, ◌||◌, cond, map, filter, List, [], ◌∷◌, ◌++◌, ℤ, pos, ◌+ℤ◌, ◌≤ℤ◌, ◌<ℤ◌, int_lt, Option, Some, None, refl, sym, ap, subst, ◌∙◌, arith}
 use Rattle.std.specs.List.{AllByRecursion, flat_map}
 use Rattle.std.specs.List.Sorted.{IsStrictlySortedBy}
@@ -86,7 +86,7 @@ first_come b (g ∷ gs) up from =
     all_other b [] o = refl
     all_other b (h ∷ hs) o = rw o.0 (ap (λ xs. h ∷ xs) (all_other b hs o.1))
 
--- those of another bucket are among the others
+-- the groups of another bucket are among the others
 among_others : (b c : ℤ) (gs : List Group) → (b ≡ c → ⊥) → of_bucket c (filter (λ g. not (int_eq g.start b)) gs) ≡ of_bucket c gs
 among_others b c [] apart = refl
 among_others b c (g ∷ gs) apart =
@@ -102,7 +102,7 @@ above_low w low (b ∷ bs) r =
     let from : low ≤ℤ b = r.0 in
     (from, all_weaker (λ c. (b +ℤ pos 1) ≤ℤ c) (λ c. low ≤ℤ c) (λ c le. omega (arith, ints)) bs (above_low w (b +ℤ pos 1) bs r.2))
 
--- one of rising numbers is at or above the first
+-- each of rising numbers is at or above the first
 from_first : (low c : ℤ) (bs : List ℤ) → AllByRecursion (λ b. low ≤ℤ b) bs → among c bs ≡ true → low ≤ℤ c
 from_first low c [] above e = absurd (true≢false (sym e))
 from_first low c (b ∷ bs) above e =
@@ -215,7 +215,7 @@ module _ (def : ViewDef) (kept : List Group) (mark : Option ℤ) (starts : Span)
       (all_weaker (IsKept def.fold.width mark starts) (λ g. among g.start (buckets_in def.fold.width starts) ≡ true) (λ g p. among-buckets_in def.fold.width starts g.start ∙ (and_parts _ _ p).0) kept kept_is)
       (all_weaker (IsLive def.fold.width mark starts) (λ g. among g.start (buckets_in def.fold.width starts) ≡ true) (λ g p. among-buckets_in def.fold.width starts g.start ∙ (and_parts _ _ p).0) live live_is)
 
-  -- of a bucket that is asked for and not below the mark, the live groups are those of its rows
+  -- for a requested bucket that isn't below the mark, the live groups are those of its rows
   live_at : (b : ℤ) → is_asked def.fold.width starts b ≡ true → is_below b mark ≡ false → of_bucket b live ≡ cond def.only [] (groups_in def.fold rows b)
   live_at b asked above =
       let at : is_live def.fold.width mark starts b ≡ true = rw (asked, above) refl in

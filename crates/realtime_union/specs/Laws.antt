@@ -1,4 +1,4 @@
--- Laws of what is shown and of what is read, each in one sentence.
+-- Laws of answers and of reads, each in one sentence.
 use Rattle.std.specs.Prelude.{◌≡◌, true, not, ◌&&◌, cond, List, [], ◌∷◌, map, filter, flat_map, length, ℤ, ◌+ℤ◌, ◌-ℤ◌, Option}
 use Rattle.std.specs.List.{list_all}
 use Rattle.std.specs.Ordering.{int_eq}
@@ -30,7 +30,7 @@ pub record AreKept (w : Width) (mark : Option ℤ) (starts : Span) (kept : List 
   pub in_order : AreInOrder kept
   pub all : list_all (λ g. is_asked w starts g.start && is_below g.start mark) kept ≡ true
 
--- what is shown is what is shown of each requested bucket, in order
+-- the answer consists of the answers for each requested bucket, in order
 abbrev pub UnionsAreOfBuckets : Type 0
 UnionsAreOfBuckets =
     (def : ViewDef) (kept : List Group) (mark : Option ℤ) (starts : Span) (rows : List Row) → IsWidth def.fold.width

@@ -16,7 +16,7 @@ use Rattle.ts_model.specs.Reads.{rows_near}
 abbrev pub is_live : WidthValue → Option ℤ → SpanValue → ℤ → Bool
 is_live w mark starts b = is_asked w starts b && not (is_below b mark)
 
--- a span of whole buckets that holds those of the range of buckets that are live
+-- a span of whole buckets that holds exactly the live ones of the range of buckets
 pub record IsLiveSpan (w : WidthValue) (mark : Option ℤ) (starts live : SpanValue) : Type 0 where
   pub whole : IsWholeSpan w live
   pub exact : (b : ℤ) → is_bucket w b ≡ true

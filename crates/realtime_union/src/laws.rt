@@ -1,7 +1,7 @@
-//! Laws of what is shown and of what is read. Each is the clause of a function that does nothing.
+//! Laws of answers and of reads. Each law is the clause of a function that does nothing.
 ghost use Rattle.realtime_union.specs.Laws.{AllTimesReadAll, LiveReadsAreOfBuckets, UnionsAreOfBuckets};
 
-/// What an aggregate shows is what it shows of each requested bucket, in order.
+/// The answer of an aggregate consists of its answers for each requested bucket, in order.
 pub fn unions_are_of_buckets()
     ensures { UnionsAreOfBuckets }
 {}

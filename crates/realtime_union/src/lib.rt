@@ -1,4 +1,5 @@
-//! What an aggregate shows: its materialized groups, and at or above its mark the groups of the rows.
+//! The real-time answer of an aggregate: its materialized groups, and at or above its mark the groups of the
+//! rows.
 #![tactic(auto)]
 
 pub mod laws;

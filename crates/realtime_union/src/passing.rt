@@ -16,9 +16,9 @@ use ts_model::{ResultRows, RowsAt, put_values};
 use ts_num::Datum;
 use ts_schema::{NoMemory, Row, Seq, Steps, Test, Values, passes, row_order};
 
-/// The rows of a hypertable that match every test, in row order and with all their columns in declared
-/// order, from one scan of all times; `at` is the place of the time column. It counts one step for each
-/// stored row in a chunk that holds a time.
+/// The rows of a hypertable that match every test, in row order and with all their columns in declared order.
+/// `at` is the place of the time column. Scans all times once. Counts one step for each stored row in a chunk
+/// that holds a time.
 pub fn passing_rows<W: RowsAt, L>(
     alloc: Global,
     rows: &W,
@@ -47,7 +47,7 @@ fn all_rows<W: RowsAt, L>(rows: &W, table: u32, steps: &mut Steps<L>) -> Result<
     rows.scan(table, whole_time(), steps)
 }
 
-/// Those of some rows that pass every test, in row order.
+/// The rows that pass every test, in row order.
 fn passing_in_order(found: Seq<Row>, tests: &Seq<Test>) -> Result<Vec<Row>, NoMemory>
     ensures { IfOk result (λ sorted. sorted.items ≡ filter (λ row. passes_all row tests.now) (in_order found)) }
 {
@@ -71,7 +71,7 @@ fn columns_of_each(alloc: Global, at: u32, rows: &[Row]) -> Result<CellRows<Datu
     Ok(CellRows::of(cells, ends))
 }
 
-/// How many columns these rows have, which is the same for all rows of a table: 0 if there is no row.
+/// The number of columns of these rows, which is the same for all rows of a table, or 0 without rows.
 fn width_of(rows: &[Row]) -> usize {
     match rows.first() {
         Some(row) => row.vals.len().saturating_add(1),
@@ -79,7 +79,7 @@ fn width_of(rows: &[Row]) -> usize {
     }
 }
 
-/// Appends a row with all its columns: its cells, and the place where they end.
+/// Appends a row with all its columns: its cells, and the place at which they end.
 #[inline(always)]
 fn show_row(
     at: u32,
@@ -97,7 +97,7 @@ fn show_row(
     Ok(())
 }
 
-/// Appends all columns of a row in declared order, where the time column is at this place.
+/// Appends all columns of a row in declared order, if the time column is at this place.
 #[inline(always)]
 fn put_columns(at: u32, row: &Row, cells: &mut Vec<Datum>) -> Result<(), NoMemory>
     ensures { IfOk result (λ _. cells.new.items ≡ cells.old.items ++ all_columns at row.now) }
@@ -123,7 +123,7 @@ fn put_part(vals: &Values, from: usize, to: usize, cells: &mut Vec<Datum>) -> Re
     Ok(())
 }
 
-/// A number as it is shown, or NULL.
+/// A number as a cell, or NULL.
 #[inline(always)]
 fn number_or_null(value: Option<i64>) -> Datum
     ensures { result ≡ shown_or_null value }

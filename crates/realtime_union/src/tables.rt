@@ -1,4 +1,4 @@
-//! What a grouping over a whole hypertable shows.
+//! The answer of a grouping over a whole hypertable.
 ghost use Rattle.std.specs.Prelude.{◌≡◌, IfOk, map};
 ghost use Rattle.ts_schema.specs.Counts.{Ticks};
 ghost use Rattle.ts_model.specs.Groups.{cells_of};
@@ -17,8 +17,8 @@ use ts_bucket::{MAX_TIME, MIN_TIME, Span};
 use ts_model::{Fold, ResultRows, RowsAt};
 use ts_schema::{NoMemory, Seq, Steps};
 
-/// The result rows of a grouping over all rows of a hypertable, from one scan of all times. It counts one
-/// step for each stored row in a chunk that holds a time.
+/// The result rows of a grouping over all rows of a hypertable, from one scan of all times. Counts one step for
+/// each stored row in a chunk that holds a time.
 pub fn folded_rows<R: Threads + Sync, W: RowsAt, L>(
     rt: &R,
     alloc: Global,

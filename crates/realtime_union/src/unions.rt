@@ -16,11 +16,11 @@ use ts_bucket::Span;
 use ts_model::{ResultRows, RowsAt, ViewDef};
 use ts_schema::{NoMemory, Seq, Steps};
 
-/// The result rows of an aggregate for the requested buckets: those of its materialized groups `kept`, which
-/// lie below its mark, then those of the rows in the live buckets, from one scan of the span that
-/// `live_span` returns. An aggregate that shows only materialized rows has no scan. It counts one step for
-/// each stored row in the chunks that meet a bucket of the scan. It creates no cell: the materialized groups
-/// stay where they are.
+/// The result rows of an aggregate for the requested buckets. First come those of its materialized groups
+/// `kept`, which lie below its mark. Then come those of the rows in the live buckets, from one scan of the span
+/// that `live_span` returns. An aggregate that shows only materialized rows needs no scan. Counts one step for
+/// each stored row in the chunks that meet a bucket of the scan. Creates no cell: the materialized groups are
+/// shared.
 pub fn union_rows<R: Threads + Sync, W: RowsAt, L>(
     rt: &R,
     alloc: Global,

@@ -23,7 +23,7 @@ use Rattle.ts_model.proofs.ModeLaws.{mode_plays_no_part}
 use Rattle.refresh_build.specs.declared.jobs.Job.{Job}
 use Rattle.refresh_build.specs.Fitting.{FitsView, JobFits}
 
--- it doesn't matter whether an aggregate shows only materialized rows
+-- whether an aggregate shows only materialized rows has no effect
 fits_any_mode : (n : ℕ) (def : ViewDef) (only : Bool) (h : History) (cut snap : ℕ) (span : Span) (spans : List Span) (groups : List Group) (top : Option ℤ) → Fits n def h cut snap span spans groups top → Fits n (set_only only def) h cut snap span spans groups top
 fits_any_mode n def only h cut snap span spans groups top f = record {
   cut_is = f.cut_is;

@@ -1,4 +1,4 @@
--- Laws of jobs: ranges of whole buckets hold the rows of their buckets, and where the last group ends.
+-- Laws of jobs: ranges of whole buckets hold the rows of their buckets; and the end of the last group.
 use Rattle.std.proofs.Common.{◌≡◌, ℕ, suc, ◌<◌, ◌-◌, Bool, true, false, ◌&&◌, ◌||◌, cond, List, [], ◌∷◌, length, get_or, ◌^◌, ℤ, pos, negsuc, ◌+ℤ◌, ◌≤ℤ◌, ◌<ℤ◌, Option, Some, None, refl, sym, ◌∙◌, ap, subst, arith}
 use Rattle.std.specs.Prelude.{FitsSigned}
 use Rattle.std.specs.Int.{w64}
@@ -28,7 +28,7 @@ use Rattle.ts_schema.proofs.Cases.{filter_same}
 
 -- ---- ranges of whole buckets
 
--- ranges that rise hold nothing at or below what is below the first
+-- ranges that rise hold no number at or below one that is below the first range
 none_below : (w : WidthValue) (x : ℤ) (s : Span) (ss : List Span) (t : ℤ) → AllByRecursion (IsWholeRange w) (s ∷ ss) → RiseApart (s ∷ ss) → x <ℤ s.lo → t ≤ℤ x → lies_in (s ∷ ss) t ≡ false
 none_below w x s [] t whole rise above low = rw (out_below s t (omega (arith, ints, above, low))) refl
 none_below w x s (u ∷ ss) t whole rise above low =
@@ -47,7 +47,7 @@ rising_apart w (s ∷ u ∷ ss) whole rise = ((λ t inside. none_below w s.hi u 
 pub ranges_apart : (w : WidthValue) (starts : SpanValue) (test : ℤ → Bool) (spans : List Span) → AreRanges w starts test spans → AreApart spans
 ranges_apart w starts test spans ranges = rising_apart w spans ranges.whole ranges.rising
 
--- they hold a number exactly where they hold its bucket
+-- they hold a number if and only if they hold its bucket
 pub lies_in-bucket : (w : WidthValue) (spans : List Span) (t : ℤ) → IsWidth w → AllByRecursion (IsWholeRange w) spans → lies_in spans t ≡ lies_in spans (bucket_of w t)
 lies_in-bucket w [] t wide whole = refl
 lies_in-bucket w (s ∷ ss) t wide whole =
@@ -73,7 +73,7 @@ already_passing q p (x ∷ xs) =
       | false ↦ already_passing q p xs
     ]
 
--- where the groups of spans end is the greatest end of a bucket with a row of them
+-- the end of the groups of spans is the greatest end of a bucket with a row of the spans
 pub top_of_groups : (fold : Fold) (spans : List Span) (rows : List Row) (groups : List Group) (top : Option ℤ) → IsWidth fold.width → groups ≡ groups_of fold (rows_of_spans fold spans rows) → top ≡ end_of_last fold.width groups
     → top ≡ last_end fold.width (rows_of_spans fold spans rows)
 top_of_groups fold spans rows groups top wide made is =
@@ -109,7 +109,7 @@ fits_near : (t : ℤ) → min_time ≤ℤ t → t ≤ℤ pos (2 ^ 63 - 1) → Fi
 fits_near (pos n) low high = record { sfits = omega (arith, ints, high) }
 fits_near (negsuc n) low high = record { sfits = omega (arith, ints, low) }
 
--- where a bucket ends that holds a time is a number of 64 bits
+-- the end of a bucket that holds a time has 64 bits
 pub fits_end : (w : WidthValue) (g : Group) → IsWidth w → IsOfTime w g → FitsSigned w64 (g.start +ℤ w.step)
 fits_end w g wide here =
     let below : g.start ≤ℤ max_time = here.0 in

@@ -22,9 +22,9 @@ use ts_bucket::Span;
 use ts_model::{RowsAt, ViewDef};
 use ts_schema::{NoMemory, Seq, Steps};
 
-/// The job of a refresh. It recomputes the buckets of its span that have no last refresh, or at which
-/// something is pending once the entries were fed, as maximal ranges. Each range is scanned once, and counts
-/// one step for each stored row in the chunks that meet it.
+/// The job of a refresh. It recomputes the buckets of its span that have no last refresh, or something pending
+/// once the entries were fed. Scans each range once, and counts one step for each stored row in the chunks that
+/// meet it.
 pub fn build<R: Threads + Sync, W: RowsAt, L>(
     rt: &R,
     alloc: Global,
@@ -54,7 +54,7 @@ pub fn build<R: Threads + Sync, W: RowsAt, L>(
 }
 
 /// A job of a refresh that recomputes these ranges of whole buckets, no two of which hold the same bucket.
-/// Each is scanned once, and counts one step for each stored row in the chunks that meet it.
+/// Scans each range once, and counts one step for each stored row in the chunks that meet it.
 pub fn build_ranges<R: Threads + Sync, W: RowsAt, L>(
     rt: &R,
     alloc: Global,

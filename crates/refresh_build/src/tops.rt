@@ -1,4 +1,4 @@
-//! Where groups end.
+//! The ends of groups.
 ghost use Rattle.std.specs.Prelude.{◌≡◌};
 ghost use Rattle.std.specs.List.{AllByRecursion};
 ghost use Rattle.group_fold.specs.Laws.{end_of_last};

@@ -1,4 +1,4 @@
--- Nothing noted is lost by a cut: what was logged is pending afterwards, where it is above the last refresh.
+-- A cut loses no entry: what was logged is pending afterwards, if it is above the last refresh.
 use Rattle.std.proofs.Common.{◌≡◌, ℕ, ◌<◌, ◌≤◌, max, Bool, true, false, cond, ◌&&◌, nat_lt, List, [], ◌∷◌, map, ℤ, Option, Some, None, refl, sym, ap, ◌∙◌, arith}
 use Rattle.std.proofs.lemmas.Bool.Decides.{nat_tests}
 use Rattle.ts_bucket.specs.Bucket.{WidthValue}
@@ -38,7 +38,8 @@ upto_more : (n m : ℕ) (v : Option ℕ) → n ≤ m → IsUpto n v → IsUpto m
 upto_more n m None le u = u
 upto_more n m (Some p) le u = omega arith
 
--- what is pending after entries whose positions rise from what is pending on is the later of what was pending and of the latest entry above the last refresh
+-- the pending position after entries whose positions rise from the pending one on is the later of that one and
+-- of the latest entry above the last refresh
 pub pending_after_all-touch : (w : WidthValue) (b : ℤ) (n : ℕ) (r : Option ℕ) (es : List Entry) (v : Option ℕ) → IsUpto n v → are_rising n es ≡ true → pending_after_all w b r es v ≡ later v (above_last r (log_touch w b (map note_of es)))
 pending_after_all-touch w b n r [] v u h = sym (ap (later v) (above_last-nothing r) ∙ later-none v)
 pending_after_all-touch w b n r (e ∷ es) v u h =

@@ -1,4 +1,4 @@
--- What a cut does to the logs of all aggregates of a table.
+-- The effect of a cut on the logs of all aggregates of a table.
 use Rattle.std.specs.Prelude.{List}
 use Rattle.std.specs.List.{AllZip}
 use Rattle.inval_log.specs.declared.entries.Entry.{Entry}

@@ -45,9 +45,9 @@ fn empty_log(alloc: Global, log: &InvalLog, hi: i64) -> InvalLog
     emptied
 }
 
-/// Cuts a span that ends at `hi`: raises the threshold of the table's log to `hi`, if that is higher,
-/// empties the log, and feeds every entry to the logs of all aggregates of the table. If the positions of
-/// the entries rise, the cost grows with the entries and the pieces of the aggregates.
+/// Cuts a span that ends at `hi`. Raises the threshold of the table's log to `hi`, if that is higher. Empties
+/// the log, and feeds every entry to the logs of all aggregates of the table. If the positions of the entries
+/// rise, the cost grows with the entries and the pieces of the aggregates.
 pub fn cut(alloc: Global, log: &InvalLog, mats: &Seq<MatLog>, hi: i64) -> Result<CutParts, NoMemory>
     requires { All (AreWithin log.now.entries) mats.now }
     ensures threshold { IfOk result (λ parts. parts.log.threshold ≡ int_max log.now.threshold hi) }

@@ -1,5 +1,5 @@
-//! The first phase of a refresh: the threshold of a table moves up, and its log of invalidations
-//! goes to the logs of all its aggregates.
+//! The first phase of a refresh. The threshold of a table rises, and the entries of its invalidation log are
+//! fed to the logs of all its aggregates.
 #![tactic(auto)]
 
 mod cuts;

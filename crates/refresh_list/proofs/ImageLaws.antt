@@ -44,7 +44,7 @@ waiting-together (w ∷ ws) fs =
 
 -- ---- what became of each
 
--- none of those that wait has the number of a finished one
+-- no waiting refresh has the number of a finished one
 abbrev AreApart : List WaitingRefresh → List FinishedRefresh → Type 0
 AreApart ws fs = AllByRecursion (λ f. list_any (λ w. w.cut == f.cut) ws ≡ false) fs
 
@@ -109,7 +109,7 @@ pending-together (w ∷ ws) fs k apart =
 
 -- ---- in order
 
--- finished ones before w, then w, then what is after w
+-- the finished refreshes before w, then w, then those after w
 rise_split : (low : ℕ) (w : WaitingRefresh) (fs : List FinishedRefresh) (rs : List Refresh) → CutsRise low (map of_done fs) → AllByRecursion (λ f. (w.cut == f.cut) ≡ false) fs → low < w.cut → (CutsRise w.cut (map of_done (drop (count_below w.cut fs) fs)) → CutsRise w.cut rs) → CutsRise low (map of_done (take (count_below w.cut fs) fs) ++ (of_waiting w ∷ rs))
 rise_split low w [] rs rise apart l then = (l, then tt)
 rise_split low w (f ∷ fs) rs rise apart l then = by (nat_lt f.cut w.cut) refl (λ b. rise_split f.cut w fs rs rise.1 apart.1 b) then
@@ -166,7 +166,7 @@ below-together n (w ∷ ws) fs waits done =
     all-append _ (map of_done (take k fs)) (of_waiting w ∷ together ws (drop k fs)) (below-done n (take k fs) (all-take _ k fs done))
     (waits.0, below-together n ws (drop k fs) waits.1 (all-drop _ k fs done))
 
--- each of those that wait is found by its number
+-- each waiting refresh is found by its number
 spans_own : (low : ℕ) (ws : List WaitingRefresh) → CutsRise low (map of_waiting ws) → AllByRecursion (λ w. (low < w.cut) × (span_among w.view ws w.cut ≡ Some w.span)) ws
 spans_own low [] rise = tt
 spans_own low (w ∷ ws) rise = ((rise.0, own w ws), later ws (spans_own w.cut ws rise.1))
@@ -256,7 +256,7 @@ cuts_are : (i : Image) (ws : List WaitingRefresh) → AllByRecursion (λ w. w.cu
 cuts_are i [] upto spans = tt
 cuts_are i (w ∷ ws) upto spans = (span_told i w.view w.cut upto.0 ∙ spans.0.1, cuts_are i ws upto.1 spans.1)
 
--- what an image tells of a number above its position is nothing
+-- an image says nothing of a number above its position
 none_above : (i : Image) (k : ℕ) → AllByRecursion (λ w. w.cut ≤ i.pos) i.waiting → AllByRecursion (λ f. f.cut ≤ i.pos) i.done → pending_among i.waiting i.done k ≡ cond (nat_le k i.pos) (pending_among i.waiting i.done k) Unknown
 none_above i k waits done = by (nat_le k i.pos) refl
   where
@@ -299,7 +299,7 @@ with_done-append : (cut : ℕ) (s : Stage) (xs ys : List FinishedRefresh) → wi
 with_done-append cut (Waits view span) xs ys = refl
 with_done-append cut (Done k) xs ys = refl
 
--- above p stand none up to p
+-- refreshes above p include none up to p
 none_upto : (p low : ℕ) (rs : List Refresh) → p ≤ low → CutsRise low rs → upto p rs ≡ []
 none_upto p low [] l rise = refl
 none_upto p low (r ∷ rs) l rise =
@@ -316,7 +316,7 @@ unknown_upto p low (r ∷ rs) l rise =
     out : (p n : ℕ) → p < n → (p == n) ≡ false
     out p n l = grind arith
 
--- one number more
+-- one more number
 done_next : (p low : ℕ) (rs : List Refresh) → CutsRise low rs → done_in (upto (suc p) rs) ≡ done_in (upto p rs) ++ finished_as (suc p) (pending_in rs (suc p))
 done_next p low [] rise = refl
 done_next p low (r ∷ rs) rise = by (nat_le r.cut p) refl (nat_le r.cut (suc p)) refl (done_next p r.cut rs rise.1)

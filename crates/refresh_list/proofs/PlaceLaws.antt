@@ -1,4 +1,4 @@
--- Where a refresh stands among refreshes in order of their cuts.
+-- The place of a refresh among refreshes in order of their cuts.
 use Rattle.std.proofs.Common.{◌≡◌, ℕ, suc, zero, ◌+◌, ◌<◌, ◌≤◌, true, false, cond, ◌==◌, List, [], ◌∷◌, ◌++◌, map, take, drop, length, get_or, Some, None, sym, refl, ap, ◌∙◌, subst, arith, add-one}
 use Rattle.std.proofs.lemmas.Bool.{eqb-true, eq-eqb}
 use Rattle.ts_model.specs.declared.refreshes.Pending.TheVariants.{Unknown}
@@ -14,7 +14,7 @@ from_less : (n m : ℕ) (rs : List Refresh) → m ≤ n → CutsFrom n rs → Cu
 from_less n m [] l from = tt
 from_less n m (r ∷ rs) l from = (omega (arith, from.0), from_less n m rs l from.1)
 
--- those up to a place whose cut is before n are before n
+-- refreshes up to a place whose cut is before n are before n
 pub below_place : (low n i : ℕ) (d : Refresh) (rs : List Refresh) → CutsRise low rs → i < length rs → (get_or rs i d).cut < n → CutsBelow n (take (suc i) rs)
 below_place low n i d [] rise l b = absurd (omega arith)
 below_place low n zero d (r ∷ rs) rise l b = (b, tt)
@@ -28,7 +28,7 @@ below_place low n (suc i) d (r ∷ rs) rise l b =
     at_place low zero (r ∷ rs) rise l = rise.0
     at_place low (suc i) (r ∷ rs) rise l = omega (arith, rise.0, at_place r.cut i rs rise.1 (omega arith))
 
--- those from a place on whose cut is at or after n are at or after n
+-- refreshes from a place on whose cut is at or after n are at or after n
 pub from_place : (low n i : ℕ) (d : Refresh) (rs : List Refresh) → CutsRise low rs → i < length rs → n ≤ (get_or rs i d).cut → CutsFrom n (drop i rs)
 from_place low n i d [] rise l b = absurd (omega arith)
 from_place low n zero d (r ∷ rs) rise l b = (b, from_less (suc r.cut) n rs (omega (arith, b)) (rise_from r.cut r.cut rs (omega arith) rise.1))
@@ -51,7 +51,7 @@ past_below k zero rs below = refl
 past_below k (suc p) [] below = refl
 past_below k (suc p) (r ∷ rs) below = ap (λ t. cond t (Some r) (refresh_in rs k)) (differs_below k r.cut below.0) ∙ past_below k p rs below.1
 
--- there is none where nothing is left
+-- there is none in an empty rest
 pub none_left : (k p : ℕ) (rs : List Refresh) → CutsBelow k (take p rs) → length rs ≤ p → refresh_in rs k ≡ None
 none_left k p rs below l = past_below k p rs below ∙ by_rest p rs l
   where
@@ -70,7 +70,7 @@ found_there k p d rs below l is = past_below k p rs below ∙ by_rest p rs l is
     by_rest zero (r ∷ rs) l is = ap (λ t. cond t (Some r) (refresh_in rs k)) (eq-eqb k r.cut (sym is))
     by_rest (suc p) (r ∷ rs) l is = by_rest p rs (omega arith) is
 
--- and nothing where it has another
+-- and none if it has another number
 pub other_there : (k p low : ℕ) (d : Refresh) (rs : List Refresh) → CutsRise low rs → CutsBelow k (take p rs) → CutsFrom k (drop p rs) → p < length rs → ((get_or rs p d).cut ≡ k → ⊥) → refresh_in rs k ≡ None
 other_there k p low d rs rise below from l other = past_below k p rs below ∙ by_rest low p rs rise from l other
   where
@@ -157,7 +157,7 @@ finished_there cut by p low r rs rise l at is =
     ∙ ap (λ x. take p rs ++ ((finished_one by x ∷ []) ++ drop (suc p) rs)) at
     ∙ marked_there cut by p low r rs rise l (ap (λ x. x.cut) (sym at) ∙ is)
 
--- where there is none, none is marked
+-- without such a refresh, none is marked
 pub finished_none : (cut by : ℕ) (rs : List Refresh) → refresh_in rs cut ≡ None → map (finished_at cut by) rs ≡ rs
 finished_none cut by [] e = refl
 finished_none cut by (r ∷ rs) e =

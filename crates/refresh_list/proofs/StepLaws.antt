@@ -1,4 +1,4 @@
--- What each event does to refreshes beside a history.
+-- The effect of each event on the refreshes of a history.
 use Rattle.std.proofs.Common.{◌≡◌, ℕ, suc, ◌<◌, Bool, true, false, ◌&&◌, cond, ◌==◌, List, [], ◌∷◌, ◌++◌, map, filter, not, Option, Some, None, sym, refl, ap, ◌∙◌, subst, arith}
 use Rattle.std.specs.List.{AllByRecursion}
 use Rattle.std.proofs.lemmas.Bool.{true≢false, eqb-true}
@@ -21,7 +21,7 @@ use Rattle.ts_schema.proofs.Cases.{same_number}
 pub refreshes_begin : RefreshesBegin
 refreshes_begin = record { pending = λ k. refl; waiting = refl; spans = tt; past = tt }
 
--- ---- what isn't after a number isn't after a greater one, and a span that was cut stays
+-- ---- a refresh that isn't after a number isn't after a greater one, and a span that was cut stays
 
 below_next : (n : ℕ) (rs : List Refresh) → CutsBelow n rs → CutsBelow (suc n) rs
 below_next n [] past = tt
@@ -90,7 +90,7 @@ finished_state : (by : ℕ) (s : Stage) → state_by (stage_after by s) ≡ fini
 finished_state by (Waits view span) = refl
 finished_state by (Done k) = refl
 
--- what became of a refresh after its finish, or another's
+-- the outcome of a refresh after its finish, or after that of another
 pending-of_one : (k cut by : ℕ) (r : Refresh) (p q : Pending) → q ≡ cond (k == cut) (finished_by by p) p → cond (k == (finished_at cut by r).cut) (state_by (finished_at cut by r).stage) q ≡ cond (k == cut) (finished_by by (cond (k == r.cut) (state_by r.stage) p)) (cond (k == r.cut) (state_by r.stage) p)
 pending-of_one k cut by r p q rest = by_name (cut == r.cut) refl
   where
@@ -151,7 +151,7 @@ waiting-finished cut by (r ∷ rs) = by_name (cut == r.cut) refl (waiting-finish
     by_name true named rest = gone r.stage named rest
     by_name false named rest = kept r.stage named rest
 
--- what holds of the cuts, and of the stages of those that wait, stays
+-- a property of the cuts, and of the stages of waiting refreshes, stays
 all-finished : (P : ℕ → Stage → Type 0) (cut by : ℕ) → ((c : ℕ) (s : Stage) → P c s → P c (stage_after by s)) → (rs : List Refresh) → AllByRecursion (λ r. P r.cut r.stage) rs → AllByRecursion (λ r. P r.cut r.stage) (map (finished_at cut by) rs)
 all-finished P cut by one [] all = tt
 all-finished P cut by one (r ∷ rs) all = (

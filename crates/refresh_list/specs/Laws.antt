@@ -1,4 +1,4 @@
--- Laws of refreshes and histories: what each event does to the refreshes.
+-- Laws of refreshes and histories: the effect of each event on the refreshes.
 use Rattle.std.specs.Prelude.{◌≡◌, ℕ, suc, Bool, true, false, List, [], ◌∷◌, ◌++◌, map}
 use Rattle.ts_bucket.specs.declared.spans.Span.{Span}
 use Rattle.ts_model.specs.declared.events.Event.{Event}
@@ -32,7 +32,7 @@ FinishesStand =
     (h : History) (cut snap : ℕ) (rs : List Refresh) → RefreshesStand h rs
     → RefreshesStand (h ▸ Built cut snap) (map (finished_at cut (suc (position h))) rs)
 
--- every other event leaves them as they are
+-- every other event leaves the refreshes unchanged
 abbrev pub OthersStand : Type 0
 OthersStand =
     (h : History) (e : Event) (rs : List Refresh) → is_of_refresh e ≡ false → RefreshesStand h rs
@@ -43,7 +43,7 @@ pub record ImagesStand : Type 0 where
   pub rise : (i : Image) → valid i ≡ true → CutsRise 0 (together i.waiting i.done)
   pub stand : (i : Image) → valid i ≡ true → RefreshesStand (resumed i) (together i.waiting i.done)
 
--- refreshes of a history that are finished are its finished refreshes, in order of their cuts
+-- the finished ones among the refreshes of a history are its finished refreshes, in order of their cuts
 abbrev pub DoneAre : Type 0
 DoneAre =
     (h : History) (rs : List Refresh) → CutsRise 0 rs → RefreshesStand h rs → done_in rs ≡ finished_upto h (position h)

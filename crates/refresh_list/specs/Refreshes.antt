@@ -27,7 +27,7 @@ abbrev pub pending_in : List Refresh → ℕ → Pending
 pending_in [] k = Unknown
 pending_in (r ∷ rs) k = cond (k == r.cut) (state_by r.stage) (pending_in rs k)
 
--- a refresh, where it isn't finished, before others that wait
+-- a refresh, if it isn't finished, before other waiting ones
 abbrev pub with_waiting : ℕ → Stage → List WaitingRefresh → List WaitingRefresh
 with_waiting cut (Waits view span) rs = record { cut = cut; view = view; span = span } ∷ rs
 with_waiting cut (Done k) rs = rs
@@ -37,7 +37,7 @@ abbrev pub waiting_in : List Refresh → List WaitingRefresh
 waiting_in [] = []
 waiting_in (r ∷ rs) = with_waiting r.cut r.stage (waiting_in rs)
 
--- a refresh, where it is finished, before others that are
+-- a refresh, if it is finished, before other finished ones
 abbrev pub with_done : ℕ → Stage → List FinishedRefresh → List FinishedRefresh
 with_done cut (Waits view span) fs = fs
 with_done cut (Done k) fs = record { cut = cut; built = k } ∷ fs
@@ -54,7 +54,7 @@ of_waiting w = newly_cut w.cut w.view w.span
 abbrev pub of_done : FinishedRefresh → Refresh
 of_done f = record { cut = f.cut; stage = Done f.built }
 
--- how many of these come before the first with a cut at or after n
+-- the number of these before the first with a cut at or after n
 abbrev pub count_below : ℕ → List FinishedRefresh → ℕ
 count_below n [] = 0
 count_below n (f ∷ fs) = cond (nat_lt f.cut n) (suc (count_below n fs)) 0
@@ -70,12 +70,12 @@ abbrev pub refresh_in : List Refresh → ℕ → Option Refresh
 refresh_in [] k = None
 refresh_in (r ∷ rs) k = cond (k == r.cut) (Some r) (refresh_in rs k)
 
--- a refresh, where it isn't finished
+-- a refresh, if it isn't finished
 abbrev pub as_waiting : ℕ → Stage → Option WaitingRefresh
 as_waiting cut (Waits view span) = Some (record { cut = cut; view = view; span = span })
 as_waiting cut (Done k) = None
 
--- the refresh with a number, where it isn't finished
+-- the refresh with a number, if it isn't finished
 abbrev pub waits_in : List Refresh → ℕ → Option WaitingRefresh
 waits_in [] k = None
 waits_in (r ∷ rs) k = cond (k == r.cut) (as_waiting r.cut r.stage) (waits_in rs k)
@@ -101,7 +101,7 @@ stage_after k (Done f) = Done f
 abbrev pub finished_one : ℕ → Refresh → Refresh
 finished_one k r = record { cut = r.cut; stage = stage_after k r.stage }
 
--- the same, where it has this number
+-- the same, if it has this number
 abbrev pub finished_at : ℕ → ℕ → Refresh → Refresh
 finished_at cut k r = cond (cut == r.cut) (finished_one k r) r
 
@@ -110,8 +110,8 @@ abbrev pub IsCut : History → ℕ → Stage → Type 0
 IsCut h cut (Waits view span) = span_of_cut view h cut ≡ Some span
 IsCut h cut (Done k) = Unit {0}
 
--- the refreshes are those of a history: the state of each, which are pending, the span of each of these, and none is
--- from after the history
+-- the refreshes are those of a history: the state of each, which are pending, the span of each of these, and
+-- none is after the history
 pub record RefreshesStand (h : History) (refreshes : List Refresh) : Type 0 where
   pub pending : (k : ℕ) → pending_in refreshes k ≡ pending h k
   pub waiting : waiting_in refreshes ≡ waiting h
@@ -124,7 +124,7 @@ pub record StandsAt (rs : List Refresh) (k p : ℕ) : Type 0 where
   pub named : (d : Refresh) → (slice_index_or rs p d).cut ≡ k
   pub found : (d : Refresh) → refresh_in rs k ≡ Some (slice_index_or rs p d)
 
--- the place of the refresh with number k, where it is there
+-- the place of the refresh with number k, if it exists
 abbrev pub IsPlace : List Refresh → ℕ → Option ℕ → Type 0
 IsPlace rs k None = refresh_in rs k ≡ None
 IsPlace rs k (Some p) = StandsAt rs k p

@@ -1,4 +1,4 @@
-//! Laws that join refreshes to histories. Each is the clause of a function that does nothing.
+//! Laws that relate refreshes to histories. Each law is the clause of a function that does nothing.
 ghost use Rattle.refresh_list.specs.Laws.{CutsStand, DoneAre, FinishesStand, ImagesStand, OthersStand, RefreshesBegin};
 
 /// Before any event there is no refresh.
@@ -16,7 +16,7 @@ pub fn finishes_stand()
     ensures { FinishesStand }
 {}
 
-/// Every other event leaves them as they are.
+/// Every other event leaves the refreshes unchanged.
 pub fn others_stand()
     ensures { OthersStand }
 {}

@@ -13,7 +13,7 @@ use ts_schema::{NoMemory, Seq};
 
 /// The refreshes that were cut, in order of their cuts. Contracts see the list of them.
 ///
-/// A change makes a new list, which shares what it leaves alone with the old one.
+/// A change creates a new list, which shares what it doesn't change with the old one.
 #[derive(Drop, Debug)]
 pub struct Refreshes {
     list: BlockList<Refresh>,
@@ -102,14 +102,14 @@ fn with_mark(
     requires stands { StandsAt list.now.items cut place }
     ensures marked { IfOk result (λ new. new.items ≡ map (finished_at cut by) list.now.items) }
 {
-    // A length that is read has 64 bits.
+    // Reading the length tells the prover that it has 64 bits.
     let _many = list.len();
     let marked = finish_at(*list.get(place), by);
     list.replace(place, place + 1, &[marked])
 }
 
 impl Refreshes {
-    /// No refresh. It allocates no memory.
+    /// No refreshes. It allocates no memory.
     pub fn new(alloc: Global) -> Refreshes
         ensures none { result ≡ [] }
     {
@@ -198,7 +198,7 @@ impl Refreshes {
         }
     }
 
-    /// The pending refreshes, in order of their cuts. It reads all refreshes, finished ones too.
+    /// The pending refreshes, in order of their cuts. It reads all refreshes, including finished ones.
     pub fn waiting(&self) -> Result<Seq<Waiting>, NoMemory>
         ensures waiting { IfOk result (λ found. found ≡ waiting_in self.now) }
     {
@@ -222,7 +222,7 @@ impl Refreshes {
     }
 }
 
-/// How many of these come before the first with a cut at or after a number.
+/// The number of these before the first with a cut at or after a number.
 fn count_below(cut: u64, done: &[Finished]) -> usize
     ensures count { result ≡ count_below cut done.now }
     ensures within { result ≤ length done.now }

@@ -1,4 +1,4 @@
--- Pieces appended one after another are appended together.
+-- Pieces appended in order are appended together.
 use Rattle.std.proofs.Common.{◌≡◌, ◌∙◌, ap, sym, refl, ℕ, List, [], ◌∷◌, ◌++◌, codes}
 use Rattle.std.proofs.lemmas.List.{append_assoc}
 use Rattle.ts_num.specs.Texts.{datum_text}
@@ -21,6 +21,6 @@ more_cells-append [] b = refl
 more_cells-append (d ∷ a) b =
     ap (λ t. codes "|" ++ datum_text d ++ t) (more_cells-append a b) ∙ sym (append_assoc (codes "|" ++ datum_text d) (more_cells a) (more_cells b))
 
--- the first cell, and then some and others
+-- the first cell, then the cells of two lists
 pub cells_in_two : (text first : List ℕ) (a b : List Datum) → text ++ first ++ more_cells a ++ more_cells b ≡ text ++ (first ++ more_cells (a ++ b))
 cells_in_two text first a b = three_pieces text first (more_cells a) (more_cells b) ∙ ap (λ t. text ++ t) (append_assoc first (more_cells a) (more_cells b) ∙ ap (λ t. first ++ t) (sym (more_cells-append a b)))

@@ -2,11 +2,11 @@
 use Rattle.std.proofs.lemmas.List.{take-append-drop, take-append-le, drop-append-le}
 use Rattle.std.proofs.Math.Seq.{take-length, drop-length}
 
--- what is appended to the buffer is written behind, and what stood before is kept
+-- text is appended at the end of the buffer, and what was before is kept
 pub ruleset appended_behind = (take-append-le, drop-append-le)
 
--- both parts make the whole
+-- both parts together are the whole
 pub ruleset cut_joined = (take-append-drop)
 
--- where nothing is written behind, the whole stood before
+-- if nothing is appended, the buffer is as before
 pub ruleset cut_at_end = (take-length, drop-length)

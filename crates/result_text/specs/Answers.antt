@@ -11,7 +11,7 @@ abbrev pub more_cells : List Datum → List ℕ
 more_cells [] = []
 more_cells (d ∷ ds) = codes "|" ++ datum_text d ++ more_cells ds
 
--- the cells of a row, parted by |
+-- the cells of a row, separated by |
 abbrev pub cells_text : List Datum → List ℕ
 cells_text [] = []
 cells_text (d ∷ ds) = datum_text d ++ more_cells ds
@@ -26,16 +26,16 @@ abbrev pub stale_text : ℤ → List Span → List ℕ
 stale_text min [] = []
 stale_text min (span ∷ spans) = codes "stale " ++ span_text min span ++ codes "\n" ++ stale_text min spans
 
--- how many operations are queued in the write block that an answer was asked in, if in one
+-- the number of operations queued in the write block of a query, if it is in one
 abbrev pub queue_text : Option ℕ → List ℕ
 queue_text None = []
 queue_text (Some queue) = codes " queue " ++ decimal queue
 
--- where an answer stands: its position, and the queue that it shows on top
+-- the state that an answer shows: its position, and the queue on top
 abbrev pub answer_place : ℕ → Option ℕ → List ℕ
 answer_place pos queue = codes "ANSWER @" ++ decimal pos ++ queue_text queue
 
--- how many rows it has, and how many stale ranges
+-- the numbers of its rows and of its stale ranges
 abbrev pub answer_counts : ℕ → ℕ → List ℕ
 answer_counts rows stale = codes " rows " ++ decimal rows ++ codes " stale " ++ decimal stale ++ codes "\n"
 
@@ -52,6 +52,6 @@ answer_lines a pos queue min =
 abbrev pub answer_text : Answer → ℕ → ℤ → List ℕ
 answer_text a pos min = answer_lines a pos None min
 
--- and in one with so many operations queued
+-- and in one with this many operations queued
 abbrev pub queued_answer_text : Answer → ℕ → ℕ → ℤ → List ℕ
 queued_answer_text a pos queue min = answer_lines a pos (Some queue) min

@@ -14,7 +14,7 @@ use Rattle.ts_model.specs.declared.views.ViewDef.{ViewDef}
 use Rattle.ts_model.specs.Roster.{table_of, view_of}
 use Rattle.result_text.specs.Spans.{span_end, span_text}
 
--- a column, with ! where it is NOT NULL
+-- a column, with ! if it is NOT NULL
 abbrev pub column_text : Column → List ℕ
 column_text c = codes " " ++ c.name ++ (if c.must then codes "!" else codes "")
 
@@ -22,7 +22,7 @@ abbrev pub columns_text : List Column → List ℕ
 columns_text [] = []
 columns_text (c ∷ cs) = column_text c ++ columns_text cs
 
--- the name of a column, where it is there
+-- the name of a column, if it exists
 abbrev pub column_name : Option Column → List ℕ
 column_name None = []
 column_name (Some c) = c.name
@@ -65,7 +65,7 @@ cut_text span (Some def) = (codes "CUT " ++ def.name) ++ (codes " " ++ span_text
 abbrev pub built_text : ℕ → ℕ → List ℕ
 built_text cut snap = codes "BUILT " ++ decimal cut ++ codes " snap " ++ decimal snap
 
--- what an event is, by the names of a roster
+-- an event in words, with the names of a roster
 abbrev pub event_text : Roster → Event → List ℕ
 event_text roster (Table def) = table_text def
 event_text roster (Hyper t hyper) = hyper_text hyper (table_of roster t)

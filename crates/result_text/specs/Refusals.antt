@@ -5,7 +5,7 @@ use Rattle.ts_model.specs.Numbers.{line_long, not_ascii, no_session, no_token, s
 use Rattle.result_text.specs.declared.refusals.Tail.{Tail}
 use Rattle.result_text.specs.declared.refusals.Tail.TheVariants.{Bare, Place, Position, Finish, Count, Bytes}
 
--- what the text of a refusal has by its number
+-- the parts of a refusal's text that depend on its number
 pub record Entry : Type 0 where
   pub word : List ℕ
   pub tail : Tail
@@ -52,7 +52,7 @@ entry_of code =
 abbrev pub position_text : ℕ → List ℕ
 position_text pos = codes " @" ++ decimal pos
 
--- the event that finished the refresh, where it was finished
+-- the event that finished the refresh, if it was finished
 abbrev pub finish_text : ℕ → List ℕ
 finish_text zero = []
 finish_text (suc finish) = codes " finished " ++ decimal (suc finish)

@@ -13,7 +13,7 @@ abbrev pub refresh_head : ℕ → ℕ → ℕ → List ℕ
 refresh_head cut pos snap =
     codes "REFRESH " ++ decimal cut ++ codes " @" ++ decimal pos ++ codes " snap " ++ decimal snap
 
--- what a reply says after the session's name
+-- the text of a reply after the session's name
 abbrev pub said_text : Said → List ℕ
 said_text (Table pos) = codes "TABLE @" ++ decimal pos ++ codes "\n"
 said_text (Hypertable pos) = codes "HYPERTABLE @" ++ decimal pos ++ codes "\n"

@@ -26,8 +26,9 @@ pub fn put_answer(answer: &Answer, pos: u64, min: i64, out: &mut Vec<u8>) -> Res
     text.finish(written, out)
 }
 
-/// Appends an answer in a write block: like `put_answer`, and the first line says that `queue` operations are queued.
-/// It is for callers without sessions; the program calls `put_reply`, which writes the session's name first.
+/// Appends an answer in a write block: like `put_answer`, and the first line says that `queue` operations are
+/// queued. This is for callers without sessions; the program calls `put_reply`, which writes the session's name
+/// first.
 pub fn put_queued_answer(
     answer: &Answer,
     pos: u64,
@@ -82,7 +83,7 @@ fn put_head(
     put_counts(text, rows, stale)
 }
 
-/// Appends the position of an answer, and how many operations are queued.
+/// Appends the position of an answer, and the number of queued operations.
 fn put_place(text: &mut Text, pos: u64, queue: Option<u64>) -> Result<(), NoMemory>
     ensures written { OnOk result (text.new.after ≡ text.old.after ++ answer_place pos queue) }
     ensures kept { text.new.before ≡ text.old.before }
@@ -92,7 +93,7 @@ fn put_place(text: &mut Text, pos: u64, queue: Option<u64>) -> Result<(), NoMemo
     put_queue(text, queue)
 }
 
-/// Appends how many rows it has, and how many stale ranges.
+/// Appends the numbers of its rows and of its stale ranges.
 fn put_counts(text: &mut Text, rows: u64, stale: u64) -> Result<(), NoMemory>
     ensures written { OnOk result (text.new.after ≡ text.old.after ++ answer_counts rows stale) }
     ensures kept { text.new.before ≡ text.old.before }
@@ -104,7 +105,7 @@ fn put_counts(text: &mut Text, rows: u64, stale: u64) -> Result<(), NoMemory>
     text.bytes(b"\n")
 }
 
-/// Appends how many operations are queued, in a write block.
+/// Appends the number of queued operations, in a write block.
 fn put_queue(text: &mut Text, queue: Option<u64>) -> Result<(), NoMemory>
     ensures written { OnOk result (text.new.after ≡ text.old.after ++ queue_text queue) }
     ensures kept { text.new.before ≡ text.old.before }
@@ -199,7 +200,7 @@ fn put_keys(text: &mut Text, keys: &[Option<i64>]) -> Result<(), NoMemory>
     Ok(())
 }
 
-/// Appends a number, or NULL where it is missing.
+/// Appends a number, or NULL if it is missing.
 fn put_key(text: &mut Text, key: Option<i64>) -> Result<(), NoMemory>
     ensures written { OnOk result (text.new.after ≡ text.old.after ++ datum_text (shown_or_null key)) }
     ensures kept { text.new.before ≡ text.old.before }

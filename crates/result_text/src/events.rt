@@ -11,7 +11,7 @@ use ts_bucket::{Span, first};
 use ts_model::{Event, Hyper, Roster, TableDef, TableInfo, ViewDef};
 use ts_schema::{Column, Name, NoMemory};
 
-/// Appends the line of a log for an event: its number, and what it is. It omits what isn't in the roster.
+/// Appends the line of a log for an event: its number and its text. Omits what isn't in the roster.
 pub fn put_event(
     number: u64,
     event: &Event,
@@ -106,7 +106,7 @@ fn put_event_line(
     text.bytes(b"\n")
 }
 
-/// Appends what an event is.
+/// Appends the text of an event.
 fn put_kind(text: &mut Text, event: &Event, roster: &Roster) -> Result<(), NoMemory>
     ensures written { OnOk result (text.new.after ≡ text.old.after ++ event_text roster.now event.now) }
     ensures kept { text.new.before ≡ text.old.before }
@@ -122,7 +122,7 @@ fn put_kind(text: &mut Text, event: &Event, roster: &Roster) -> Result<(), NoMem
     }
 }
 
-/// Appends that a table was made.
+/// Appends that a table was created.
 fn put_table(text: &mut Text, def: &TableDef) -> Result<(), NoMemory>
     ensures written { OnOk result (text.new.after ≡ text.old.after ++ table_text def.now) }
     ensures kept { text.new.before ≡ text.old.before }
@@ -143,7 +143,7 @@ fn put_columns(text: &mut Text, columns: &[Column]) -> Result<(), NoMemory>
     Ok(())
 }
 
-/// Appends a column, with ! where it is NOT NULL.
+/// Appends a column, with ! if it is NOT NULL.
 fn put_column(text: &mut Text, column: &Column) -> Result<(), NoMemory>
     ensures written { OnOk result (text.new.after ≡ text.old.after ++ column_text column.now) }
     ensures kept { text.new.before ≡ text.old.before }
@@ -153,7 +153,7 @@ fn put_column(text: &mut Text, column: &Column) -> Result<(), NoMemory>
     text.bytes(if column.must { b"!".as_slice() } else { b"" })
 }
 
-/// Appends that a table was made a hypertable.
+/// Appends that a table became a hypertable.
 fn put_hyper(text: &mut Text, roster: &Roster, table: u32, hyper: Hyper) -> Result<(), NoMemory>
     ensures written { OnOk result (text.new.after ≡ text.old.after ++ hyper_text hyper (table_of roster.now table)) }
     ensures kept { text.new.before ≡ text.old.before }
@@ -164,7 +164,7 @@ fn put_hyper(text: &mut Text, roster: &Roster, table: u32, hyper: Hyper) -> Resu
     }
 }
 
-/// Appends that this table was made a hypertable.
+/// Appends that this table became a hypertable.
 #[tactic(auto, using(crate::proofs::Appending::three_pieces))]
 fn put_hyper_of(text: &mut Text, info: &TableInfo, hyper: Hyper) -> Result<(), NoMemory>
     ensures written { OnOk result (text.new.after ≡ text.old.after ++ hyper_text hyper (Some info.now)) }
@@ -204,7 +204,7 @@ fn put_column_name(text: &mut Text, columns: &[Column], place: u32) -> Result<()
     }
 }
 
-/// Appends that an aggregate was made.
+/// Appends that an aggregate was created.
 fn put_view(text: &mut Text, roster: &Roster, def: &ViewDef) -> Result<(), NoMemory>
     ensures written { OnOk result (text.new.after ≡ text.old.after ++ event_text roster.now (Event.View def.now)) }
     ensures kept { text.new.before ≡ text.old.before }
@@ -215,7 +215,7 @@ fn put_view(text: &mut Text, roster: &Roster, def: &ViewDef) -> Result<(), NoMem
     }
 }
 
-/// Appends that an aggregate over this table was made.
+/// Appends that an aggregate over this table was created.
 #[tactic(auto, using(crate::proofs::Appending::four_pieces))]
 fn put_view_of(text: &mut Text, def: &ViewDef, info: &TableInfo) -> Result<(), NoMemory>
     ensures written { OnOk result (text.new.after ≡ text.old.after ++ view_text def.now (Some info.now)) }
@@ -258,7 +258,7 @@ fn word_of_mode(only: bool) -> &'static [u8]
     }
 }
 
-/// Appends how many operations took effect.
+/// Appends the number of operations that took effect.
 fn put_commit(text: &mut Text, ops: u64) -> Result<(), NoMemory>
     ensures written { OnOk result (text.new.after ≡ text.old.after ++ (codes "COMMIT ops " ++ decimal ops)) }
     ensures kept { text.new.before ≡ text.old.before }

@@ -13,9 +13,9 @@ use ts_schema::NoMemory;
 /// A text that is appended to a buffer.
 #[derive(Drop)]
 pub(crate) struct Text {
-    /// What the buffer held, and then the text.
+    /// The contents of the buffer, and then the text.
     buffer: Vec<u8>,
-    /// How many bytes the buffer held.
+    /// The number of bytes of those contents.
     start: usize,
 }
 

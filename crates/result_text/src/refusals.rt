@@ -6,7 +6,7 @@ use crate::pieces::Text;
 use ts_model::{Refusal, codes};
 use ts_schema::NoMemory;
 
-/// What a refusal's reply ends with.
+/// The end of a refusal's reply.
 #[derive(Clone, Copy, Debug, PartialEq, Eq)]
 pub enum Tail {
     /// Nothing.
@@ -23,17 +23,17 @@ pub enum Tail {
     Bytes,
 }
 
-/// What the text of a refusal has for its number.
+/// The parts of a refusal's text that depend on its number.
 #[derive(Clone, Copy)]
 struct Entry {
     /// Its word.
     word: &'static [u8],
-    /// What it ends with.
+    /// Its end.
     tail: Tail,
 }
 
-/// Appends a refusal as a line: `FAULT`, its number, its word and its tail. It is for callers without sessions; the
-/// program calls `put_reply`, which writes the session's name first.
+/// Appends a refusal as a line: `FAULT`, its number, its word and its tail. This is for callers without
+/// sessions; the program calls `put_reply`, which writes the session's name first.
 pub fn put_refusal(refusal: &Refusal, out: &mut Vec<u8>) -> Result<(), NoMemory>
     ensures appended { OnOk result (out.new.items ≡ out.old.items ++ refusal_text refusal.now) }
     ensures kept { OnErr result (out.new.items ≡ out.old.items) }

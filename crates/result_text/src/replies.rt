@@ -11,17 +11,17 @@ use ts_bucket::Span;
 use ts_model::{Answer, Committed, Refusal};
 use ts_schema::{Name, NoMemory};
 
-/// What a line of a reply says. Positions are those of a history, and numbers those of events. `cut` is the number of
-/// a refresh, `pos` the number of the event that finished it, `snap` the position of its snapshot, and `span` the
-/// half-open range of its buckets. `min` is the start of the first bucket of the aggregate, or of its roll-up: a
-/// range that begins there is printed with `min`.
+/// The contents of a line of a reply. Positions are those of a history, and numbers those of events. `cut` is
+/// the number of a refresh, and `pos` the number of the event that finished it. `snap` is the position of its
+/// snapshot, and `span` the half-open range of its buckets. `min` is the start of the first bucket of the
+/// aggregate, or of its roll-up: a range that begins there is printed with `min`.
 #[derive(Drop, Debug)]
 pub enum Said {
-    /// A table was made, by the event with this number.
+    /// A table was created, by the event with this number.
     Table(u64),
-    /// A table was made a hypertable.
+    /// A table became a hypertable.
     Hypertable(u64),
-    /// An aggregate was made.
+    /// An aggregate was created.
     View(u64),
     /// An aggregate was set to a mode.
     Mode(u64),
@@ -62,11 +62,11 @@ pub enum Said {
     BeginRead(u64),
     /// A write block without operations ends.
     CommitEmpty,
-    /// A write block is given up.
+    /// A write block is rolled back.
     Rollback,
     /// A read block ends.
     End,
-    /// A query was answered at a position. `queue` is how many operations are queued, if in a write block.
+    /// A query was answered at a position. `queue` is the number of queued operations, if in a write block.
     Answered {
         answer: Answer,
         pos: u64,
@@ -128,7 +128,7 @@ fn put_fault_line(text: &mut Text, line: u64, refusal: &Refusal) -> Result<(), N
     put_refusal_line(text, refusal)
 }
 
-/// Appends what a reply says.
+/// Appends the contents of a reply.
 fn put_said(text: &mut Text, said: &Said) -> Result<(), NoMemory>
     ensures written { OnOk result (text.new.after ≡ text.old.after ++ said_text said.now) }
     ensures kept { text.new.before ≡ text.old.before }
@@ -264,7 +264,7 @@ fn put_policy(text: &mut Text, number: u64, pos: u64) -> Result<(), NoMemory>
     put_at(text, b" @", pos)
 }
 
-/// Appends what time it is, and how many policies are due.
+/// Appends the time, and the number of due policies.
 fn put_tick(text: &mut Text, time: i64, due: u64) -> Result<(), NoMemory>
     ensures written { OnOk result (text.new.after ≡ text.old.after ++ said_text (Said.Tick time due)) }
     ensures kept { text.new.before ≡ text.old.before }

@@ -26,7 +26,7 @@ pub(crate) fn put_span_end(text: &mut Text, min: i64, span: Span) -> Result<(), 
     text.bytes(b"\n")
 }
 
-/// Appends where a range begins.
+/// Appends the start of a range.
 fn put_start(text: &mut Text, min: i64, lo: i64) -> Result<(), NoMemory>
     ensures written { OnOk result (text.new.after ≡ text.old.after ++ start_text min lo) }
     ensures kept { text.new.before ≡ text.old.before }

@@ -13,11 +13,11 @@ use ts_schema::{NoMemory, Seq};
 pub struct Summary {
     /// Its number.
     pub number: u64,
-    /// How many events there are.
+    /// The number of events.
     pub events: u64,
-    /// How many rows were inserted, less those deleted.
+    /// The number of rows inserted, less those deleted.
     pub rows: u64,
-    /// How many rows the last answer has.
+    /// The number of rows of the last answer.
     pub groups: u64,
     /// The sum of the last column of that answer.
     pub total: i128,
@@ -25,7 +25,7 @@ pub struct Summary {
     pub stale: Seq<Span>,
     /// The start of the first bucket; a range that begins there is printed with `min`.
     pub min: i64,
-    /// How many stored rows were read.
+    /// The number of stored rows that were read.
     pub reads: u64,
 }
 

@@ -1,4 +1,5 @@
--- Tables of consistent histories: what is inserted has times, and nothing is inserted into a table that isn't a hypertable yet.
+-- Tables of consistent histories: inserted rows have times, and nothing is inserted into a table that isn't a
+-- hypertable yet.
 use Rattle.std.proofs.Common.{◌≡◌, suc, true, false, Option, Some, None, List, [], ◌∷◌, refl, sym, ◌∙◌, ap, arith}
 use Rattle.std.specs.Prelude.{option_and_then}
 use Rattle.std.specs.List.{list_all}

@@ -1,4 +1,4 @@
--- Tables beside histories: how they begin, what events make of them, and what they tell.
+-- Tables beside histories: how they begin, what events do to them, and what they say.
 use Rattle.std.proofs.Common.{◌≡◌, ℕ, suc, ◌+◌, ◌<◌, ◌≤◌, Bool, true, false, not, ◌++◌, cond, nat_lt, Option, Some, None, List, [], ◌∷◌, ℤ, ◌+ℤ◌, ◌≤ℤ◌, refl, sym, ◌∙◌, ap, subst, arith}
 use Rattle.std.specs.List.{filter, list_any, count_by}
 use Rattle.std.specs.Option.{option_map}
@@ -131,7 +131,7 @@ module _ (t : ℕ) (h : History) (e : Event) (table : ChunksValue) (held : Holds
 pub others_are_held : OthersAreHeld
 others_are_held t h e table held quiet = other_held t h e table held quiet
 
--- ---- what tables tell
+-- ---- what tables say
 
 later_swap : (a b c : Option ℤ) → later_time a (later_time b c) ≡ later_time b (later_time a c)
 later_swap a b c = later_time-assoc a b c ∙ (ap (λ x. later_time x c) (later_time-comm a b) ∙ sym (later_time-assoc b a c))
@@ -149,7 +149,7 @@ latest_of-in_order : (xs : List Row) → latest_of (in_order xs) ≡ latest_of x
 latest_of-in_order [] = refl
 latest_of-in_order (x ∷ xs) = latest_of-with_row x (in_order xs) ∙ ap (later_time (Some x.at)) (latest_of-in_order xs)
 
--- how many rows pass doesn't look at their order
+-- how many rows pass doesn't depend on their order
 count-cons : (p : Row → Bool) (x : Row) (xs : List Row) → count_by p (x ∷ xs) ≡ cond (p x) 1 0 + count_by p xs
 count-cons p x xs = sum_by-cons (λ y. cond (p y) 1 0) x xs
 

@@ -1,4 +1,4 @@
--- Rows that come as often stand in the same order, and have the same hull.
+-- Lists with the same rows, each as often, are the same in row order, and have the same hull.
 use Rattle.std.proofs.Common.{◌≡◌, ℕ, ◌+◌, ◌≤◌, ◌&&◌, Bool, true, false, cond, Option, List, [], ◌∷◌, ◌++◌, refl, sym, ◌∙◌, ap, arith}
 use Rattle.std.specs.List.{filter, count_by}
 use Rattle.std.specs.Ordering.{is_gt, is_eq, ordering_reverse}
@@ -18,7 +18,7 @@ use Rattle.seg_rows.proofs.HullLaws.{joined_hull-assoc, joined_hull-comm}
 use Rattle.ts_model.proofs.CountLaws.{count_cons}
 use Rattle.ts_schema.proofs.Cases.{count-append}
 
--- an order answers equal where it is turned round into itself
+-- an order that equals its reverse is equality
 same_turned : (o : Ordering) → o ≡ ordering_reverse o → is_eq o ≡ true
 same_turned Less e = absurd (cc)
 same_turned Equal e = refl
@@ -32,7 +32,7 @@ equal_if Less e = absurd (cc)
 equal_if Equal e = refl
 equal_if Greater e = absurd (cc)
 
--- where a list has an item that passes, it falls into what is before that item, the item, and what is after it
+-- a list with an item that passes splits into the items before it, the item, and the items after it
 record Found {X : Type 0} (test : X → Bool) (ys : List X) : Type 0 where
   pub item : X
   pub front : List X
@@ -50,12 +50,12 @@ found test (y ∷ ys) h =
           record { item = rest.item; front = y ∷ rest.front; back = rest.back; passes = rest.passes; whole = ap (λ zs. y ∷ zs) rest.whole }
     ] refl
 
--- an item at the front or in between, the rest as often
+-- an item at the front or in between leaves the same rest
 without_item : {X : Type 0} (x : X) (xs front back : List X) → AsOften (x ∷ xs) (front ++ x ∷ back) → AsOften xs (front ++ back)
 without_item x xs front back same = λ test.
     omega (arith, same test, count_cons test x xs, count-append test front (x ∷ back), count_cons test x back, count-append test front back)
 
--- rows that come as often stand in the same order
+-- lists with the same rows, each as often, are the same in row order
 pub in_order-as_often : (xs ys : List Row) → AsOften xs ys → in_order xs ≡ in_order ys
 in_order-as_often [] [] same = refl
 in_order-as_often [] (y ∷ ys) same = absurd (omega (arith, same (λ z. true), count_cons (λ (z : Row). true) y ys))

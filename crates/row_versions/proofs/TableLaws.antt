@@ -1,4 +1,4 @@
--- What inserts and deletes make of the versions of a table.
+-- The versions of a table after inserts and deletes.
 use Rattle.std.proofs.Common.{◌≡◌, ℕ, ◌+◌, ◌<◌, ◌≤◌, ◌&&◌, Bool, true, false, cond, not, Option, Some, None, List, [], ◌∷◌, ◌++◌, length, map, get_or, take, take_all, drop, ◌-◌, ℤ, ◌+ℤ◌, refl, sym, ◌∙◌, ap, subst, arith}
 use Rattle.std.proofs.lemmas.List.Folds.{list_all-append}
 use Rattle.std.specs.List.{filter, list_all, list_any, count_by}
@@ -41,7 +41,7 @@ use Rattle.ts_schema.proofs.Cases.{same_number, count-append}
 visible_rows-append : (q : ℕ) (xs ys : List Version) → visible_rows q (xs ++ ys) ≡ visible_rows q xs ++ visible_rows q ys
 visible_rows-append q xs ys = ap rows_of (filter-append (visible_at q) xs ys) ∙ map-append (λ v. v.row) (filter (visible_at q) xs) (filter (visible_at q) ys)
 
--- as many versions, as many rows that a position sees
+-- as many versions, and so as many rows that a position sees
 visible_as_often : (q : ℕ) (xs ys : List Version) → AsOften xs ys → AsOften (visible_rows q xs) (visible_rows q ys)
 visible_as_often q xs ys same = λ test.
     count_map (λ v. v.row) test (filter (visible_at q) xs)
@@ -115,7 +115,7 @@ not_yet_dead p q (Some d) h e = elim (nat_le d q) as (λ b. nat_le d q ≡ b →
   | false ↦ λ f. refl
 ] refl
 
--- a later position sees what p sees, where no change is later than p
+-- a later position sees what p sees, if no change is later than p
 later_seen : (p q : ℕ) (v : Version) → p ≤ q → is_up_to p v ≡ true → visible_at q v ≡ visible_at p v
 later_seen p q v h e =
     let parts = and_parts (nat_le v.born p) (died_by p v.died) e in
@@ -357,9 +357,9 @@ counts_more t op ops rows x y z one rest = record {
       ∙ ap (λ rs. joined_hull x.hull (hull_of (all_appended t (op ∷ ops) ++ rs))) (sym (taken-cons_ops t op ops rows)))));
 }
 
--- ---- what operations ask for
+-- ---- what operations require
 
--- rows of operations that are times are times in the first operation, and in the rest
+-- rows of operations that have times have them in the first operation and in the rest
 pub first_times : (t : ℕ) (op : Op) (ops : List Op) → HaveTimes (all_appended t (op ∷ ops)) → HaveTimes (all_appended t (op ∷ []))
 first_times t op ops times =
     list_all-append (λ row. is_time row.at) (appended_by t op) []
@@ -370,7 +370,7 @@ pub rest_times : (t : ℕ) (op : Op) (ops : List Op) → HaveTimes (all_appended
 rest_times t op ops times =
     (and_parts (list_all (λ row. is_time row.at) (appended_by t op)) (list_all (λ row. is_time row.at) (all_appended t ops)) (sym (list_all-append (λ row. is_time row.at) (appended_by t op) (all_appended t ops)) ∙ times)).1
 
--- one operation more, whose rows are times
+-- one more operation, whose rows have times
 pub pushed_times : (t : ℕ) (ops : List Op) (op : Op) → HaveTimes (all_appended t ops) → HaveTimes (appended_by t op) → HaveTimes (all_appended t (ops ++ op ∷ []))
 pushed_times t [] op times here =
     list_all-append (λ row. is_time row.at) (appended_by t op) [] ∙ and_from (list_all (λ row. is_time row.at) (appended_by t op)) true here refl
@@ -385,7 +385,7 @@ times_here t new times =
 
 -- ---- the loop over operations
 
--- from here on to any end is from the start to that end
+-- the operations from here to any end are those from the start to that end
 pub record Leads (t p : ℕ) (ops : List Op) (x : ChunksValue) (left : List Op) (y : ChunksValue) (effect : Effect) : Type 0 where
   pub table : (z : ChunksValue) → Follows t left p y z → Follows t ops p x z
   pub counted : (fresh after : Effect) → fresh.inserted ≡ 0 → fresh.removed ≡ 0 → fresh.hull ≡ None → Counts t left (in_order (visible_rows p y.versions)) effect after → Counts t ops (in_order (visible_rows p x.versions)) fresh after
@@ -444,7 +444,7 @@ nothing_left : (left : List Op) → length left < 1 → [] ≡ left
 nothing_left [] e = refl
 nothing_left (op ∷ ops) e = absurd (omega (arith, e))
 
--- where no operation is left, what was done is all
+-- if no operation is left, all were applied
 pub leads_table : (t p : ℕ) (ops : List Op) (x : ChunksValue) (left : List Op) (y : ChunksValue) (effect : Effect) → length left < 1 → Leads t p ops x left y effect → Follows t ops p x y
 leads_table t p ops x left y effect none leads = leads.table y (subst (λ (l : List Op). Follows t l p y y) (nothing_left left none) (follows_none t p y leads.up_to))
 
@@ -492,7 +492,7 @@ held_is interval s vs wide =
     count_same (is_near interval s) (λ v. list_any (spans_meet (chunk_of interval v.row.at)) (s ∷ [])) (λ v. near_one interval s v wide) vs
     ∙ sym (count_map (λ v. v.row) (λ row. list_any (spans_meet (chunk_of interval row.at)) (s ∷ [])) vs)
 
--- what a scan gives and reads, of the same table
+-- the rows that a scan returns, and those that it reads, of the same table
 pub scan_rows : {E : Type 0} (r : Result (List Row) E) (q : ℕ) (s : SpanValue) (x y : ChunksValue) → x ≡ y → IfOk r (λ rows. rows ≡ rows_at q s x.versions)
     → IfOk r (λ rows. rows ≡ filter (λ row. in_span s row.at) (visible_rows q y.versions))
 scan_rows (Ok rows) q s x y same h = h ∙ (shown_is q s x.versions ∙ ap (λ (z : ChunksValue). filter (λ row. in_span s row.at) (visible_rows q z.versions)) same)
@@ -510,7 +510,7 @@ scan_read r old new s x y same wide ticks at_most =
     held_is x.interval s x.versions wide ∙ ap (λ (z : ChunksValue). rows_near z.interval (rows_of z.versions) (s ∷ [])) same in
     either _ _ r (subst (λ n. OnOk r (new ≡ raised_by n old)) held ticks) (subst (λ n. OnErr r (RaisedUpTo n old new)) held at_most)
 
--- a delete on this table, by the number that it was asked for
+-- a delete on this table, by the number that it was requested
 pub delete_asked : {E : Type 0} (r : Result Applied E) (u t p : ℕ) (tests : List Test) (op : Op) (x : ChunksValue) → op ≡ Delete u tests → u ≡ t
     → IfOk r (λ a. (n : ℕ) → Follows n (Delete n tests ∷ []) p x a.table) → IfOk r (λ a. Follows t (op ∷ []) p x a.table)
 delete_asked (Ok a) u t p tests op x is same follows =

@@ -7,9 +7,8 @@ use Rattle.seg_rows.specs.Versions.{rows_of}
 use Rattle.chunk_catalog.specs.Chunks.{ChunksValue}
 use Rattle.row_versions.specs.Tables.{rows_seen, IsUpTo}
 
--- this table holds table t of a history: every position sees the rows that the history has there, all rows that were
--- ever inserted
--- are stored, removed or not, and no change is later than the history
+-- this table holds table t of a history: every position sees the rows that the history has there. All rows that
+-- were ever inserted are stored, removed or not, and no change is later than the history
 pub record Holds (t : ℕ) (h : History) (table : ChunksValue) : Type 0 where
   pub seen : (q : ℕ) → rows_seen q table ≡ rows t (prefix h q)
   pub stored : in_order (rows_of table.versions) ≡ in_order (rows_inserted t h)

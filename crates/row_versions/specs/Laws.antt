@@ -31,7 +31,7 @@ is_commit (Commit ops) = true
 is_commit (Cut v span) = false
 is_commit (Built cut snap) = false
 
--- a table without versions holds a table that isn't a hypertable, or is only now made one
+-- a table without versions holds a table that isn't a hypertable, or just became one
 abbrev pub TablesBegin : Type 0
 TablesBegin =
     (t : ℕ) (h : History) (table : ChunksValue) → all_consistent h ≡ true → hyper_of (roster h) t ≡ None
@@ -47,7 +47,7 @@ CommitsFit =
     (t : ℕ) (h : History) (ops : List Op) (table : ChunksValue) → Holds t h table
     → all_consistent (h ▸ Commit ops) ≡ true → Asks t h ops table
 
--- what they make of it there holds the history with the commit
+-- the table after them holds the history with the commit
 abbrev pub CommitsAreHeld : Type 0
 CommitsAreHeld =
     (t : ℕ) (h : History) (ops : List Op) (old new : ChunksValue) → Holds t h old
@@ -59,19 +59,19 @@ EffectsAreOfCommits =
     (t : ℕ) (h : History) (ops : List Op) (table : ChunksValue) (effect : Effect) → Holds t h table
     → IsEffect t ops (rows_seen (suc (position h)) table) effect → IsEffect t ops (rows t h) effect
 
--- a commit that names no operation on a table leaves it as it is
+-- a commit without an operation on a table leaves it unchanged
 abbrev pub UnnamedAreHeld : Type 0
 UnnamedAreHeld =
     (t : ℕ) (h : History) (ops : List Op) (table : ChunksValue) → Holds t h table → list_any (is_on t) ops ≡ false
     → Holds t (h ▸ Commit ops) table
 
--- any other event leaves a table as it is
+-- any other event leaves a table unchanged
 abbrev pub OthersAreHeld : Type 0
 OthersAreHeld =
     (t : ℕ) (h : History) (e : Event) (table : ChunksValue) → Holds t h table → is_commit e ≡ false
     → Holds t (h ▸ e) table
 
--- what a table that holds a history tells of it, at every position
+-- what a table that holds a history says about it, at every position
 pub record Tells (t : ℕ) (h : History) (table : ChunksValue) : Type 0 where
   -- the visible rows of a span are the rows of the span there
   pub rows_are : (q : ℕ) (s : SpanValue)

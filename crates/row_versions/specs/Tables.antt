@@ -1,4 +1,4 @@
--- Tables under operations: what a position sees, and what the operations of a commit make of a table.
+-- Tables under operations: the rows that a position sees, and a table after the operations of a commit.
 use Rattle.std.specs.Prelude.{◌≡◌, ℕ, ◌+◌, ◌<◌, ◌≤◌, Bool, true, ◌&&◌, ◌==◌, nat_le, List, ◌++◌, length, filter, Option, None, Some}
 use Rattle.std.specs.List.{list_all}
 use Rattle.ts_bucket.specs.Spans.{SpanValue, in_span}
@@ -24,12 +24,12 @@ rows_seen p table = in_order (visible_rows p table.versions)
 abbrev pub rows_of_span : SpanValue → List Row → List Row
 rows_of_span s rows = filter (λ row. in_span s row.at) rows
 
--- deleted at p or before, or not at all
+-- deleted at or before p, or not at all
 abbrev pub died_by : ℕ → Option ℕ → Bool
 died_by p None = true
 died_by p (Some d) = nat_le d p
 
--- the last change of a version is at p or before
+-- the last change of a version is at or before p
 abbrev pub is_up_to : ℕ → Version → Bool
 is_up_to p v = nat_le v.born p && died_by p v.died
 
@@ -42,9 +42,8 @@ abbrev pub is_on : ℕ → Op → Bool
 is_on t (Insert u new) = u == t
 is_on t (Delete u tests) = u == t
 
--- what operations on table t at position p make of its versions: earlier positions see what they saw, p and later
--- ones see the
--- rows after the operations, and everything that was ever inserted is stored
+-- the versions of table t after operations at position p: earlier positions see the same rows as before, p and
+-- later ones see the rows after the operations, and all rows ever inserted are stored
 pub record Follows (t : ℕ) (ops : List Op) (p : ℕ) (old new : ChunksValue) : Type 0 where
   pub interval : new.interval ≡ old.interval
   pub earlier : (q : ℕ) → q < p → rows_seen q new ≡ rows_seen q old
@@ -52,7 +51,7 @@ pub record Follows (t : ℕ) (ops : List Op) (p : ℕ) (old new : ChunksValue) :
   pub stored : in_order (rows_of new.versions) ≡ in_order (rows_of old.versions ++ all_appended t ops)
   pub up_to : IsUpTo p new.versions
 
--- what these operations add to an effect, where table t has these rows
+-- what these operations add to an effect, if table t has these rows
 pub record Counts (t : ℕ) (ops : List Op) (rows : List Row) (before after : Effect) : Type 0 where
   pub inserted : after.inserted ≡ before.inserted + length (all_appended t ops)
   pub removed : after.removed ≡ before.removed + length (all_taken t ops rows)

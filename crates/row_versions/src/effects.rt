@@ -1,4 +1,4 @@
-//! What operations did to a table.
+//! The effect of operations on a table.
 ghost use Rattle.std.specs.Prelude.{◌≡◌, ◌+◌, length, None, IfOk};
 ghost use Rattle.ts_schema.specs.declared.rows.Row.{Row};
 ghost use Rattle.seg_rows.specs.Hulls.{hull_of, joined_hull};
@@ -7,7 +7,7 @@ use seg_rows::{join_hulls, row_hull};
 use ts_bucket::Hull;
 use ts_schema::{NoMemory, Row};
 
-/// The effect of operations on a table: how many rows they inserted and removed, and the hull of the
+/// The effect of operations on a table: the numbers of rows that they inserted and removed, and the hull of the
 /// times of all these rows.
 #[derive(Clone, Copy, Debug)]
 pub struct Effect {
@@ -20,7 +20,7 @@ impl Effect {
     ghost use Rattle.std.specs.Prelude.{◌≡◌, ◌+◌, length, None, IfOk};
     ghost use Rattle.seg_rows.specs.Hulls.{hull_of, joined_hull};
 
-    /// No operation.
+    /// The effect of no operations.
     pub fn none() -> Effect
         ensures inserted { result.inserted ≡ 0 }
         ensures removed { result.removed ≡ 0 }
@@ -33,7 +33,7 @@ impl Effect {
         }
     }
 
-    /// The same after these rows were inserted. Fails as out of memory if the count doesn't fit its type: so
+    /// The same after these rows were inserted. Fails as out of memory if the count doesn't fit 64 bits: that
     /// many rows don't fit into memory either.
     pub fn and_inserted(self, rows: &[Row]) -> Result<Effect, NoMemory>
         ensures inserted { IfOk result (λ e. e.inserted ≡ self.inserted + length rows.now) }
@@ -50,7 +50,7 @@ impl Effect {
         })
     }
 
-    /// The same after so many rows with this hull were removed.
+    /// The same after this many rows with this hull were removed.
     pub fn and_removed(self, removed: u64, hull: Option<Hull>) -> Result<Effect, NoMemory>
         ensures inserted { IfOk result (λ e. e.inserted ≡ self.inserted) }
         ensures removed { IfOk result (λ e. e.removed ≡ self.removed + removed) }

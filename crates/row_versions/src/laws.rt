@@ -1,4 +1,4 @@
-//! Laws that join tables to histories. Each is the clause of a function that does nothing.
+//! Laws that relate tables to histories. Each law is the clause of a function that does nothing.
 ghost use Rattle.row_versions.specs.Laws.{CommitsAreHeld, CommitsFit, EffectsAreOfCommits, HeldTablesTell, OthersAreHeld, TablesBegin, UnnamedAreHeld};
 
 /// A new table holds a table of a consistent history that isn't a hypertable yet.
@@ -6,12 +6,13 @@ pub fn tables_begin()
     ensures { TablesBegin }
 {}
 
-/// What `apply` asks for, at the next position and for the operations of a commit that is consistent with it.
+/// The requirements of `apply` are met at the next position, for the operations of a commit that is consistent
+/// with it.
 pub fn commits_fit()
     ensures { CommitsFit }
 {}
 
-/// What `apply` makes of a table holds the history with the commit.
+/// The table that `apply` returns holds the history with the commit.
 pub fn commits_are_held()
     ensures { CommitsAreHeld }
 {}
@@ -21,18 +22,18 @@ pub fn effects_are_of_commits()
     ensures { EffectsAreOfCommits }
 {}
 
-/// A commit that names no operation on a table leaves it as it is.
+/// A commit without an operation on a table leaves it unchanged.
 pub fn unnamed_are_held()
     ensures { UnnamedAreHeld }
 {}
 
-/// Every other event leaves a table as it is.
+/// Every other event leaves a table unchanged.
 pub fn others_are_held()
     ensures { OthersAreHeld }
 {}
 
-/// What `scan` and `last` return for a table that holds a history: the rows of the history at every position,
-/// the rows ever inserted in the chunks that are read, and the last bucket with a row.
+/// The results of `scan` and `last` for a table that holds a history. They are the rows of the history at every
+/// position, the rows ever inserted in the chunks that are read, and the last bucket with a row.
 pub fn held_tables_tell()
     ensures { HeldTablesTell }
 {}

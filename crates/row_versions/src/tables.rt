@@ -33,17 +33,17 @@ impl Model for Table {
     ghost view = { λ t. t.chunks };
 }
 
-/// What operations made of a table.
+/// A table after operations, and their effect.
 #[derive(Drop)]
 pub struct Applied {
     /// The table after them.
     pub table: Table,
-    /// What they did.
+    /// Their effect.
     pub effect: Effect,
 }
 
 impl Table {
-    /// No row yet. Each chunk will hold `interval` times, from 1 to 2^50.
+    /// A table without rows. Each chunk will hold `interval` times, from 1 to 2^50.
     pub fn new(alloc: Global, interval: i64) -> Table
         requires { IsInterval interval }
         ensures interval { result.interval ≡ interval }
@@ -54,7 +54,7 @@ impl Table {
         }
     }
 
-    /// The same table again.
+    /// A copy of the table.
     pub fn copy(&self) -> Result<Table, NoMemory>
         ensures same { IfOk result (λ copy. copy ≡ self.now) }
     {
@@ -63,8 +63,8 @@ impl Table {
         })
     }
 
-    /// The table after the operations on it, in order, at a position above those of all earlier
-    /// changes, with what they did. The table itself stays as it was.
+    /// The table after the operations on it, in order, at a position above those of all earlier changes, with
+    /// their effect. The table itself doesn't change.
     pub fn apply(&self, ops: &Seq<Op>, table: u32, pos: u64) -> Result<Applied, NoMemory>
         requires up_to { IsUpTo pos self.now.versions }
         requires times { HaveTimes (all_appended table ops.now) }
@@ -93,7 +93,7 @@ impl Table {
         self.chunks.scan(pos, span, steps)
     }
 
-    /// The same of a part of the span. It looks at the same rows, and takes those of the part alone.
+    /// The same for a part of the span. Reads the same rows, and returns only those of the part.
     pub fn scan_part<L>(
         &self,
         pos: u64,
@@ -109,15 +109,15 @@ impl Table {
         self.chunks.scan_part(pos, span, part, steps)
     }
 
-    /// A time that parts a span near its middle, where many rows were ever inserted in the chunks that meet it,
-    /// so that no chunk is parted.
+    /// A time at which to split a span near its middle, between two chunks, if many rows were ever inserted in
+    /// the chunks that meet it.
     pub fn middle(&self, span: Span) -> Option<i64>
         ensures inside { IfSome result (λ t. (span.lo <ℤ t) × (t <ℤ span.hi)) }
     {
         self.chunks.middle(span)
     }
 
-    /// The greatest time that is visible at a position, and `None` exactly where no row is.
+    /// The greatest time that is visible at a position, and `None` if and only if no row is.
     pub fn last(&self, pos: u64) -> Option<i64>
         ensures last { result ≡ latest_at pos self.now.versions }
     {

@@ -28,19 +28,19 @@ pub death_push : (lives : List Life) (life : Life) → all_died (lives ++ life �
 death_push [] life = later_death-last life.died ∙ sym (later_death-first life.died)
 death_push (x ∷ lives) life = ap (later_death x.died) (death_push lives life) ∙ later_death-assoc x.died (all_died lives) life.died
 
--- the last death of versions is that of their lives
+-- the last delete of versions is that of their lives
 pub died_out-lives : (rows : List Row) (lives : List Life) → length lives ≡ length rows → died_out (with_lives rows lives) ≡ all_died lives
 died_out-lives [] [] e = refl
 died_out-lives [] (l ∷ lives) e = absurd (omega (arith, e))
 died_out-lives (r ∷ rows) [] e = absurd (omega (arith, e))
 died_out-lives (r ∷ rows) (l ∷ lives) e = ap (later_death l.died) (died_out-lives rows lives (omega (arith, e)))
 
--- the last death of two lists is the later of theirs
+-- the last delete of two lists is the later of theirs
 pub died_out-append : (xs ys : List Version) → died_out (xs ++ ys) ≡ later_death (died_out xs) (died_out ys)
 died_out-append [] ys = sym (later_death-first (died_out ys))
 died_out-append (v ∷ xs) ys = ap (later_death v.died) (died_out-append xs ys) ∙ later_death-assoc v.died (died_out xs) (died_out ys)
 
--- what is deleted at the later of two deletes is deleted at both
+-- a version that is deleted at the later of two deletes is deleted at both
 pub dead_apart : (p : ℕ) (a b : Option ℕ) → is_dead_at p (later_death a b) ≡ true → (is_dead_at p a ≡ true) × (is_dead_at p b ≡ true)
 dead_apart p None b h = absurd (let no : false ≡ true = h in cc)
 dead_apart p (Some a) None h = absurd (let no : false ≡ true = h in cc)
@@ -57,7 +57,7 @@ none_visible p (v ∷ vs) h =
 pub none_latest : (p : ℕ) (vs : List Version) → is_dead_at p (died_out vs) ≡ true → latest_at p vs ≡ None
 none_latest p vs h = rw (none_visible p vs h) refl
 
--- nor is anything taken away
+-- and nothing is deleted
 pub none_taken : (p : ℕ) (tests : List Test) (vs : List Version) → is_dead_at p (died_out vs) ≡ true → taken_at p tests vs ≡ []
 none_taken p tests [] h = refl
 none_taken p tests (v ∷ vs) h =

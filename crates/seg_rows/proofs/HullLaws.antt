@@ -1,4 +1,4 @@
--- Laws of hulls and of greatest times: both join, and the order of what is joined plays no part.
+-- Laws of hulls and of greatest times: both can be joined, in any order.
 use Rattle.std.proofs.Common.{◌≡◌, ℤ, Option, Some, None, List, [], ◌∷◌, ◌++◌, refl, sym, ◌∙◌, ap, arith}
 use Rattle.std.specs.Int.{int_min, int_max}
 use Rattle.std.proofs.lemmas.Int.{ints, clamps}
@@ -78,7 +78,7 @@ pub latest_of-hull : (rows : List Row) → latest_of rows ≡ most_of (hull_of r
 latest_of-hull [] = refl
 latest_of-hull (row ∷ rows) = ap (later_time (Some row.at)) (latest_of-hull rows) ∙ sym (most_joined (hull_at row.at) (hull_of rows))
 
--- a time to which two others add nothing together: neither adds anything alone
+-- a time at or above the greater of two others is at or above each of them
 pub later_apart : (a b c : Option ℤ) → later_time a (later_time b c) ≡ a → (later_time a b ≡ a) × (later_time a c ≡ a)
 later_apart a None c h = (later_time-none a, h)
 later_apart a (Some y) None h = (h, later_time-none a)

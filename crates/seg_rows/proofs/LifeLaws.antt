@@ -55,7 +55,7 @@ pub version_read : (rows : List Row) (lives : Lives) (i : ℕ) (r : Row) (l : Li
 version_read rows lives i r l d covers h e f =
     get_or-with_lives rows (lives_of (length rows) lives) i r l d covers h ∙ (ap (λ x. with_life x (get_or (lives_of (length rows) lives) i l)) (sym e) ∙ ap (with_life r) (sym f))
 
--- versions that were inserted together, or of which only the insertions are stored, are not deleted
+-- versions that were inserted together, or for which only the insertions are stored, are not deleted
 together_unharmed : (n p : ℕ) → AreUnharmed (replicate n (life_from p))
 together_unharmed zero p = refl
 together_unharmed (suc n) p = ap (λ ls. life_from p ∷ ls) (together_unharmed n p)
@@ -76,7 +76,7 @@ unharmed_at [] i l plain h = absurd (omega (arith, h))
 unharmed_at (x ∷ lives) zero l plain h = let head : life_from x.born ≡ x = cc in head
 unharmed_at (x ∷ lives) (suc i) l plain h = let tail : AreUnharmed lives = cc in unharmed_at lives i l tail (omega arith)
 
--- one birth more
+-- one more insertion
 pub births_more : (done : List ℕ) (lives before : List Life) (i : ℕ) (l : Life) → AreUnharmed lives → i < length lives → l ≡ get_or lives i l → map life_from done ≡ before ++ take i lives
     → map life_from (done ++ l.born ∷ []) ≡ before ++ take (i + 1) lives
 births_more done lives before i l plain h is e =
@@ -96,7 +96,7 @@ rows_of-with_lives (r ∷ rows) (l ∷ lives) e = ap (λ rs. r ∷ rs) (rows_of-
 pub rows_of-versions : (rows : List Row) (lives : Lives) → Covers (length rows) lives → rows_of (versions_of rows lives) ≡ rows
 rows_of-versions rows lives covers = rows_of-with_lives rows (lives_of (length rows) lives) covers
 
--- two sealed lists, one after the other
+-- two sealed lists, concatenated
 pub joined_sealed : (first second rows : List Row) (l m lives : Lives) (g h hull : Option HullValue) (d e dead : Option ℕ) → IsSealed first l g d → IsSealed second m h e → rows ≡ first ++ second
     → ((n : ℕ) → lives_of n lives ≡ lives_of (length first) l ++ lives_of (length second) m) → hull ≡ joined_hull g h → dead ≡ later_death d e → IsSealed rows lives hull dead
 joined_sealed first second rows l m lives g h hull d e dead one two rows_are lives_are hull_is dead_is =

@@ -44,7 +44,7 @@ module _ (rows : List Row) (lives : Lives) (i : ℕ) (r : Row) (l : Life) (cover
   pub life_step : (done : List Life) (m : Life) → length done ≡ i → with_lives (take (i + 1) rows) (done ++ m ∷ []) ≡ with_lives (take i rows) done ++ with_life r m ∷ []
   life_step done m e = with_lives-more rows done i r m h e ∙ ap (λ x. with_lives (take i rows) done ++ with_life x m ∷ []) (sym row_is)
 
--- a row outside of the span adds nothing to what is shown, whatever its life
+-- a row outside the span adds nothing to the rows shown, for any life
 pub hidden_step : (rows : List Row) (lives : Lives) (i : ℕ) (r : Row) → Covers (length rows) lives → i < length rows → r ≡ get_or rows i r → (p : ℕ) (s : SpanValue) → in_span s r.at ≡ false → rows_at p s (take (i + 1) (versions_of rows lives)) ≡ rows_at p s (take i (versions_of rows lives))
 hidden_step rows lives i r covers h row_is p s outside =
     let l = get_or (lives_of (length rows) lives) i (life_from 0) in

@@ -1,4 +1,4 @@
--- Laws of versions: what one more version adds to what is shown or taken.
+-- Laws of versions: what one more version adds to the rows shown or deleted.
 use Rattle.std.proofs.Common.{◌≡◌, ℕ, ◌<◌, ◌≤◌, ◌+◌, Bool, true, false, cond, ◌&&◌, Option, Some, None, ℤ, List, [], ◌∷◌, ◌++◌, length, get_or, take, drop, map, refl, sym, ◌∙◌, ap, arith}
 use Rattle.std.specs.List.{filter}
 use Rattle.std.proofs.Math.Bool.{and-false}
@@ -19,13 +19,13 @@ map-cond : {X Y : Type 0} (f : X → Y) (b : Bool) (x : X) → map f (cond b (x 
 map-cond f true x = refl
 map-cond f false x = refl
 
--- what f makes of the items that pass, one item more
+-- the images under f of the items that pass, with one more item
 pub picked_more : {X Y : Type 0} (f : X → Y) (p : X → Bool) (xs : List X) (i : ℕ) (d x : X) → i < length xs → get_or xs i d ≡ x
     → map f (filter p (take (i + 1) xs)) ≡ map f (filter p (take i xs)) ++ cond (p x) (f x ∷ []) []
 picked_more f p xs i d x h e =
     ap (map f) (filter_more p xs i d h) ∙ (map-append f (filter p (take i xs)) (cond (p (get_or xs i d)) (get_or xs i d ∷ []) []) ∙ (ap (λ zs. map f (filter p (take i xs)) ++ zs) (map-cond f (p (get_or xs i d)) (get_or xs i d)) ∙ ap (λ y. map f (filter p (take i xs)) ++ cond (p y) (f y ∷ []) []) e))
 
--- what f makes of the items that pass, over two lists
+-- the images under f of the items that pass, over two lists
 pub picked-append : {X Y : Type 0} (f : X → Y) (p : X → Bool) (xs ys : List X)
     → map f (filter p (xs ++ ys)) ≡ map f (filter p xs) ++ map f (filter p ys)
 picked-append f p xs ys = ap (map f) (filter-append p xs ys) ∙ map-append f (filter p xs) (filter p ys)
@@ -60,7 +60,7 @@ misses_rest : (s : SpanValue) (t : ℤ) (k : Option HullValue) → misses s (joi
 misses_rest s t None e = refl
 misses_rest s t (Some h) e = grind (arith, ints, clamps)
 
--- where a span misses the hull of all times, nothing is shown
+-- if a span misses the hull of all times, nothing is shown
 pub none_shown : (p : ℕ) (s : SpanValue) (vs : List Version) → misses s (hull_of (rows_of vs)) ≡ true → rows_at p s vs ≡ []
 none_shown p s [] e = refl
 none_shown p s (v ∷ vs) e =
@@ -99,7 +99,7 @@ taken_at-more_hull p tests vs i d v h e =
 pub taken_at-length : (p : ℕ) (tests : List Test) (vs : List Version) → length (taken_at p tests vs) ≤ length vs
 taken_at-length p tests vs = omega (arith, length-map (filter (is_taken p tests) vs) (λ (v : Version). v.row), length-filter (is_taken p tests) vs, count_by-le-length (is_taken p tests) vs)
 
--- the same, under a name that an attribute of code can write: a delete takes at most what there is
+-- the same, under a name that an attribute of code can write
 pub taken_few : (p : ℕ) (tests : List Test) (vs : List Version) → length (taken_at p tests vs) ≤ length vs
 taken_few p tests vs = taken_at-length p tests vs
 
@@ -116,7 +116,7 @@ pub latest_at-append : (p : ℕ) (xs ys : List Version) → latest_at p (xs ++ y
 latest_at-append p xs ys =
     ap latest_of (picked-append (λ v. v.row) (visible_at p) xs ys) ∙ latest_of-append (rows_of (filter (visible_at p) xs)) (rows_of (filter (visible_at p) ys))
 
--- a delete that takes nothing changes nothing
+-- a delete that takes no version changes none
 pub after_kill-nothing : (p : ℕ) (tests : List Test) (vs : List Version) → length (taken_at p tests vs) ≡ 0 → map (after_kill p tests) vs ≡ vs
 after_kill-nothing p tests [] e = refl
 after_kill-nothing p tests (v ∷ vs) e =
@@ -125,7 +125,7 @@ after_kill-nothing p tests (v ∷ vs) e =
       | false ↦ λ f. ap (λ ws. v ∷ ws) (after_kill-nothing p tests vs f)
     ] e
 
--- what was pushed after what was done
+-- the items pushed, after those done before
 pub pushed_step : (out before done more new : List Row) → out ≡ before ++ done → new ≡ done ++ more → out ++ more ≡ before ++ new
 pushed_step out before done more new e f = ap (λ x. x ++ more) e ∙ (append_assoc before done more ∙ ap (λ x. before ++ x) (sym f))
 
@@ -134,10 +134,10 @@ pub kill_nothing : (p : ℕ) (tests : List Test) (old new : List Version) (remov
     → new ≡ map (after_kill p tests) old → removed ≡ length (taken_at p tests old) → removed ≡ 0 → new ≡ old
 kill_nothing p tests old new removed after counted none = after ∙ after_kill-nothing p tests old (sym counted ∙ none)
 
--- what is seen and taken of two lists
+-- the versions visible in two lists, and those that a delete takes
 pub ruleset parts = (rows_at-append, taken_at-append, latest_at-append, hull_of-append, latest_of-append, length-append, map-append, append-nil, list_all-append)
 
--- where no version has a later time, no visible one has
+-- if no version has a later time, no visible one has
 pub no_later : (p : ℕ) (best : Option ℤ) (vs : List Version) → later_time best (latest_of (rows_of vs)) ≡ best → later_time best (latest_at p vs) ≡ best
 no_later p best [] h = h
 no_later p best (v ∷ vs) h =
@@ -147,7 +147,7 @@ no_later p best (v ∷ vs) h =
       | false ↦ no_later p best vs parts.1
     ]
 
--- the rows of versions after a delete are those before it
+-- a delete doesn't change the rows of versions
 pub rows_of-killed : (p : ℕ) (tests : List Test) (vs : List Version) → rows_of (map (after_kill p tests) vs) ≡ rows_of vs
 rows_of-killed p tests [] = refl
 rows_of-killed p tests (v ∷ vs) =

@@ -4,7 +4,7 @@ use Rattle.std.specs.Int.{int_min, int_max}
 use Rattle.ts_bucket.specs.Spans.{HullValue, SpanValue, overlaps}
 use Rattle.ts_schema.specs.declared.rows.Row.{Row}
 
--- the least hull that holds what either holds
+-- the least hull that holds both
 abbrev pub joined_hull : Option HullValue → Option HullValue → Option HullValue
 joined_hull None b = b
 joined_hull (Some g) None = Some g
@@ -14,7 +14,7 @@ joined_hull (Some g) (Some h) = Some (record { least = int_min g.least h.least; 
 abbrev pub hull_at : ℤ → Option HullValue
 hull_at t = Some (record { least = t; most = t })
 
--- the least and the greatest time of these rows, where there are rows
+-- the least and the greatest time of these rows, if there are rows
 abbrev pub hull_of : List Row → Option HullValue
 hull_of [] = None
 hull_of (row ∷ rows) = joined_hull (hull_at row.at) (hull_of rows)

@@ -1,4 +1,4 @@
--- How the positions of a segment's versions are kept.
+-- The positions of a segment's versions, as they are stored.
 use Rattle.std.specs.Prelude.{◌≡◌, ℕ, Bool, not, ◌&&◌, nat_le, List, [], ◌∷◌, length, map, replicate, Option, Some, None}
 use Rattle.ts_schema.specs.declared.rows.Row.{Row}
 use Rattle.seg_rows.specs.Versions.{Version, died_out, is_dead_at, later_death}
@@ -26,7 +26,7 @@ lives_of n (Each lives) = lives
 abbrev pub AreUnharmed : List Life → Type 0
 AreUnharmed lives = map life_from (map (λ life. life.born) lives) ≡ lives
 
--- the position at which the last of these ended, where all have; where there is none, the first position
+-- the position at which the last of these was deleted, if all were; if there is none, the first position
 abbrev pub all_died : List Life → Option ℕ
 all_died [] = Some 0
 all_died (life ∷ lives) = later_death life.died (all_died lives)
@@ -35,7 +35,7 @@ all_died (life ∷ lives) = later_death life.died (all_died lives)
 abbrev pub Covers : ℕ → Lives → Type 0
 Covers n lives = length (lives_of n lives) ≡ n
 
--- these lives are kept, for whatever number of rows
+-- these lives are kept, for any number of rows
 abbrev pub Keeps : Lives → List Life → Type 0
 Keeps lives kept = (n : ℕ) → lives_of n lives ≡ kept
 

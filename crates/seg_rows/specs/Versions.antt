@@ -37,11 +37,11 @@ rows_at p s vs = rows_of (filter (shown_at p s) vs)
 abbrev pub newborn : ℕ → Row → Version
 newborn p row = record { row = row; born = p; died = None }
 
--- a delete at p takes a version away: it is visible there and its row passes every test
+-- a delete at p takes a version: it is visible there and its row passes every test
 abbrev pub is_taken : ℕ → List Test → Version → Bool
 is_taken p tests v = visible_at p v && passes_all v.row tests
 
--- the rows that a delete at p takes away
+-- the rows that a delete at p takes
 abbrev pub taken_at : ℕ → List Test → List Version → List Row
 taken_at p tests vs = rows_of (filter (is_taken p tests) vs)
 
@@ -49,7 +49,7 @@ taken_at p tests vs = rows_of (filter (is_taken p tests) vs)
 abbrev pub after_kill : ℕ → List Test → Version → Version
 after_kill p tests v = cond (is_taken p tests v) (record { row = v.row; born = v.born; died = Some p }) v
 
--- the greater of two times; where one is missing, it is the other
+-- the greater of two times; if one is missing, it is the other
 abbrev pub later_time : Option ℤ → Option ℤ → Option ℤ
 later_time None b = b
 later_time (Some x) None = Some x
@@ -64,7 +64,7 @@ latest_of (row ∷ rows) = later_time (Some row.at) (latest_of rows)
 abbrev pub latest_at : ℕ → List Version → Option ℤ
 latest_at p vs = latest_of (rows_of (filter (visible_at p) vs))
 
--- the later of two positions, where both are known
+-- the later of two positions, if both are known
 abbrev pub later_death : Option ℕ → Option ℕ → Option ℕ
 later_death None q = None
 later_death (Some p) None = None
@@ -75,7 +75,7 @@ abbrev pub died_out : List Version → Option ℕ
 died_out [] = Some 0
 died_out (v ∷ vs) = later_death v.died (died_out vs)
 
--- the same items, each as often, in some order: every test passes as many of both
+-- the same items, each as often, in any order: every test passes as many of both
 abbrev pub AsOften : {X : Type 0} → List X → List X → Type 0
 AsOften {X} xs ys = (test : X → Bool) → count_by test xs ≡ count_by test ys
 
@@ -83,7 +83,7 @@ AsOften {X} xs ys = (test : X → Bool) → count_by test xs ≡ count_by test y
 abbrev pub GainsFirst : {X : Type 0} → List X → List X → List X → Type 0
 GainsFirst {X} items old new = (k : ℕ) × (new ≡ old ++ take k items)
 
--- a list has these items more, wherever they stand: every test passes as many of it as of the old list and of these
--- items together
+-- a list has these items in addition, at any places: every test passes as many of it as of the old list and of
+-- these items together
 abbrev pub HasMore : {X : Type 0} → List X → List X → List X → Type 0
 HasMore {X} items old new = (test : X → Bool) → count_by test new ≡ count_by test old + count_by test items

@@ -38,7 +38,7 @@ pub fn last_death(lives: &[Life]) -> Option<u64>
     dead
 }
 
-/// The same of `count` versions that were inserted at one position and not deleted.
+/// The same for `count` versions that were inserted at one position and not deleted.
 pub fn newborn_death(count: usize) -> Option<u64>
     ensures last { (p : ℕ) → result ≡ all_died (replicate count (life_from p)) }
 {

@@ -1,4 +1,4 @@
-//! Deletes: what they take away, and the lives that they leave.
+//! Deletes: the versions that they take, and the lives afterwards.
 ghost use Rattle.std.specs.Prelude.{◌≡◌, ◌<◌, ◌+◌, ◌-◌, ◌^◌, cond, length, map, IfOk};
 ghost use Rattle.seg_rows.specs.Hulls.{hull_at, hull_of, joined_hull};
 ghost use Rattle.seg_rows.specs.Lives.{Covers, versions_of, with_life, with_lives};
@@ -10,17 +10,17 @@ use std::alloc::Global;
 use ts_bucket::Hull;
 use ts_schema::{NoMemory, Row, Seq, Test, passes};
 
-/// What a delete takes away.
+/// The effect of a delete.
 #[derive(Clone, Copy, Debug)]
 pub struct DeleteEffect {
-    /// How many rows.
+    /// The number of rows.
     pub removed: u64,
     /// The hull of their times.
     pub hull: Option<Hull>,
 }
 
 impl DeleteEffect {
-    /// The same and one more version, where that is taken.
+    /// The same with one more version, if the delete takes it.
     fn and(self, taken: bool, row: &Row) -> DeleteEffect
         requires { self.removed + 1 < 2 ^ 64 }
         ensures removed { result.removed ≡ self.removed + cond taken 1 0 }
@@ -37,7 +37,7 @@ impl DeleteEffect {
     }
 }
 
-/// What a delete at a position takes from these versions.
+/// The effect of a delete at a position on these versions.
 pub fn taken_by(rows: &[Row], lives: &Lives, tests: &Seq<Test>, pos: u64) -> DeleteEffect
     requires covers { Covers (length rows.now) lives.now }
     ensures removed { result.removed ≡ length (taken_at pos tests.now (versions_of rows.now lives.now)) }
@@ -54,7 +54,7 @@ pub fn taken_by(rows: &[Row], lives: &Lives, tests: &Seq<Test>, pos: u64) -> Del
     taken
 }
 
-/// Whether a delete at a position takes a version away.
+/// Whether a delete at a position takes a version.
 fn takes_version(row: &Row, life: Life, tests: &Seq<Test>, pos: u64) -> bool
     ensures { result ≡ is_taken pos tests.now (with_life row.now life) }
 {

@@ -5,7 +5,7 @@ ghost use Rattle.seg_rows.specs.Hulls.{hull_at, hull_of, joined_hull, most_of};
 use ts_bucket::Hull;
 use ts_schema::Row;
 
-/// The least hull that holds what either holds.
+/// The least hull that holds both.
 pub fn join_hulls(a: Option<Hull>, b: Option<Hull>) -> Option<Hull>
     ensures joined { result ≡ joined_hull a b }
 {

@@ -1,4 +1,4 @@
-//! Rows of segments copied, and segments joined into one.
+//! Copies rows of segments, and joins segments.
 ghost use Rattle.std.specs.Prelude.{◌≡◌, ◌++◌, map, IfOk, OnOk};
 ghost use Rattle.seg_rows.specs.Lives.{AreUnharmed, Covers, Keeps, lives_of, life_from};
 
@@ -7,7 +7,7 @@ use crate::scans::copy_of;
 use std::alloc::Global;
 use ts_schema::{NoMemory, Row, Seq};
 
-/// Copies of these rows, in no more room than they take.
+/// Copies of these rows, without spare capacity.
 pub fn copied_rows(alloc: Global, rows: &[Row]) -> Result<Seq<Row>, NoMemory>
     ensures rows { IfOk result (λ copies. copies ≡ rows.now) }
 {
@@ -16,7 +16,7 @@ pub fn copied_rows(alloc: Global, rows: &[Row]) -> Result<Seq<Row>, NoMemory>
     Ok(Seq::of(copies))
 }
 
-/// Copies of these rows, one list after the other.
+/// Copies of the rows of both lists, in order.
 pub fn joined_rows(alloc: Global, first: &[Row], second: &[Row]) -> Result<Seq<Row>, NoMemory>
     ensures rows { IfOk result (λ rows. rows ≡ first.now ++ second.now) }
 {
@@ -74,7 +74,7 @@ fn append_births(into: &mut Vec<u64>, lives: &Lives, count: usize) -> Result<(),
     Ok(())
 }
 
-/// Appends the lives of so many versions.
+/// Appends the lives of `count` versions.
 fn append_lives(into: &mut Vec<Life>, lives: &Lives, count: usize) -> Result<(), NoMemory>
     requires covers { Covers count lives.now }
     ensures { OnOk result (into.new.items ≡ into.old.items ++ lives_of count lives.now) }

@@ -1,7 +1,7 @@
 //! Sealed segments: rows that never change, each with the positions at which it was inserted and deleted.
 //!
-//! A change creates a new segment, which shares the rows of the old one. So every position still sees what it
-//! saw.
+//! A change creates a new segment, which shares the rows of the old one. So every position still sees the same
+//! rows.
 #![tactic(auto)]
 
 mod deaths;

@@ -24,8 +24,8 @@ pub enum Lives {
 }
 
 impl Life {
-    /// Whether such a version is visible at a position: it was inserted at or before it, and not deleted at
-    /// or before it.
+    /// Whether the version is visible at a position: it was inserted at or before it, and not deleted at or
+    /// before it.
     pub fn is_visible(&self, pos: u64) -> bool
         ensures visible { result ≡ is_alive_at pos self.now }
     {

@@ -10,8 +10,8 @@ use crate::lives::{Life, Lives};
 use ts_bucket::{Hull, Span, meets};
 use ts_schema::{NoMemory, Row, Seq, Steps};
 
-/// Appends the rows of the span that are visible at a position, where the rows have this hull. Ticks once per
-/// version. Where the hull misses the span, no row is looked at.
+/// Appends the rows of the span that are visible at a position, if the rows have this hull. Ticks once per
+/// version. If the hull misses the span, no row is read.
 pub fn scan_span<L>(
     rows: &[Row],
     lives: &Lives,
@@ -45,7 +45,7 @@ fn is_missed(span: Span, hull: Option<Hull>) -> bool
     }
 }
 
-/// Ticks so many times.
+/// Ticks this many times.
 fn tick_times<L>(times: usize, count: &mut Steps<L>)
     ensures { count.new ≡ raised_by times count.old }
 {
@@ -73,7 +73,7 @@ fn scan_rows<L>(
     let _so_far = steps.count();
     for (i, row) in rows.iter().enumerate() {
         steps.tick();
-        // The time comes first, since it alone rules out most rows that aren't shown.
+        // The time is tested first, since it rules out most rows that aren't shown.
         if span_holds(span, row) {
             push_if(lives.at(i, rows.len()).is_visible(pos), row, out)?;
         }
@@ -88,7 +88,7 @@ fn span_holds(span: Span, row: &Row) -> bool
     span.lo <= row.at && row.at < span.hi
 }
 
-/// Appends a copy of a row where it is shown.
+/// Appends a copy of a row if it is shown.
 fn push_if(shown: bool, row: &Row, out: &mut Seq<Row>) -> Result<(), NoMemory>
     ensures pushed { OnOk result (out.new ≡ out.old ++ cond shown (row.now ∷ []) []) }
     ensures kept { OnErr result (out.new ≡ out.old) }
@@ -99,7 +99,7 @@ fn push_if(shown: bool, row: &Row, out: &mut Seq<Row>) -> Result<(), NoMemory>
     Ok(())
 }
 
-/// The same row again.
+/// A copy of the row.
 pub fn copy_of(row: &Row) -> Result<Row, NoMemory>
     ensures same { IfOk result (λ copy. copy ≡ row.now) }
 {
@@ -121,7 +121,7 @@ pub fn last_time(rows: &[Row], lives: &Lives, pos: u64) -> Option<i64>
     last
 }
 
-/// The time of a version, where it is visible at a position.
+/// The time of a version, if it is visible at a position.
 fn seen_time(row: &Row, life: Life, pos: u64) -> Option<i64>
     ensures { result ≡ cond (visible_at pos (with_life row.now life)) (Some row.now.at) None }
 {
@@ -132,7 +132,7 @@ fn seen_time(row: &Row, life: Life, pos: u64) -> Option<i64>
     }
 }
 
-/// The greater of two times. Where one is missing, it is the other.
+/// The greater of two times. If one is missing, it is the other.
 pub fn later(a: Option<i64>, b: Option<i64>) -> Option<i64>
     ensures later { result ≡ later_time a b }
 {

@@ -18,8 +18,8 @@ use ts_schema::{NoMemory, Row, Seq, SharedSlice, Steps, Test};
 
 /// Rows that never change, with their positions. Contracts see it as the list of its versions.
 ///
-/// Segments share rows and positions: a copy takes no memory but the count of its sharers. The rows are a part
-/// of a list that others may share too.
+/// Segments share rows and positions: a copy takes no memory except one more count of sharers. The rows are a
+/// part of a list that others may share too.
 #[derive(Drop)]
 pub struct Segment {
     alloc: Global,
@@ -44,12 +44,12 @@ impl Model for Segment {
     ghost invariant = { λ s. IsSealed s.rows s.lives.value s.hull s.dead };
 }
 
-/// What a delete left of a segment.
+/// A segment after a delete.
 #[derive(Drop)]
 pub struct Killed {
     /// The segment after it.
     pub segment: Segment,
-    /// How many versions were deleted.
+    /// The number of versions deleted.
     pub removed: u64,
     /// The hull of their times.
     pub hull: Option<Hull>,
@@ -72,14 +72,14 @@ impl Segment {
         })
     }
 
-    /// How many versions there are.
+    /// The number of versions.
     pub fn count(&self) -> u64
         ensures count { result ≡ length self.now }
     {
         self.rows.len() as u64
     }
 
-    /// The same segment again.
+    /// A copy of the segment.
     pub fn copy(&self) -> Result<Segment, NoMemory>
         ensures same { IfOk result (λ copy. copy ≡ self.now) }
     {
@@ -113,8 +113,8 @@ impl Segment {
         })
     }
 
-    /// A delete at a position, which is at least those of the earlier changes: the versions that are
-    /// visible there and pass every test die there. Every version stays.
+    /// Deletes, at a position at or above those of the earlier changes, the versions that are visible there and
+    /// pass every test. Every version stays stored.
     pub fn kill(&self, tests: &Seq<Test>, pos: u64) -> Result<Killed, NoMemory>
         ensures after { IfOk result (λ k. k.segment ≡ map (after_kill pos tests.now) self.now) }
         ensures removed { IfOk result (λ k. k.removed ≡ length (taken_at pos tests.now self.now)) }
@@ -128,7 +128,7 @@ impl Segment {
         })
     }
 
-    /// The segment after a delete at a position that takes so many versions.
+    /// The segment after a delete at a position that takes `removed` versions.
     fn after(&self, removed: u64, tests: &Seq<Test>, pos: u64) -> Result<Segment, NoMemory>
         requires counted { removed ≡ length (taken_at pos tests.now self.now) }
         ensures after { IfOk result (λ s. s ≡ map (after_kill pos tests.now) self.now) }
@@ -156,7 +156,7 @@ impl Segment {
     }
 
     /// Appends the rows of the span that are visible at a position, in the order of the versions. Ticks once
-    /// per version, and looks at none where the hull of all times misses the span. When out of memory, `out` has
+    /// per version, and reads none if the hull of all times misses the span. When out of memory, `out` has
     /// gained the first of these rows.
     pub fn scan<L>(
         &self,
@@ -181,7 +181,7 @@ impl Segment {
         )
     }
 
-    /// The greatest time that is visible at a position, and `None` exactly where no version is.
+    /// The greatest time that is visible at a position, and `None` if and only if no version is.
     pub fn last(&self, pos: u64) -> Option<i64>
         ensures last { result ≡ latest_at pos self.now }
     {
@@ -210,8 +210,8 @@ impl Segment {
         greatest_time(self.hull)
     }
 
-    /// The greatest of a time and the times that are visible at a position. Where no version has a
-    /// later time, none is looked at.
+    /// The greatest of a time and the times that are visible at a position. If no version has a later time,
+    /// none is read.
     pub fn last_of(&self, pos: u64, best: Option<i64>) -> Option<i64>
         ensures last { result ≡ later_time best (latest_at pos self.now) }
     {

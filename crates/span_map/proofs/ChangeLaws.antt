@@ -1,4 +1,5 @@
--- Laws of changes: an edge more changes no value, nor does one that begins the value before it, and a change within a span changes its values alone.
+-- Laws of changes: one more edge changes no value, nor does one that begins the value before it, and a change
+-- within a span changes only its values.
 use Rattle.std.proofs.Common.{◌≡◌, ℕ, ◌<◌, ◌≤◌, length, zero, suc, ◌+◌, Bool, true, false, not, cond, nat_eq, ◌⊎◌, inl, inr, ℤ, ◌≤ℤ◌, ◌<ℤ◌, int_lt, int_le, List, [], ◌∷◌, ◌++◌, map, take, drop, insert, get_or, set, Option, Some, None, refl, sym, ap, ◌∙◌, subst, arith, true≢false}
 use Rattle.std.proofs.lemmas.Bool.{false≢true}
 use Rattle.std.proofs.lemmas.List.{append_assoc, drop-set-lt, length-set}
@@ -28,7 +29,7 @@ insert_step v t e es k true false p q rest h = ap (λ xs. e ∷ xs) (rest h)
 insert_step v t e es k false true p q rest h = refl
 insert_step v t e es k false false p q rest h = absurd (true≢false (sym ((Decides-int_eq e.from t).1 (same_number e.from t p q)) ∙ h))
 
--- the edge put at its place, where none was at its number
+-- the edge inserted at its place, if none was at its number
 pub with_edge-insert : (v : Option ℕ) (t : ℤ) (es : List Edge) → begins_at t (drop (place_below t es) es) ≡ false → insert es (place_below t es) (record { from = t; value = last_value v (take (place_below t es) es) }) ≡ with_edge v t es
 with_edge-insert v t [] h = refl
 with_edge-insert v t (e ∷ es) h = insert_step v t e es (place_below t es) (int_lt e.from t) (int_lt t e.from) refl refl (with_edge-insert e.value t es) h
@@ -39,12 +40,12 @@ there_step v t e es k true false p q rest h = ap (λ xs. e ∷ xs) (rest h)
 there_step v t e es k false true p q rest h = let same : e.from ≡ t = (Decides-int_eq e.from t).0 h in absurd (grind (arith, ints))
 there_step v t e es k false false p q rest h = refl
 
--- the edges stay where one of them is at that number
+-- the edges stay if one of them is at that number
 pub with_edge-there : (v : Option ℕ) (t : ℤ) (es : List Edge) → begins_at t (drop (place_below t es) es) ≡ true → with_edge v t es ≡ es
 with_edge-there v t [] h = absurd (false≢true h)
 with_edge-there v t (e ∷ es) h = there_step v t e es (place_below t es) (int_lt e.from t) (int_lt t e.from) refl refl (with_edge-there e.value t es) h
 
--- the same of a place and a test that a search has found
+-- the same for a place and a test that a search found
 pub missing_there : (t : ℤ) (es : List Edge) (place : ℕ) (there : Bool) → place ≡ place_below t es → there ≡ begins_at t (drop place es) → there ≡ true → with_edge None t es ≡ es
 missing_there t es place there p b h = with_edge-there None t es (sym (ap (λ n. begins_at t (drop n es)) p) ∙ sym b ∙ h)
 
@@ -64,7 +65,7 @@ value_step v t e es u below true q rest = cond_same (int_lt u t) v (value_from v
 value_step v t e es u true false q rest = ap (λ x. cond (int_lt u e.from) v x) rest
 value_step v t e es u false false q rest = refl
 
--- an edge more changes no value
+-- one more edge changes no value
 pub value_from-with_edge : (v : Option ℕ) (t : ℤ) (es : List Edge) (u : ℤ) → value_from v (with_edge v t es) u ≡ value_from v es u
 value_from-with_edge v t [] u = cond_same (int_lt u t) v v (λ p. refl)
 value_from-with_edge v t (e ∷ es) u = value_step v t e es u (int_lt e.from t) (int_lt t e.from) refl (value_from-with_edge e.value t es u)
@@ -188,7 +189,7 @@ values-changed s c (x ∷ xs) t l r lo hi =
     ∙ values_on s c x.from x.value (edge_changed s c x).value xs t r.0 r.1 (λ below. later_edge x xs s.lo below lo) (λ below. later_edge x xs s.hi below hi) refl above
     ∙ sym (ap (λ b. cond (in_span s t) (value_after c (cond b None (value_from x.value xs t))) (cond b None (value_from x.value xs t))) high))
 
--- ---- edges changed one after another
+-- ---- edges changed in order
 
 value_over : (v : Option ℕ) (xs ys zs : List Edge) (t : ℤ) → value_from (last_value v xs) ys t ≡ value_from (last_value v xs) zs t → value_from v (xs ++ ys) t ≡ value_from v (xs ++ zs) t
 value_over v [] ys zs t e = e
@@ -211,7 +212,7 @@ rising_without (z ∷ xs) x ys r = (below_without z.from xs x ys r.1 r.0, rising
 next_todo : (s : SpanValue) (c : Change) (done i : ℕ) (es : List Edge) (d : Edge) → i < length es → edges_halfway s c done i es ≡ take done es ++ edge_changed s c (get_or es i d) ∷ map (edge_changed s c) (drop (suc i) es)
 next_todo s c done i es d l = ap (λ todo. take done es ++ map (edge_changed s c) todo) (drop-cons es i d l)
 
--- an edge goes that begins the value of the last one kept
+-- an edge that begins the value of the last one kept is removed
 pub rising_skip : (s : SpanValue) (c : Change) (done i : ℕ) (es : List Edge) (d : Edge) → i < length es → IsRising (edges_halfway s c done i es) → IsRising (edges_halfway s c done (suc i) es)
 rising_skip s c done i es d l r = rising_without (take done es) (edge_changed s c (get_or es i d)) (map (edge_changed s c) (drop (suc i) es)) (subst IsRising (next_todo s c done i es d l) r)
 
@@ -234,7 +235,8 @@ halfway_keep s c done i es d le l =
 pub last_keep : (done : ℕ) (es : List Edge) (x : Edge) → done < length es → x.value ≡ last_value None (take (suc done) (set es done x))
 last_keep done es x l = sym (ap (last_value None) (take-suc-set es done x l) ∙ last_value-end None (take done es) x)
 
--- the edges before a place are changed, where those that begin no new value went, and those from the place on aren't
+-- the edges before a place are changed, and those that begin no new value removed; those from the place on
+-- aren't changed
 pub record IsHalfway (s : SpanValue) (c : Change) (first : ℕ) (old : List Edge) (kept : ℕ) (v : Option ℕ) (i : ℕ) (es : List Edge) : Type 0 where
   pub low : first ≤ i
   pub high : kept ≤ i
@@ -339,7 +341,7 @@ places_ordered lo hi (e ∷ es) le = by (int_lt e.from lo) refl (places_ordered 
         let in_reach : int_le e.from hi ≡ true = grind (arith, ints) in
         subst (λ n. suc (place_below lo es) ≤ n) (sym (ap (λ b. cond b (suc (place_upto hi es)) 0) in_reach)) (omega arith)
 
--- where the changes of edges began and ended at the places that two searches found, the values are those of all edges changed
+-- if edges were changed between the places that two searches found, the values are those of all edges changed
 pub halfway_begins : (s : SpanValue) (c : Change) (es : List Edge) (lo : ℤ) (first : ℕ) → lo ≡ s.lo → first ≡ place_below lo es → edges_halfway s c first first es ≡ map (edge_changed s c) es
 halfway_begins s c es lo first l e = ap (λ n. edges_halfway s c n n es) (e ∙ ap (λ x. place_below x es) l) ∙ halfway_start s c es
 

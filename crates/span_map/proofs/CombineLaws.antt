@@ -1,4 +1,5 @@
--- Laws of two maps that are combined edge by edge: below the edges that are left the values are those made, and from there on those of what is left.
+-- Laws of two maps that are combined edge by edge: below the edges left the values are those of the edges
+-- built, and from there on those of the edges left.
 use Rattle.std.proofs.Common.{◌≡◌, ℕ, Bool, true, false, not, cond, ◌&&◌, ◌⊎◌, inl, inr, ℤ, ◌≤ℤ◌, ◌<ℤ◌, int_lt, nat_eq, List, [], ◌∷◌, ◌++◌, Option, Some, None, refl, sym, ap, ◌∙◌, subst, arith}
 use Rattle.std.specs.Int.{int_min}
 use Rattle.std.specs.Option.{option_eq}
@@ -14,7 +15,7 @@ use Rattle.span_map.specs.Edges.{value_from, last_value, IsBelowFirst, IsRising}
 use Rattle.span_map.proofs.EdgeLaws.{AllBelow, all_below-higher, all_below-end, last_value-end, rising-end, value_from-before_end, value_from-above, value_from-end}
 use Rattle.span_map.proofs.ChangeLaws.{equal_values}
 
--- no rule makes a value of none
+-- no rule combines two missing values into one
 pub combined-none : (rule : Rule) → combined_by rule None None ≡ None
 combined-none Over = refl
 combined-none Later = refl
@@ -32,7 +33,7 @@ abbrev IsFrom : ℤ → List Edge → Type 0
 IsFrom x [] = Unit {0}
 IsFrom x (e ∷ es) = x ≤ℤ e.from
 
--- each of the edges made is below those that are left
+-- each of the edges built is below those left
 abbrev AreUnder : List Edge → List Edge → Type 0
 AreUnder made [] = Unit {0}
 AreUnder made (e ∷ es) = AllBelow e.from made
@@ -109,7 +110,7 @@ none_left (d ∷ ds) (e ∷ es) h = absurd (let p : Some (int_min d.from e.from)
 
 -- ---- the sweep
 
--- the values of the edges made below those that are left, and those of what is left from there on
+-- the values of the edges built below those left, and of the edges left from there on
 abbrev values_so_far : Rule → List Edge → Option ℕ → List Edge → Option ℕ → List Edge → ℤ → Option ℕ
 values_so_far rule made v left w right t = cond (is_before_first t left && is_before_first t right) (value_from None made t) (combined_by rule (value_from v left t) (value_from w right t))
 
@@ -156,7 +157,7 @@ all_below_first x made (e ∷ es) right p q (inl b) = subst (λ y. AllBelow y ma
 all_below_first x made left [] p q (inr b) = absurd b
 all_below_first x made left (e ∷ es) p q (inr b) = subst (λ y. AllBelow y made) b q
 
--- what one more edge at x makes of the edges made
+-- the edges built, with one more edge at x
 record Pushed (x : ℤ) (u : Option ℕ) (made made' : List Edge) : Type 0 where
   rising : IsRising made'
   last : last_value None made' ≡ u
@@ -265,7 +266,7 @@ combining_step rule first second made v left w right x next h = record {
     high : (t : ℤ) → x ≤ℤ t → values_so_far rule made' v' (edges_past x left) w' (edges_past x right) t ≡ target t
     high t g = high_by t (is_before_first t (edges_past x left)) (is_before_first t (edges_past x right)) g refl refl
 
--- the same of what the code has made
+-- the same for the edges that the code built
 pub combining_as : (rule : Rule) (first second made : List Edge) (v : Option ℕ) (left : List Edge) (w : Option ℕ) (right : List Edge) (x : ℤ) (made' : List Edge) (v' : Option ℕ) (left' : List Edge) (w' : Option ℕ) (right' : List Edge) → earliest left right ≡ Some x → v' ≡ value_from_on x v left → left' ≡ edges_past x left → w' ≡ value_from_on x w right → right' ≡ edges_past x right → made' ≡ with_last made (record { from = x; value = combined_by rule v' w' }) → IsCombining rule first second made v left w right → IsCombining rule first second made' v' left' w' right'
 combining_as rule first second made v left w right x made' v' left' w' right' next a b c d e h =
     let done : List Edge = with_last made (record { from = x; value = combined_by rule (value_from_on x v left) (value_from_on x w right) }) in

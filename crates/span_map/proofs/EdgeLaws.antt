@@ -32,7 +32,7 @@ pub value_from-below : (v : Option ℕ) (es : List Edge) (x t : ℤ) → IsBelow
 value_from-below v [] x t h le = refl
 value_from-below v (e ∷ es) x t h le = let low : int_lt t e.from ≡ true = grind (arith, ints) in ap (λ b. cond b v (value_from e.value es t)) low
 
--- what is below a number that is below the edges is below them
+-- a number below one that is below the edges is below them
 pub IsBelowFirst-from : (x y : ℤ) (es : List Edge) → x ≤ℤ y → IsBelowFirst y es → IsBelowFirst x es
 IsBelowFirst-from x y [] le h = tt
 IsBelowFirst-from x y (e ∷ es) le h = omega (arith, ints)

@@ -1,4 +1,4 @@
--- What is assigned where a floor has nothing or less: just the numbers of the span at which it has.
+-- Assigning where a floor has no value or a lower one: exactly those numbers of the span change.
 use Rattle.std.proofs.Common.{◌≡◌, ℕ, ◌≤◌, drop, Bool, true, false, cond, ◌&&◌, ◌⊎◌, inl, inr, ℤ, ◌≤ℤ◌, ◌<ℤ◌, int_lt, int_le, List, [], ◌∷◌, Option, Some, None, refl, sym, ap, ◌∙◌, arith}
 use Rattle.std.proofs.lemmas.List.Sums.{sum_by-take-drop}
 use Rattle.std.specs.Int.{int_max, int_min}
@@ -12,17 +12,18 @@ use Rattle.span_map.proofs.EdgeLaws.{value_from-below, IsBelowFirst-from}
 use Rattle.span_map.proofs.PieceLaws.{rising-between, value_from-between}
 use Rattle.ts_schema.proofs.Cases.{le-int_le}
 
--- t is at or above the start of the open run, or of the span where none is open
+-- t is at or above the start of the open run, or of the span if none is open
 abbrev run_from : SpanValue → Option ℤ → ℤ → Bool
 run_from s None t = int_le s.lo t
 run_from s (Some from) t = int_le from t
 
--- a run is open exactly where the floor has nothing or less, and starts with the span or at an edge
+-- a run is open if and only if the floor has no value or a lower one, and it starts with the span or at an edge
 abbrev RunFits : SpanValue → ℕ → Option ℤ → Option ℕ → List Edge → Type 0
 RunFits s pos None w es = is_before pos w ≡ false
 RunFits s pos (Some from) w es = (is_before pos w ≡ true) × (s.lo ≤ℤ from) × ((from ≡ s.lo) ⊎ IsBelowFirst from es)
 
--- what is to be at t: the position where a run or the span has t and the floor has nothing or less
+-- the wanted value at t: the position, where a run or the span holds t and the floor has no value or a lower
+-- one
 abbrev wanted : SpanValue → ℕ → Option ℤ → Option ℕ → List Edge → Option ℕ → ℤ → Option ℕ
 wanted s pos run w es v t = cond (run_from s run t && int_lt t s.hi && is_before pos (value_from w es t)) (Some pos) v
 
@@ -41,7 +42,7 @@ test_above pos w e es t l = ap (λ b. is_before pos (cond b w (value_from e.valu
 test_first : (pos : ℕ) (e : Edge) (es : List Edge) (t : ℤ) → IsRising (e ∷ es) → t <ℤ e.from → is_before pos (value_from e.value es t) ≡ is_before pos e.value
 test_first pos e es t r l = ap (is_before pos) (value_from-below e.value es e.from t r.0 (omega (arith, ints)))
 
--- an edge that changes nothing of the test
+-- an edge that doesn't change the test
 test_same : (pos : ℕ) (w : Option ℕ) (e : Edge) (es : List Edge) (t : ℤ) (b : Bool) → IsRising (e ∷ es) → is_before pos w ≡ b → is_before pos e.value ≡ b → is_before pos (value_from e.value es t) ≡ is_before pos (value_from w (e ∷ es) t)
 test_same pos w e es t b r p q = by_lt_z t e.from
     (λ below. test_first pos e es t r below ∙ q ∙ sym p ∙ sym (test_below pos w e es t below))

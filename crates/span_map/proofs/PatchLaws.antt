@@ -173,7 +173,7 @@ module _ (s : SpanValue) (es ps : List Edge) (some : s.lo <ℤ s.hi) (rising : I
   pub patched_values : (t : ℤ) → value_from None (splice (place_below s.lo es) (place_upto s.hi es) (patch_of s before ps after) es) t ≡ cond (in_span s t) (value_from None ps t) (value_from None es t)
   patched_values t = ap (λ xs. value_from None xs t) shape ∙ same_as_framed t ∙ framed_values t
 
--- the same edges, by how they were made
+-- the same edges, by their construction
 pub patched_is : (s : SpanValue) (es ps patch : List Edge) (first last : ℕ) (v w : Option ℕ) → first ≡ place_below s.lo es → last ≡ place_upto s.hi es
     → v ≡ last_value None (take first es) → w ≡ last_value None (take last es) → patch ≡ patch_of s v ps w
     → splice first last patch es ≡ splice (place_below s.lo es) (place_upto s.hi es) (patch_of s (last_value None (take (place_below s.lo es) es)) ps (last_value None (take (place_upto s.hi es) es))) es

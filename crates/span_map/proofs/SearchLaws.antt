@@ -1,4 +1,4 @@
--- A search by halves: the places that are left hold the one that is sought.
+-- A binary search: the places left include the one searched for.
 use Rattle.std.proofs.Common.{◌≡◌, ℕ, zero, suc, ◌<◌, ◌≤◌, ◌+◌, ◌-◌, Bool, true, false, cond, ℤ, ◌≤ℤ◌, ◌<ℤ◌, int_lt, int_le, List, [], ◌∷◌, length, drop, take, get_or, ◌⊎◌, inl, inr, refl, sym, ap, ◌∙◌, subst, arith}
 use Rattle.std.proofs.lemmas.Int.{ints}
 use Rattle.std.proofs.lemmas.Bool.{cases_lt, false_from_ne_true}
@@ -9,18 +9,18 @@ use Rattle.span_map.specs.Edges.{IsRising, place_below, place_upto}
 use Rattle.span_map.specs.Places.{place_before, stands_before}
 use Rattle.span_map.proofs.Places.{place_where, place_where-below, place_where-upto, rising_places}
 
--- an edge below one that stands before a place stands before it
+-- an edge below one that is before a place is before it
 lower_stands : (before : Before) (a b : Edge) → a.from <ℤ b.from → stands_before before b ≡ true → stands_before before a ≡ true
 lower_stands (Upto t) a b less h = grind (arith, ints)
 lower_stands (Below t) a b less h = grind (arith, ints)
 
--- the item at a place, whatever the default
+-- the item at a place, for any default
 same_item : (es : List Edge) (i : ℕ) (d e : Edge) → i < length es → e ≡ get_or es i e → get_or es i d ≡ e
 same_item [] i d e l is = absurd (omega (arith, l))
 same_item (x ∷ es) zero d e l is = sym is
 same_item (x ∷ es) (suc i) d e l is = same_item es i d e (omega (arith, l)) is
 
--- those below one place stand before the one that is sought, and those from another on don't
+-- the edges below one place are before the one searched for, and those from another on aren't
 pub record IsNarrowed (before : Before) (es : List Edge) (low high : ℕ) : Type 0 where
   pub order : low ≤ high
   pub within : high ≤ length es

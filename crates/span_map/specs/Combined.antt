@@ -9,8 +9,8 @@ use Rattle.span_map.specs.declared.edges.Edge.{Edge}
 use Rattle.span_map.specs.declared.rules.Rule.{Rule}
 use Rattle.span_map.specs.declared.rules.Rule.TheVariants.{Over, Later, Above, NotBelow, Where}
 
--- what a rule makes of the values of two maps: the second one where it is there, the later one, the second one where
--- it is above the first, or where it isn't below it, or where the first is there
+-- the result of a rule for the values of two maps: the second one if it exists; the later one; the second one
+-- if it is above the first, if it isn't below it, or if the first exists
 abbrev pub combined_by : Rule → Option ℕ → Option ℕ → Option ℕ
 combined_by Over v None = v
 combined_by Over v (Some p) = Some p
@@ -29,7 +29,7 @@ earliest [] (e ∷ es) = Some e.from
 earliest (d ∷ ds) [] = Some d.from
 earliest (d ∷ ds) (e ∷ es) = Some (int_min d.from e.from)
 
--- the value from x on, where it was v before, and the edges are those from x on
+-- the value from x on, if it was v before, and the edges are those from x on
 abbrev pub value_from_on : ℤ → Option ℕ → List Edge → Option ℕ
 value_from_on x v [] = v
 value_from_on x v (e ∷ es) = cond (int_eq e.from x) e.value v
@@ -43,7 +43,7 @@ edges_past x (e ∷ es) = cond (int_eq e.from x) es (e ∷ es)
 abbrev pub with_last : List Edge → Edge → List Edge
 with_last es e = cond (option_eq nat_eq e.value (last_value None es)) es (es ++ e ∷ [])
 
--- at each number the value of the edges is what the rule makes of the values of two maps
+-- at each number the value of the edges is the result of the rule for the values of two maps
 abbrev pub Combines : Rule → List Edge → List Edge → List Edge → Type 0
 Combines rule first second both =
     (t : ℤ) → value_from None both t ≡ combined_by rule (value_from None first t) (value_from None second t)

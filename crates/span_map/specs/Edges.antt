@@ -3,7 +3,7 @@ use Rattle.std.specs.Prelude.{◌≡◌, ℕ, suc, Bool, false, cond, ℤ, ◌<�
 use Rattle.std.specs.Ordering.{int_eq}
 use Rattle.span_map.specs.declared.edges.Edge.{Edge}
 
--- the value at t, where the value before the edges is v: that of the last edge at or below t
+-- the value at t, if the value before the edges is v: that of the last edge at or below t
 abbrev pub value_from : Option ℕ → List Edge → ℤ → Option ℕ
 value_from v [] t = v
 value_from v (e ∷ es) t = cond (int_lt t e.from) v (value_from e.value es t)
@@ -12,11 +12,11 @@ value_from v (e ∷ es) t = cond (int_lt t e.from) v (value_from e.value es t)
 abbrev pub HaveSameValues : List Edge → List Edge → Type 0
 HaveSameValues old new = (t : ℤ) → value_from None new t ≡ value_from None old t
 
--- each new value is what is made of the old one at its number
+-- each new value is the image of the old one at its number
 abbrev pub MakesValues : (Option ℕ → ℤ → Option ℕ) → List Edge → List Edge → Type 0
 MakesValues made_of old new = (t : ℤ) → value_from None new t ≡ made_of (value_from None old t) t
 
--- the value of the last of these edges, where the value before them is v
+-- the value of the last of these edges, if the value before them is v
 abbrev pub last_value : Option ℕ → List Edge → Option ℕ
 last_value v [] = v
 last_value v (e ∷ es) = last_value e.value es
@@ -26,12 +26,12 @@ abbrev pub begins_at : ℤ → List Edge → Bool
 begins_at t [] = false
 begins_at t (e ∷ es) = int_eq e.from t
 
--- how many edges stand before the first one above t
+-- how many edges are before the first one above t
 abbrev pub place_upto : ℤ → List Edge → ℕ
 place_upto t [] = 0
 place_upto t (e ∷ es) = cond (int_le e.from t) (suc (place_upto t es)) 0
 
--- how many edges stand before the first one at or above t
+-- how many edges are before the first one at or above t
 abbrev pub place_below : ℤ → List Edge → ℕ
 place_below t [] = 0
 place_below t (e ∷ es) = cond (int_lt e.from t) (suc (place_below t es)) 0
@@ -61,6 +61,6 @@ value_on lo es = last_value None (take (place_upto lo es) es)
 abbrev pub between : ℤ → ℤ → List Edge → List Edge
 between lo hi es = take (place_below hi (drop (place_upto lo es) es)) (drop (place_upto lo es) es)
 
--- edges of which the first, at lo, begins the value v, and the last, at hi, begins none
+-- edges; the first, at lo, begins the value v, and the last, at hi, begins none
 abbrev pub edges_between : ℤ → ℤ → Option ℕ → List Edge → List Edge
 edges_between lo hi v es = record { from = lo; value = v } ∷ es ++ record { from = hi; value = None } ∷ []

@@ -1,4 +1,4 @@
--- Assigning where a floor has nothing or less, one edge of the floor at a time.
+-- Assigning where a floor has no value or a lower one, one edge of the floor at a time.
 use Rattle.std.specs.Prelude.{ℕ, cond, ◌&&◌, ℤ, int_lt, int_le, List, [], ◌∷◌, Option, Some, None}
 use Rattle.std.specs.Int.{int_max, int_min}
 use Rattle.ts_bucket.specs.Positions.{is_before}
@@ -10,7 +10,7 @@ abbrev pub run_filled : Option ℤ → ℤ → ℕ → Option ℕ → ℤ → Op
 run_filled None end pos v t = v
 run_filled (Some from) end pos v t = cond (int_le from t && int_lt t end) (Some pos) v
 
--- an open run stays, and one opens at x where none is
+-- an open run stays, and one opens at x if none is
 abbrev pub open_run : Option ℤ → ℤ → Option ℤ
 open_run None x = Some x
 open_run (Some from) x = Some from

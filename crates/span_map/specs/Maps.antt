@@ -3,7 +3,7 @@ use Rattle.std.specs.Prelude.{ℕ, ℤ, List, Option, None}
 use Rattle.span_map.specs.declared.edges.Edge.{Edge}
 use Rattle.span_map.specs.Edges.{value_from, piece_count}
 
--- the value of a `SpanMap` in contracts: its edges, and for how many more there is room
+-- the value of a `SpanMap` in contracts: its edges, and how many more fit
 pub record MapValue : Type 0 where
   pub edges : List Edge
   pub room : ℕ
@@ -12,6 +12,6 @@ pub record MapValue : Type 0 where
 abbrev pub at : MapValue → ℤ → Option ℕ
 at m t = value_from None m.edges t
 
--- how many pieces the map has
+-- the number of pieces of the map
 abbrev pub piece_count_of : MapValue → ℕ
 piece_count_of m = piece_count m.edges

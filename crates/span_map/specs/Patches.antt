@@ -9,11 +9,12 @@ use Rattle.span_map.specs.declared.edges.Edge.{Edge}
 abbrev pub IsPatched : SpanValue → (ℤ → Option ℕ) → (ℤ → Option ℕ) → (ℤ → Option ℕ) → Type 0
 IsPatched s part old new = (t : ℤ) → new t ≡ cond (in_span s t) (part t) (old t)
 
--- the edge, unless it begins the value v that is there before it
+-- the edge, unless the value before it is the same v
 abbrev pub edge_if : Option ℕ → Edge → List Edge
 edge_if v e = cond (option_eq nat_eq e.value v) [] (e ∷ [])
 
--- edges from the start of a span to its end with the values of these edges, where v is before them and w after them
+-- edges from the start of a span to its end with the values of these edges, if v is before them and w after
+-- them
 abbrev pub patch_of : SpanValue → Option ℕ → List Edge → Option ℕ → List Edge
 patch_of s v es w =
     edge_if v (record { from = s.lo; value = value_on s.lo es })

@@ -3,18 +3,18 @@
 ghost use Rattle.std.specs.Prelude.{◌≡◌};
 ghost use Rattle.span_map.specs.Changes.{value_after};
 
-/// What becomes of a value.
+/// A change of a value.
 #[derive(Clone, Copy, Debug)]
 pub(crate) enum Change {
     /// It becomes this position.
     Set(u64),
-    /// It goes if it is at most this position.
+    /// It is removed if it is at most this position.
     ClearUpto(u64),
     /// It becomes this position if it was below or missing.
     Raise(u64),
 }
 
-/// What the change makes of a value.
+/// A value after the change.
 pub(crate) fn apply(change: Change, value: Option<u64>) -> Option<u64>
     ensures { result ≡ value_after change value }
 {

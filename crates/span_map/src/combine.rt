@@ -22,8 +22,7 @@ fn next_from(first: &[Edge], second: &[Edge]) -> Option<i64>
     }
 }
 
-/// The value from a number on, where it was `before` and no edge is below that number, and the
-/// edges above it.
+/// The value from a number on, if it was `before` and no edge is below that number, and the edges above it.
 fn skip_edges(before: Option<u64>, edges: &[Edge], from: i64) -> (Option<u64>, &[Edge])
     ensures value { result.0 ≡ value_from_on from before edges.now }
     ensures edges { result.1.now ≡ edges_past from edges.now }

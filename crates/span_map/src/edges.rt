@@ -14,7 +14,7 @@ pub(crate) struct Edge {
     pub value: Option<u64>,
 }
 
-/// How many edges are at or below `t`.
+/// The number of edges at or below `t`.
 pub(crate) fn places_upto(edges: &[Edge], t: i64) -> usize
     requires { IsRising edges.now }
     ensures place { result ≡ place_upto t edges.now }
@@ -23,7 +23,7 @@ pub(crate) fn places_upto(edges: &[Edge], t: i64) -> usize
     edges.partition_point(|edge| edge.from <= t)
 }
 
-/// How many edges are below `t`.
+/// The number of edges below `t`.
 pub(crate) fn places_below(edges: &[Edge], t: i64) -> usize
     requires { IsRising edges.now }
     ensures place { result ≡ place_below t edges.now }
@@ -44,7 +44,7 @@ pub(crate) fn value_after(edges: &[Edge], count: usize) -> Option<u64>
     }
 }
 
-/// How many pieces the edges begin.
+/// The number of pieces that the edges begin.
 pub(crate) fn count_pieces(edges: &[Edge]) -> usize
     ensures { result ≡ piece_count edges.now }
 {
@@ -90,7 +90,7 @@ fn put(edges: &mut Vec<Edge>, place: usize, edge: Edge)
     let _ = edges.insert(place, edge);
 }
 
-/// Puts an edge at `t` where there is none, which changes no value.
+/// Inserts an edge at `t` if there is none, which changes no value.
 fn split(edges: &mut Vec<Edge>, t: i64)
     requires rising { IsRising edges.old.items }
     requires room { vec_len edges.old < vec_capacity edges.old }
@@ -117,8 +117,8 @@ fn changed_edge(edge: Edge, span: Span, change: Change) -> Edge
     }
 }
 
-/// Changes the value of each edge from one place on and below another, and moves those that begin a new
-/// value together. Returns the place where the last of them ends.
+/// Changes the value of each edge from one place on and below another, and moves those that begin a new value
+/// together. Returns the place after the last of them.
 fn change_between(
     edges: &mut Vec<Edge>,
     first: usize,
@@ -150,7 +150,7 @@ fn change_between(
     kept
 }
 
-/// Takes out the edges from one place on and below another.
+/// Removes the edges from one place on and below another.
 fn take_out(edges: &mut Vec<Edge>, first: usize, end: usize)
     requires order { first ≤ end }
     requires within { end ≤ vec_len edges.old }
@@ -161,8 +161,8 @@ fn take_out(edges: &mut Vec<Edge>, first: usize, end: usize)
     let _ = edges.drain(first..end);
 }
 
-/// Changes the value of each edge within the span. Where an edge from its start to its end begins
-/// the value that was there before it, the edge goes.
+/// Changes the value of each edge within the span. Removes each edge from its start to its end that begins the
+/// same value as before it.
 fn change_within(edges: &mut Vec<Edge>, span: Span, change: Change)
     requires rising { IsRising edges.old.items }
     ensures rising { IsRising edges.new.items }

@@ -1,4 +1,4 @@
-//! Assigning where another map, the floor, has nothing or less.
+//! Assigns a position where another map, the floor, has no value or a lower one.
 
 ghost use Rattle.std.specs.Prelude.{◌≡◌, ◌+◌, ◌*◌, ◌≤◌, cond, vec_len, vec_capacity};
 ghost use Rattle.ts_bucket.specs.Positions.{is_before};
@@ -50,7 +50,7 @@ fn assign_between(edges: &mut Vec<Edge>, from: i64, end: i64, pos: u64)
     }
 }
 
-/// Where a run is open after an edge of the floor.
+/// The start of the open run after an edge of the floor, if one is open.
 fn run_after(run: Option<i64>, edge: Edge, span: Span, pos: u64) -> Option<i64>
     ensures { result ≡ run_past span pos run edge }
 {
@@ -63,7 +63,7 @@ fn run_after(run: Option<i64>, edge: Edge, span: Span, pos: u64) -> Option<i64>
     }
 }
 
-/// Assigns what is left of a run if an edge of the floor ends it.
+/// Assigns the rest of a run if an edge of the floor ends it.
 fn pass_edge(edges: &mut Vec<Edge>, run: Option<i64>, edge: Edge, span: Span, pos: u64)
     requires rising { IsRising edges.old.items }
     requires room { vec_len edges.old + 2 ≤ vec_capacity edges.old }
@@ -77,8 +77,8 @@ fn pass_edge(edges: &mut Vec<Edge>, run: Option<i64>, edge: Edge, span: Span, po
     }
 }
 
-/// Assigns `pos` to the numbers of the span that are in an open run, or at or above an edge of the
-/// floor with nothing or less.
+/// Assigns `pos` to the numbers of the span that are in an open run, or at or above an edge of the floor with
+/// no value or a lower one.
 fn assign_runs(edges: &mut Vec<Edge>, span: Span, pos: u64, start: Option<i64>, floor: &[Edge])
     requires rising { IsRising edges.old.items }
     requires room { vec_len edges.old + 2 * (piece_count floor.now + 1) ≤ vec_capacity edges.old }
@@ -93,7 +93,7 @@ fn assign_runs(edges: &mut Vec<Edge>, span: Span, pos: u64, start: Option<i64>, 
     close_run(edges, run, span.hi, pos);
 }
 
-/// Where a run is open at the start of a span at which the floor has this value.
+/// The start of the run that is open at the start of a span, if one is. `value` is that of the floor there.
 fn run_at_start(value: Option<u64>, span: Span, pos: u64) -> Option<i64>
     ensures { result ≡ run_on span pos value }
 {
@@ -104,7 +104,7 @@ fn run_at_start(value: Option<u64>, span: Span, pos: u64) -> Option<i64>
     }
 }
 
-/// Assigns `pos` to each number of the span at which the floor has nothing or less.
+/// Assigns `pos` to each number of the span at which the floor has no value or a lower one.
 pub(crate) fn assign_above_floor(edges: &mut Vec<Edge>, span: Span, pos: u64, floor: &[Edge])
     requires rising { IsRising edges.old.items }
     requires floor_rising { IsRising floor.now }

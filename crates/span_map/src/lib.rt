@@ -1,4 +1,4 @@
-//! A partial function from whole numbers to positions, kept as the numbers where its value changes.
+//! A partial function from whole numbers to positions, stored as the numbers at which its value changes.
 #![tactic(auto)]
 
 mod changes;

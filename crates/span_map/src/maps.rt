@@ -23,8 +23,8 @@ use ts_schema::{NoMemory, Seq};
 /// A partial function from whole numbers to positions, kept as edges: the numbers at which its value changes.
 ///
 /// A change allocates no memory: `reserve` must have made room for the edges that it needs. `assign` and
-/// `clear_upto` need 2, `raise` needs 3 and one more for each piece of the map, and `assign_above` needs 3
-/// and 3 more for each piece of the floor.
+/// `clear_upto` need 2. `raise` needs 3 and one more for each piece of the map. `assign_above` needs 3 and 3
+/// more for each piece of the floor.
 #[derive(Drop, Debug)]
 pub struct SpanMap {
     edges: Vec<Edge>,
@@ -43,7 +43,7 @@ impl Model for SpanMap {
 }
 
 impl SpanMap {
-    /// The map with no value. It allocates no memory.
+    /// The map without values. It allocates no memory.
     pub fn new(alloc: Global) -> SpanMap
         ensures values { (t : ℤ) → at result t ≡ None }
         ensures pieces { piece_count_of result ≡ 0 }
@@ -53,7 +53,7 @@ impl SpanMap {
         }
     }
 
-    /// The map of edges that rise.
+    /// The map of these rising edges.
     pub(crate) fn of_edges(edges: Vec<Edge>) -> SpanMap
         requires { IsRising edges.items }
         ensures edges { result.edges ≡ edges.items }
@@ -69,12 +69,12 @@ impl SpanMap {
         &self.edges
     }
 
-    /// The allocator that the map was made with.
+    /// The allocator that the map was created with.
     pub fn allocator(&self) -> Global {
         *self.edges.allocator()
     }
 
-    /// How many pieces the map has.
+    /// The number of pieces of the map.
     pub fn len(&self) -> usize
         ensures pieces { result ≡ piece_count_of self.now }
         ensures small { result < 2 ^ 63 }
@@ -96,7 +96,7 @@ impl SpanMap {
         value_at(&self.edges, t)
     }
 
-    /// A copy of the map. Its room may differ.
+    /// A copy of the map, which may have a different capacity.
     pub fn copy(&self) -> Result<SpanMap, NoMemory>
         ensures values { IfOk result (λ copy. (t : ℤ) → at copy t ≡ at self.now t) }
         ensures pieces { IfOk result (λ copy. piece_count_of copy ≡ piece_count_of self.now) }
@@ -106,7 +106,7 @@ impl SpanMap {
         })
     }
 
-    /// Makes the spare room at least `n`. The values stay.
+    /// Makes room for at least `n` more edges. The values stay.
     pub fn reserve(&mut self, n: usize) -> Result<(), NoMemory>
         ensures room { OnOk result (n ≤ self.new.room) }
         ensures kept { self.old.room ≤ self.new.room }
@@ -118,7 +118,7 @@ impl SpanMap {
         Ok(())
     }
 
-    /// Gives each number of the span this position.
+    /// Sets each number of the span to this position.
     pub fn assign(&mut self, span: Span, pos: u64)
         requires { 2 ≤ self.old.room }
         ensures values { ChangesWithin span (λ _. Some pos) (at self.old) (at self.new) }
@@ -136,7 +136,7 @@ impl SpanMap {
         change_values(&mut self.edges, span, Change::ClearUpto(pos));
     }
 
-    /// Gives each number of the span the later of its position and `pos`.
+    /// Sets each number of the span to the later of its position and `pos`.
     pub fn raise(&mut self, span: Span, pos: u64)
         requires { 3 + piece_count_of self.old ≤ self.old.room }
         ensures values { ChangesWithin span (λ v. later v (Some pos)) (at self.old) (at self.new) }
@@ -145,8 +145,7 @@ impl SpanMap {
         change_values(&mut self.edges, span, Change::Raise(pos));
     }
 
-    /// Gives each number of the span at which `floor` has nothing, or less than `pos`, this
-    /// position.
+    /// Sets each number of the span at which `floor` has no value, or one below `pos`, to this position.
     pub fn assign_above(&mut self, span: Span, pos: u64, floor: &SpanMap)
         requires { 3 * (piece_count_of floor.now + 1) ≤ self.old.room }
         ensures values { AssignsAbove span pos (at floor.now) (at self.old) (at self.new) }
@@ -154,7 +153,7 @@ impl SpanMap {
         assign_above_floor(&mut self.edges, span, pos, &floor.edges);
     }
 
-    /// The map that has the values of this one within the span, and none elsewhere. It costs the
+    /// The map that has the values of this one within the span, and none elsewhere. The cost grows with the
     /// pieces within the span.
     pub fn within(&self, span: Span) -> Result<SpanMap, NoMemory>
         ensures values { IfOk result (λ part. IsPart span (at self.now) (at part)) }
@@ -164,8 +163,8 @@ impl SpanMap {
         })
     }
 
-    /// The map that has at each number what the rule makes of the values of both maps there. It
-    /// costs the pieces of both.
+    /// The map whose value at each number is the result of the rule for the values of both maps there. The cost
+    /// grows with the pieces of both.
     pub fn combine(&self, other: &SpanMap, rule: Rule) -> Result<SpanMap, NoMemory>
         ensures values { IfOk result (λ both. (t : ℤ) → at both t ≡ combined_by rule (at self.now t) (at other.now t)) }
     {

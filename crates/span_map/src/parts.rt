@@ -43,7 +43,7 @@ pub(crate) fn edges_of_part(
     Ok(part)
 }
 
-/// Edges that have the values of others within a span, and none elsewhere.
+/// Edges with the values of others within a span, and none elsewhere.
 pub(crate) fn edges_within(alloc: Global, edges: &[Edge], span: Span) -> Result<Vec<Edge>, NoMemory>
     requires { IsRising edges.now }
     ensures values { IfOk result (λ part. IsPart span (value_from None edges.now) (value_from None part.items)) }

@@ -1,4 +1,4 @@
-//! Edges that replace the values of a map within a span by those of another.
+//! Edges that replace the values of a map within a span with those of another.
 
 ghost use Rattle.std.specs.Prelude.{◌≡◌, ◌++◌, IfOk};
 ghost use Rattle.span_map.specs.Edges.{IsRising, last_value};
@@ -10,7 +10,7 @@ use std::alloc::Global;
 use ts_bucket::Span;
 use ts_schema::NoMemory;
 
-/// Appends an edge, unless it begins the value that is there before it.
+/// Appends an edge, unless the value before it is the same.
 fn push_if(edges: &mut Vec<Edge>, before: Option<u64>, edge: Edge) -> Result<(), NoMemory>
     ensures { IfOk result (λ _. edges.new.items ≡ edges.old.items ++ edge_if before edge) }
 {
@@ -20,7 +20,7 @@ fn push_if(edges: &mut Vec<Edge>, before: Option<u64>, edge: Edge) -> Result<(),
     Ok(())
 }
 
-/// The value of the last of these edges, where the value before them is this one.
+/// The value of the last of these edges, if the value before them is this one.
 fn last_of(before: Option<u64>, edges: &[Edge]) -> Option<u64>
     ensures { result ≡ last_value before edges.now }
 {
@@ -31,8 +31,8 @@ fn last_of(before: Option<u64>, edges: &[Edge]) -> Option<u64>
     }
 }
 
-/// The edges from the start of a span to its end that give it the values of these edges, where one
-/// value is there before it and one after it.
+/// The edges from the start of a span to its end that have the values of these edges, given the values before
+/// and after the span.
 pub(crate) fn patch(
     alloc: Global,
     span: Span,

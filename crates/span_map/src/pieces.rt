@@ -35,7 +35,7 @@ fn push_piece(pieces: &mut Vec<Piece>, start: Edge, end: Edge) -> Result<(), NoM
     }
 }
 
-/// The pieces from the start on and below the end, where the edges are those between the two.
+/// The pieces from a start on and below an end, given the edges between the two.
 fn pieces_between(
     alloc: Global,
     start: Edge,

@@ -3,7 +3,7 @@
 ghost use Rattle.std.specs.Prelude.{◌≡◌};
 ghost use Rattle.span_map.specs.Combined.{combined_by};
 
-/// How the values that two maps have at a number are combined.
+/// A rule that combines the values of two maps at a number.
 #[derive(Clone, Copy, Debug, PartialEq, Eq)]
 pub enum Rule {
     /// The value of the second map, and that of the first if the second has none.
@@ -19,7 +19,7 @@ pub enum Rule {
     Where,
 }
 
-/// What a rule makes of two values.
+/// The result of a rule for two values.
 pub(crate) fn combine_values(rule: Rule, first: Option<u64>, second: Option<u64>) -> Option<u64>
     ensures { result ≡ combined_by rule first second }
 {

@@ -8,7 +8,7 @@ use crate::edges::Edge;
 use block_list::BlockList;
 use ts_bucket::Span;
 
-/// Which edges stand before a place.
+/// The edges that are before a place.
 #[derive(Clone, Copy, Debug)]
 pub(crate) enum Before {
     /// Those at or below this number.
@@ -17,7 +17,7 @@ pub(crate) enum Before {
     Below(i64),
 }
 
-/// Whether an edge stands before a place.
+/// Whether an edge is before a place.
 fn stands_before(edge: Edge, before: Before) -> bool
     ensures { result ≡ stands_before before edge }
 {
@@ -27,7 +27,7 @@ fn stands_before(edge: Edge, before: Before) -> bool
     }
 }
 
-/// How many edges stand before a place.
+/// The number of edges before a place.
 pub(crate) fn place(edges: &BlockList<Edge>, before: Before) -> usize
     requires { IsRising edges.now.items }
     ensures place { result ≡ place_before before edges.now.items }
@@ -60,7 +60,7 @@ pub(crate) fn places_within(edges: &BlockList<Edge>, span: Span) -> (usize, usiz
     (first, end)
 }
 
-/// The same with those at the start and at the end.
+/// The same, including the edges at the start and at the end.
 pub(crate) fn places_around(edges: &BlockList<Edge>, span: Span) -> (usize, usize)
     requires rising { IsRising edges.now.items }
     requires some { span.lo <ℤ span.hi }

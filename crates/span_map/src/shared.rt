@@ -1,4 +1,4 @@
-//! A map that copies share, and of which a change copies what it touches.
+//! A map that copies share. A change copies only what it touches.
 
 ghost use Rattle.std.specs.Prelude.{◌≡◌, ◌-◌, ◌≤◌, ◌<ℤ◌, ℤ, IfOk, None, Some, length, take, drop};
 ghost use Rattle.ts_bucket.specs.Positions.{above, later};
@@ -20,10 +20,10 @@ use std::marker::Model;
 use ts_bucket::Span;
 use ts_schema::{NoMemory, Seq};
 
-/// A partial function from whole numbers to positions, which never changes. Contracts see it as a
-/// `SpanMap` without room.
+/// A partial function from whole numbers to positions, which never changes. Contracts see it as a `SpanMap`
+/// without spare room.
 ///
-/// Its edges are in blocks, which copies share, and maps that differ from it within a span.
+/// Its edges are in blocks, which it shares with copies and with maps that differ from it within a span.
 #[derive(Drop, Debug)]
 pub struct SharedMap {
     edges: BlockList<Edge>,
@@ -52,7 +52,7 @@ impl SharedMap {
         })
     }
 
-    /// How many edges the map has: two at most for each of its pieces.
+    /// The number of edges of the map: at most two for each of its pieces.
     pub fn size(&self) -> usize {
         self.edges.len()
     }
@@ -81,8 +81,8 @@ impl SharedMap {
         Ok(SpanMap::of_edges(self.edges.iter().copied().collect(alloc)?))
     }
 
-    /// The map that has the values of this one within the span, and none elsewhere. It costs the
-    /// pieces within the span, and a search for its ends.
+    /// The map that has the values of this one within the span, and none elsewhere. The cost is a search for
+    /// the ends of the span, and grows with the pieces within it.
     pub fn within(&self, span: Span) -> Result<SpanMap, NoMemory>
         ensures values { IfOk result (λ part. IsPart span (at self.now) (at part)) }
     {
@@ -93,7 +93,7 @@ impl SharedMap {
         part_within(alloc, &self.edges, span)
     }
 
-    /// The pieces within the span, as `SpanMap::ranges` gives them.
+    /// The pieces within the span, like those of `SpanMap::ranges`.
     pub fn ranges(&self, span: Span) -> Result<Seq<Piece>, NoMemory>
         ensures values { IfOk result (λ pieces. IsPart span (at self.now) (piece_at pieces)) }
         ensures rising { IfOk result (λ pieces. ArePieces span.lo span.hi pieces) }
@@ -101,8 +101,9 @@ impl SharedMap {
         self.within(span)?.ranges(span)
     }
 
-    /// The map without the values of the span that are at most `pos`. As with the two below, it costs
-    /// the pieces within the span and the blocks in which the span ends; the other blocks are shared.
+    /// The map without the values of the span that are at most `pos`. As with the two methods below, the cost
+    /// grows with the pieces within the span and the blocks in which the span ends; the other blocks are
+    /// shared.
     pub fn cleared_upto(&self, span: Span, pos: u64) -> Result<SharedMap, NoMemory>
         ensures values { IfOk result (λ new. ChangesWithin span (above pos) (at self.now) (at new)) }
     {
@@ -123,8 +124,8 @@ impl SharedMap {
         self.patch(span, &part)
     }
 
-    /// The map in which each number of the span at which `floor` has nothing, or less than `pos`, has
-    /// this position.
+    /// The map in which each number of the span at which `floor` has no value, or one below `pos`, has this
+    /// position.
     pub fn assigned_above(
         &self,
         span: Span,

@@ -1,4 +1,4 @@
--- What a statement asks for that isn't refused at an allowed history can be done there.
+-- What an unrefused statement requests at an allowed history can be done there.
 use Rattle.std.proofs.Common.{◌≡◌, ◌∙◌, refl, sym, subst, ap, ℕ, suc, ◌+◌, ◌*◌, ◌<◌, ◌≤◌, Bool, true, false, not, ◌&&◌, List, [], ◌∷◌, map, length, get_or, Option, Some, None, is_some, is_none, arith, ℤ, pos, negsuc, ◌-ℤ◌, ◌≤ℤ◌, ◌<ℤ◌, ◌-◌, ◌^◌}
 use Rattle.std.specs.Prelude.{nat_lt, nat_le, unwrap_or, slice_get, sum_by, int_lt, int_le, IsTrue, option_and_then, option_map}
 use Rattle.std.specs.Int.{int_rem_euclid}
@@ -98,7 +98,7 @@ hypertable_is r n s t =
     let h = some_hyper (table_numbered r n).hyper table.1 in
     record { table = table.0; hyper = h.0; is = h.1 }
 
--- a test that holds of a hypertable
+-- a test that is true of a hypertable
 on_hypertable : (test : TableDef → HyperInfo → Bool) (r : Roster) (n : ℕ) (h : IsHypertable r n) → test (table_numbered r n).def h.hyper ≡ true → of_table test (table_of r n) ≡ true
 on_hypertable test r n h e = ap (of_table test) h.table.at ∙ ap (of_hyper test (table_numbered r n).def) h.is ∙ e
 
@@ -120,7 +120,7 @@ columns_of cols e =
 may_come : (h : History) (e : Event) (n : ℕ) → sound_at h e ≡ true → event_bytes e ≤ n → n < 4294967296 → timely_at h e ≡ true → MayCome h e
 may_come h e n fits short small time = record { is_sound = and_from _ _ fits (lt-ltb _ _ (omega arith)); is_timely = time }
 
--- a name that isn't taken, where there is room for one more
+-- a free name, if one more relation is allowed
 free_and_few : (p : ℕ) (r : Roster) (name : List ℕ) (there : ℕ) → name_refusal p r name there ≡ None → (not (is_taken r name) && nat_lt there 64) ≡ true
 free_and_few p r name there e =
     let both = neither (refusal_if p 7 (not (finds_nothing (found_in r name)))) _ e in
@@ -189,7 +189,7 @@ hyper_action h p (found.Plain n) col interval s t e =
 
 -- ---- CREATE MATERIALIZED VIEW
 
--- a refusal behind another, which is refused too
+-- a refusal after another, which is refused too
 no_more : (a : Option Refusal) (r : Refusal) → (a ⊳ Some r) ≡ None → ⊥
 no_more None r e = absurd cc
 no_more (Some q) r e = absurd cc
@@ -236,7 +236,7 @@ names_bytes f =
     let whole : sum_by name_bytes (output_names f) ≡ sum_by name_bytes (bucket_column f ∷ f.keys) + sum_by name_bytes (map aggregate_name f.aggs) = sum_by-append name_bytes (bucket_column f ∷ f.keys) (map aggregate_name f.aggs) in
     omega (arith, (length_sizes f.keys).1, (aggs_size f.aggs).1)
 
--- the definition of an aggregate to be made
+-- the definition of an aggregate to be created
 abbrev view_of_fold : Roster → ℕ → List ℕ → Bool → NamedFold → ViewDef
 view_of_fold r n name only fold = record { name = name; table = n; fold = fold_of (table_numbered r n) fold; names = output_names fold; only = only }
 
@@ -430,7 +430,7 @@ units_are p info number unit f e =
     counted_units : (n : ℤ) → is_some (unit_count n) ≡ true → (1 ≤ unwrap_or (unit_count n) 0) × (unwrap_or (unit_count n) 0 ≤ 1200)
     counted_units n e = grind (arith, ints)
 
--- what is among the first columns is among more
+-- what is among the first columns is among any longer list of them
 all_among : {T : Type 0} (col : T → ℕ) (n m : ℕ) (xs : List T) → n ≤ m → list_all (λ x. nat_lt (col x) n) xs ≡ true → list_all (λ x. nat_lt (col x) m) xs ≡ true
 all_among col n m [] le e = refl
 all_among col n m (x ∷ xs) le e =

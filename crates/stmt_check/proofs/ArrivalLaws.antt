@@ -21,7 +21,7 @@ use Rattle.stmt_check.specs.Limits.{most_rows}
 
 -- ---- the value that is written
 
--- a place that is counted from one more is one more
+-- a place counted from one more is one more
 place_next : (name : List ℕ) (k : ℕ) (names : List (List ℕ)) → place_from name (k + 1) names ≡ option_map (λ i. i + 1) (place_from name k names)
 place_next name k [] = refl
 place_next name k (n ∷ names) =
@@ -46,14 +46,14 @@ picked_named (n ∷ names) (v ∷ values) name =
       | false ↦ ap (value_at (v ∷ values)) (place_next name 0 names) ∙ picked_next v values (place_from name 0 names) ∙ picked_named names values name
     ]
 
--- what the code looks up is the value that is written
+-- the code looks up the value that is written
 written : (names : Option (List (List ℕ))) (values : List (Option ℤ)) (k : ℕ) (c : Column) → value_at values (place_in names k c) ≡ value_written names values k c
 written None values k c = refl
 written (Some names) values k c = picked_named names values c.name
 
 -- ---- where it arrives
 
--- behind the time each column has the place that it is declared at
+-- after the time each column has the place that it is declared at
 other_behind : (at : ℕ) (names : Option (List (List ℕ))) (k : ℕ) (cols : List Column) (j : ℕ) (c : Column) → at < k → slice_get cols j ≡ Some c → slice_get (other_places at names k cols) j ≡ Some (place_in names (k + j) c)
 other_behind at names k [] j c lt e = absurd cc
 other_behind at names k (d ∷ cols) zero c lt e =
@@ -66,7 +66,7 @@ other_behind at names k (d ∷ cols) (suc j) c lt e =
     let next : k + 1 + j ≡ k + suc j = omega arith in
     rw apart (other_behind at names (k + 1) cols j c (omega arith) e ∙ ap (λ i. Some (place_in names i c)) next)
 
--- before it too
+-- and before the time
 other_before : (at : ℕ) (names : Option (List (List ℕ))) (k : ℕ) (cols : List Column) (j : ℕ) (c : Column) → k + j < at → slice_get cols j ≡ Some c → slice_get (other_places at names k cols) j ≡ Some (place_in names (k + j) c)
 other_before at names k [] j c lt e = absurd cc
 other_before at names k (d ∷ cols) zero c lt e =
@@ -86,7 +86,7 @@ at_least x y apart le = go (cases_lt x y)
     go (inl l) = omega arith
     go (inr l) = absurd (apart (omega arith))
 
--- one column further past the time, where the places of those behind are known
+-- one column further past the time, if the places of those after it are known
 past_step : (at : ℕ) (names : Option (List (List ℕ))) (k : ℕ) (d : Column) (cols : List Column) (j : ℕ) (c : Column) → k ≤ at → at < k + suc j → slice_get cols j ≡ Some c
     → ((i : ℕ) → j ≡ suc i → k + 1 ≤ at → slice_get (other_places at names (k + 1) cols) i ≡ Some (place_in names (k + suc j) c))
     → (b : Bool) → (at == k) ≡ b → slice_get (cond b (other_places at names (k + 1) cols) (place_in names k d ∷ other_places at names (k + 1) cols)) j ≡ Some (place_in names (k + suc j) c)

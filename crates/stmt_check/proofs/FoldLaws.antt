@@ -144,7 +144,7 @@ count_all_fits info fun.Min col e = refl
 count_all_fits info fun.Max col e = refl
 count_all_fits info fun.Avg col e = refl
 
--- what an aggregate that isn't refused says
+-- the facts of an aggregate that isn't refused
 record Aggregate (p : ℕ) (info : TableInfo) (others : ℕ) (repeats : Bool) (a : NamedAgg) : Type 0 where
   pub few : others < 16
   pub argument : argument_refusal p info a.col ≡ None
@@ -170,7 +170,7 @@ aggregate_says p count info others repeats a e =
       new = either_new (is_some a.name) repeats (ap (λ b. b && repeats) (sym (none_is a.name)) ∙ unnamed) (not_wrong p 7 0 _ three.1);
     }
 
--- the aggregates that aren't refused fit, and with the columns before they are at most 16
+-- the aggregates that aren't refused fit, and with the columns before them they are at most 16
 record Aggregates (info : TableInfo) (keys before : ℕ) (aggs : List NamedAgg) : Type 0 where
   pub fit : list_all (agg_fits (length info.def.cols)) (map (aggregate_of info) aggs) ≡ true
   pub few : 0 < length aggs → suc (keys + before + length aggs) ≤ 16
@@ -197,7 +197,7 @@ aggregates_fit p distinct count info bucket keys before (a ∷ aggs) s some w e 
 
 -- ---- names of output columns
 
--- a name that none of these is comes behind them
+-- a name that none of these is comes after them
 pub apart_push : (names : List (List ℕ)) (n : List ℕ) → all_apart names ≡ true → list_any (λ other. same_name other n) names ≡ false → all_apart (names ++ n ∷ []) ≡ true
 apart_push [] n a e = refl
 apart_push (m ∷ names) n a e =
@@ -218,7 +218,7 @@ keys_apart p count info bucket before (k ∷ keys) a e =
     let more = keys_apart p count info bucket (before ++ k ∷ []) keys (apart_push (bucket ∷ before) k a new) parts.1 in
     subst (λ (ks : List (List ℕ)). all_apart (bucket ∷ ks) ≡ true) (append_assoc before (k ∷ []) keys) more
 
--- the name of an aggregate before is one of their names
+-- the name of an earlier aggregate is one of their names
 pub any_name : (aggs : List NamedAgg) (name : List ℕ) → is_aggregate aggs name ≡ list_any (λ other. same_name other name) (map aggregate_name aggs)
 any_name [] name = refl
 any_name (a ∷ aggs) name = ap (λ b. same_name (aggregate_name a) name || b) (any_name aggs name)
@@ -249,13 +249,13 @@ aggregates_apart p count info bucket keys before (g ∷ aggs) a e =
 
 -- ---- folds
 
--- what a fold that isn't refused says
+-- the facts of a fold that isn't refused
 pub record FoldIsSound (info : TableInfo) (f : NamedFold) : Type 0 where
   pub width : IsWidth (record { step = f.step; shift = f.shift })
   pub fits : fold_fits (length info.def.cols) (fold_of info f) ≡ true
   pub few : suc (length f.keys + length f.aggs) ≤ 16
 
--- what the rest of a fold that isn't refused says
+-- the facts of the rest of a fold that isn't refused
 pub record RestIsSound (info : TableInfo) (f : NamedFold) : Type 0 where
   pub fits : fold_fits (length info.def.cols) (fold_of info f) ≡ true
   pub few : suc (length f.keys + length f.aggs) ≤ 16
@@ -303,7 +303,7 @@ outputs_are_names f h =
     list_all-append is_name (bucket_column f ∷ f.keys) (map aggregate_name f.aggs)
     ∙ and_from _ _ (and_from _ _ (given_name f.name _ h.name refl) (keys_are_names f.keys h.keys)) (aggregates_are_names f.aggs h.aggs)
 
--- the output names of an aggregate to be made are apart
+-- the output names of an aggregate to be created are different
 pub names_apart : (p : ℕ) (info : TableInfo) (f : NamedFold) → fold_refusal p true info f ≡ None → all_apart (output_names f) ≡ true
 names_apart p info f e =
     let one = neither (width_refusal p info f) _ e in

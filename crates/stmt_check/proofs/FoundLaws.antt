@@ -1,4 +1,4 @@
--- What is found by a name stands in the roster at its number, and where nothing is found the name is free.
+-- What a name finds is in the roster at its number, and if it finds nothing the name is free.
 use Rattle.std.proofs.Common.{◌≡◌, ◌∙◌, refl, sym, subst, ap, ℕ, suc, ◌+◌, Bool, true, false, cond, List, [], ◌∷◌, Option, Some, None, is_some, arith}
 use Rattle.std.specs.Prelude.{slice_get, position as place}
 use Rattle.std.specs.List.{position_from}
@@ -108,7 +108,7 @@ either_at r (found.Plain n) b t v = stands r.tables n (IsHyper false) t
 either_at r (found.Hyper n) b t v = stands r.tables n (IsHyper true) t
 either_at r (found.View n) b t v = absurd t
 
--- what is found stands there
+-- what is found exists
 pub relation_at : (r : Roster) (name : List ℕ) → RelationAt r (found_in r name)
 relation_at r name = either_at r (table_from name 0 r.tables) (view_from name 0 r.views) (table_at name 0 r.tables) (view_at name 0 r.views)
 
@@ -117,7 +117,7 @@ relation_at r name = either_at r (table_from name 0 r.tables) (view_from name 0 
 kind_is_some : (t : TableInfo) (k : ℕ) → finds_nothing (table_kind t k) ≡ false
 kind_is_some t k = elim (is_some t.hyper) as (λ b. finds_nothing (cond b (found.Hyper k) (found.Plain k)) ≡ false) [ true ↦ refl | false ↦ refl ]
 
--- where nothing is found no item has the name
+-- if nothing is found, no item has the name
 no_table_here : (t : TableInfo) (k : ℕ) (same : Bool) (rest : Found) (o : Option ℕ) → (finds_nothing rest ≡ true → o ≡ None) → finds_nothing (cond same (table_kind t k) rest) ≡ true → cond same (Some k) o ≡ None
 no_table_here t k true rest o f e = absurd (let g : true ≡ false = sym e ∙ kind_is_some t k in cc)
 no_table_here t k false rest o f e = f e

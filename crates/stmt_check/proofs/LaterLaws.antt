@@ -1,4 +1,4 @@
--- A statement that isn't refused isn't refused later, and asks for the same.
+-- A statement that isn't refused isn't refused later, and requests the same.
 use Rattle.std.proofs.Common.{◌≡◌, ◌∙◌, refl, sym, ap, ℕ, ◌+◌, Bool, true, false, List, [], ◌∷◌, ◌++◌, Option, Some, None, inl, inr}
 use Rattle.std.specs.Prelude.{◌⊎◌, ℤ, length, nat_le, not, ◌==◌, ◌&&◌, unwrap_or}
 use Rattle.ts_schema.specs.declared.columns.Column.{Column}
@@ -172,7 +172,7 @@ queried_again p q r (found.Plain n) tests e = refl
 queried_again p q r (found.Hyper n) tests e = tests_again p q (table_at r (found.Hyper n)) tests e
 queried_again p q r (found.View n) tests e = starts_again p q (view_at r (found.View n)) tests e
 
--- a statement that isn't refused at one position of a roster is refused at none
+-- a statement that isn't refused at one position of a roster isn't refused at any
 pub refused_at_none : (p q : ℕ) (r : Roster) (s : Stmt) → refusal_of p r s ≡ None → refusal_of q r s ≡ None
 refused_at_none p q r (stmts.Table name cols) e = both_again _ _ _ _ (name_again p q r name (length r.tables)) (columns_again p q (length cols) [] cols) e
 refused_at_none p q r (stmts.Hyper table col interval) e = both_again _ _ _ _ (plain_again p q (found_in r table)) (hyper_again p q _ col interval) e
@@ -216,7 +216,7 @@ view_needed p (found.View n) e = (n, refl)
 
 -- ---- the same at a longer history
 
--- a statement isn't refused at a longer history, and asks for the same there
+-- a statement isn't refused at a longer history, and requests the same there
 pub record Stays (g h : History) (s : Stmt) : Type 0 where
   pub passes : (pos : ℕ) → refusal_of pos (roster h) s ≡ None
   pub action : action_of (roster h) s ≡ action_of (roster g) s
@@ -290,13 +290,13 @@ cut_later g h p view lo hi b ok e =
       action = ap (λ f. actions.Cut (number_of f) lo hi) at;
     }
 
--- ---- relations to be made
+-- ---- relations to be created
 
--- the columns of a table don't depend on where they are looked at
+-- the columns of a table don't depend on the position at which they are read
 pub table_later : (p q : ℕ) (r : Roster) (name : List ℕ) (cols : List Column) → refusal_of p r (stmts.Table name cols) ≡ None → columns_refusal q (length cols) [] cols ≡ None
 table_later p q r name cols e = columns_again p q (length cols) [] cols (neither (name_refusal p r name (length r.tables)) _ e).1
 
--- an aggregate is over the same hypertable, and asks for the same
+-- an aggregate is over the same hypertable, and requests the same
 pub record SameFold (g h : History) (name : List ℕ) (only filled : Bool) (fold : NamedFold) : Type 0 where
   pub passes : (pos : ℕ) → (hypertable_refusal pos (found_in (roster h) fold.table) ⊳ fold_refusal pos true (table_at (roster h) (found_in (roster h) fold.table)) fold) ≡ None
   pub action : action_of (roster h) (stmts.View name only filled fold) ≡ action_of (roster g) (stmts.View name only filled fold)

@@ -1,9 +1,9 @@
--- What follows where something isn't refused.
+-- Consequences of not being refused.
 use Rattle.std.proofs.Common.{◌≡◌, ℕ, Bool, true, false, not, Option, Some, None, is_some, refl}
 use Rattle.ts_model.specs.declared.outcomes.Refusal.{Refusal}
 use Rattle.stmt_check.specs.Refusals.{◌⊳◌, marked_refusal, refusal_if_none}
 
--- neither of two
+-- neither of two is refused
 pub neither : (a b : Option Refusal) → (a ⊳ b) ≡ None → (a ≡ None) × (b ≡ None)
 neither None b e = (refl, e)
 neither (Some r) b e = absurd cc
@@ -16,7 +16,7 @@ pub not_missing : {T : Type 0} (pos code : ℕ) (o : Option T) → refusal_if_no
 not_missing pos code None e = absurd cc
 not_missing pos code (Some t) e = refl
 
--- what had to be is
+-- a condition that wasn't refused is true
 pub has_to_be : (pos code mark : ℕ) (good : Bool) → marked_refusal pos code mark (not good) ≡ None → good ≡ true
 has_to_be pos code mark true e = refl
 has_to_be pos code mark false e = absurd cc

@@ -25,7 +25,7 @@ commits h bytes ops q some few = record {
   is_timely = refl;
 }
 
--- what fits still fits later
+-- an operation that fits still fits later
 stays_of : (g h : History) (bytes : ℕ) (op : Op) (ops : List Op) → Begins g h → bytes ≤ 67108864 → IsQueue g bytes (op ∷ ops) → IsQueue h bytes (op ∷ ops)
 stays_of g h bytes op ops begins few q =
     let before = commits g bytes (op ∷ ops) q (omega arith) few in

@@ -47,7 +47,7 @@ use Rattle.stmt_check.proofs.RosterLaws.{interval_in_range}
 
 -- ---- refusals
 
--- nothing and nothing is nothing
+-- two checks without a refusal have none together
 both_none : (a b : Option Refusal) → a ≡ None → b ≡ None → (a ⊳ b) ≡ None
 both_none a b p q = ap (λ x. x ⊳ b) p ∙ q
 
@@ -66,7 +66,7 @@ not_le n m l = Rattle.std.proofs.lemmas.Bool.lt-leb n m l
 
 -- ---- names
 
--- an item isn't named as those before it, where all names are apart
+-- an item doesn't have the name of an earlier one, if all names are different
 apart_before : (before : List (List ℕ)) (name : List ℕ) (behind : List (List ℕ)) → all_apart (before ++ name ∷ behind) ≡ true → list_any (λ other. same_name other name) before ≡ false
 apart_before [] name behind e = refl
 apart_before (n ∷ before) name behind e =
@@ -223,7 +223,7 @@ width_ready p info f w at =
     shift : (s o : ℤ) → is_width (record { step = s; shift = o }) ≡ true → is_shift s o ≡ true
     shift s o e = grind (arith, ints)
 
--- fewer than 16 columns come before one of at most 16
+-- fewer than 16 columns are before one of at most 16
 few_before : (keys aggs : ℕ) → suc (keys + aggs) < 16 → columns_before keys aggs < 16
 few_before keys aggs l = omega arith
 
@@ -269,7 +269,7 @@ tests_ready : (p : ℕ) (info : TableInfo) (tests : List NamedTest) → AllByRec
 tests_ready p info [] h = refl
 tests_ready p info (t ∷ tests) h = both_none (refusal_if_none p 8 (column_of info t.col)) _ (there p 8 (column_of info t.col) h.0) (tests_ready p info tests h.1)
 
--- what an aggregate that fits says
+-- the facts of an aggregate that fits
 record ViewFits (info : TableInfo) (f : NamedFold) : Type 0 where
   pub width : is_width (record { step = f.step; shift = f.shift }) ≡ true
   pub few : suc (length f.keys + length f.aggs) ≤ 16

@@ -27,7 +27,7 @@ use Rattle.stmt_check.specs.Tables.{is_interval}
 use Rattle.stmt_check.specs.Sound.{RostersAreNumbered}
 use Rattle.ts_schema.proofs.Cases.{all_weaker}
 
--- the time column of a hypertable is there, and its interval is in range
+-- the time column of a hypertable exists, and its interval is in range
 abbrev pub HyperIsSound : List Column → Option HyperInfo → Type 0
 HyperIsSound cols None = Unit {0}
 HyperIsSound cols (Some h) = (h.at < length cols) × (is_interval h.interval ≡ true)
@@ -47,7 +47,7 @@ pub record RosterIsSound (r : Roster) : Type 0 where
 
 -- ---- lists
 
--- what holds of the item at each place holds of all items, and the other way around
+-- a property is true of the item at each place if and only if it is true of all items
 all_by_place : {X : Type 0} (P : X → Type 0) (xs : List X) → ((i : ℕ) (x : X) → slice_get xs i ≡ Some x → P x) → AllByRecursion P xs
 all_by_place P [] at = tt
 all_by_place P (x ∷ xs) at = (at 0 x refl, all_by_place P xs (λ i. at (suc i)))

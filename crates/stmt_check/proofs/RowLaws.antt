@@ -1,4 +1,4 @@
--- Rows that aren't refused fit their hypertable, and take at most 8 bytes for each byte that they are written with.
+-- Rows that aren't refused fit their hypertable, and take at most 8 bytes for each byte of their text.
 use Rattle.std.proofs.Common.{◌≡◌, ◌∙◌, refl, sym, subst, ap, ℕ, zero, suc, ◌+◌, ◌*◌, ◌<◌, ◌≤◌, Bool, true, false, cond, not, ◌&&◌, ◌||◌, List, [], ◌∷◌, map, length, get_or, drop, Option, Some, None, is_some, is_none, arith, ℤ, pos}
 use Rattle.std.specs.Prelude.{nat_le, ◌==◌, unwrap_or, slice_get, sum_by, remove}
 use Rattle.std.specs.List.{list_all, list_any, AllByRecursion}
@@ -67,7 +67,7 @@ named_there name k (n ∷ names) i e = here k n names i (same_name n name) refl 
 pub same_itself : (name : List ℕ) → same_name name name ≡ true
 same_itself name = (bytes_eq-Decides name name).1 refl
 
--- no column passes where no name does
+-- no column passes if no name does
 none_at : (test : List ℕ → Bool) (cols : List Column) (j : ℕ) (c : Column) → list_any test (map (λ d. d.name) cols) ≡ false → slice_get cols j ≡ Some c → test c.name ≡ false
 none_at test [] j c e at = absurd cc
 none_at test (d ∷ cols) j c e at = here test d cols j c (or_parts (test d.name) (list_any test (map (λ x. x.name) cols)) e) (λ i f. none_at test cols i c (or_parts (test d.name) (list_any test (map (λ x. x.name) cols)) e).1 f) at
@@ -102,7 +102,7 @@ mapped_at f [] i x e = absurd cc
 mapped_at f (y ∷ xs) zero x e = let same : y ≡ x = cc in ap (λ z. Some (f z)) same
 mapped_at f (y ∷ xs) (suc i) x e = mapped_at f xs i x e
 
--- at the place of a column's value stands its rule
+-- the rule of a column is at the place of its value
 pub rule_there : (at : ℕ) (cols : List Column) (names : Option (List (List ℕ))) (k : ℕ) (c : Column) (i : ℕ) → all_apart (map (λ d. d.name) cols) ≡ true → slice_get cols k ≡ Some c → place_in names k c ≡ Some i → slice_get (value_rules at cols names) i ≡ Some (rule_at at c k)
 rule_there at cols None k c i a e p =
     let same : k ≡ i = cc in
@@ -113,7 +113,7 @@ rule_there at cols (Some names) k c i a e p =
     let here : slice_get names i ≡ Some c.name = subst (λ (j : ℕ). slice_get names j ≡ Some c.name) (let z : r.0 ≡ i = omega (arith, r.1) in z) r.2 in
     mapped_at (rule_of at cols) names i c.name here ∙ ap Some (named_rule at cols k c a e)
 
--- the value of a column: a time where it is the time, and not NULL where it must not be
+-- the value of a column: a time if it is the time, and not NULL if it must not be
 record ValueIsFine (must time : Bool) (v : Option ℤ) : Type 0 where
   pub some : must ≡ true → is_some v ≡ true
   pub in_range : time ≡ true → is_time (unwrap_or v (pos 0)) ≡ true
@@ -128,14 +128,14 @@ value_is_fine p r (Some v) h e = record { word = h; some = λ m. refl; in_range 
     timed true false t e = absurd cc
     timed false false t e = absurd cc
 
--- what is known of a row that isn't refused
+-- the facts of a row that isn't refused
 record RowPasses (p at : ℕ) (cols : List Column) (names : Option (List (List ℕ))) (values : List (Option ℤ)) : Type 0 where
   pub apart : all_apart (map (λ d. d.name) cols) ≡ true
   pub count : length values ≡ length (value_rules at cols names)
   pub passed : values_refusal p (value_rules at cols names) values ≡ None
   pub proper : AllByRecursion IsValue values
 
--- a column that isn't left out where it must not be has a fine value
+-- a column that isn't left out if it must not be has a fine value
 column_value : (p at : ℕ) (cols : List Column) (names : Option (List (List ℕ))) (values : List (Option ℤ)) (k : ℕ) (c : Column) → RowPasses p at cols names values → slice_get cols k ≡ Some c → ((c.must || at == k) && is_none (place_in names k c)) ≡ false → ValueIsFine (c.must || at == k) (at == k) (value_at values (place_in names k c))
 column_value p at cols names values k c r e left = go (place_in names k c) refl left
   where
@@ -149,7 +149,7 @@ column_value p at cols names values k c r e left = go (place_in names k c) refl 
         let v = by_rule p (value_rules at cols names) values i (rule_at at c k) r.count r.passed (rule_there at cols names k c i r.apart e is) in
         subst (λ (w : Option ℤ). ValueIsFine (c.must || at == k) (at == k) w) (sym (get_or_from_slice_get values i v.value None v.at)) (value_is_fine p (rule_at at c k) v.value (all_at IsValue values i v.value r.proper v.at) v.passed)
 
--- the values of these columns, of which the first has the declared place k
+-- the values of these columns; the first has the declared place k
 abbrev AllFine : ℕ → Option (List (List ℕ)) → List (Option ℤ) → ℕ → List Column → Type 0
 AllFine at names values k [] = Unit {0}
 AllFine at names values k (c ∷ cs) = ValueIsFine (c.must || at == k) (at == k) (value_at values (place_in names k c)) × AllFine at names values (k + 1) cs
@@ -179,14 +179,14 @@ must_fit c None h k = unless_must c.must h
     unless_must false g = refl
 must_fit c (Some v) h k = k
 
--- the values of the columns behind the time fit them
+-- the values of the columns after the time fit them
 fit_behind : (at : ℕ) (names : Option (List (List ℕ))) (values : List (Option ℤ)) (k : ℕ) (cs : List Column) → at < k → AllFine at names values k cs → values_fit cs (map (value_at values) (other_places at names k cs)) ≡ true
 fit_behind at names values k [] lt f = refl
 fit_behind at names values k (c ∷ cs) lt f =
     let apart : (at == k) ≡ false = ne_eqb at k (λ e. omega arith) in
     rw apart (and_from _ _ (must_fit c (value_at values (place_in names k c)) (λ m. f.0.some (or_left c.must (at == k) m)) f.0.word) (fit_behind at names values (k + 1) cs (omega arith) f.1))
 
--- the values of all columns but the time fit them
+-- the values of all columns except the time fit them
 fit_from : (at : ℕ) (names : Option (List (List ℕ))) (values : List (Option ℤ)) (k : ℕ) (cs : List Column) (j : ℕ) → at ≡ k + j → AllFine at names values k cs → values_fit (remove cs j) (map (value_at values) (other_places at names k cs)) ≡ true
 fit_from at names values k [] zero e f = refl
 fit_from at names values k [] (suc j) e f = refl
@@ -217,7 +217,7 @@ abbrev given : List (Option ℕ) → ℕ
 given [] = 0
 given (o ∷ os) = one_if (is_some o) + given os
 
--- how many of these columns have a value, where the first has the declared place k
+-- how many of these columns have a value, if the first has the declared place k
 abbrev taken : Option (List (List ℕ)) → ℕ → List Column → ℕ
 taken names k [] = 0
 taken names k (c ∷ cs) = one_if (is_some (place_in names k c)) + taken names (k + 1) cs
@@ -253,7 +253,7 @@ counted_from at names k (c ∷ cs) (suc j) e lt left =
     let rest = counted_from at names (k + 1) cs j (omega arith) (omega arith) both.1 in
     rw apart (record { length = omega (arith, rest.length); given = omega (arith, rest.given) })
 
--- ---- no more values are given than stand in the row
+-- ---- at most as many values are given as the row has
 
 abbrev same_count : (List ℕ → Bool) → List Column → ℕ
 same_count test [] = 0
@@ -265,7 +265,7 @@ none_the_same test (c ∷ cs) e =
     let both = or_parts (test c.name) (list_any test (map (λ d. d.name) cs)) e in
     omega (arith, ap one_if both.0, none_the_same test cs both.1)
 
--- of columns whose names are apart, at most one has a name
+-- of columns with different names, at most one has a given name
 one_the_same : (name : List ℕ) (cs : List Column) → all_apart (map (λ c. c.name) cs) ≡ true → same_count (same_name name) cs ≤ 1
 one_the_same name [] a = omega arith
 one_the_same name (c ∷ cs) a =
@@ -378,6 +378,6 @@ each_row p def hyper names count k (r ∷ rows) h proper e =
     let written : sum_by row_size (r ∷ rows) ≡ row_size r + sum_by row_size rows = sum_by-cons row_size r rows in
     record { fit = and_from _ _ here.fits rest.fit; size = omega (arith, here.size, rest.size) }
 
--- the rows that an INSERT gives
+-- the rows of an INSERT
 pub rows_are_sound : (p : ℕ) (def : TableDef) (hyper : HyperInfo) (names : Option (List (List ℕ))) (rows : List (List (Option ℤ))) → IsHyperOf hyper.at def.cols → AreProperRows rows → insert_refusal p hyper.at def.cols names rows ≡ None → RowsAreSound def hyper (inserted_rows hyper.at def.cols names rows) (sum_by row_size rows)
 rows_are_sound p def hyper names rows h proper e = each_row p def hyper names (length rows) 0 rows h proper (neither (list_refusal_of p def.cols names) _ e).1

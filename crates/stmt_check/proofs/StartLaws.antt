@@ -1,4 +1,4 @@
--- The starts asked for are those that pass every test, and drop_chunks drops whole chunks.
+-- The starts requested are those that pass every test, and drop_chunks drops whole chunks.
 use Rattle.std.proofs.Common.{◌≡◌, ◌∙◌, refl, sym, ap, ℕ, Bool, true, false, not, ◌&&◌, List, [], ◌∷◌, Some, None, ℤ, pos, ◌+ℤ◌, ◌≤ℤ◌, ◌<ℤ◌, int_le, int_lt, arith}
 use Rattle.std.specs.Int.{int_min, int_max, int_rem_euclid}
 use Rattle.std.specs.List.{list_all}
@@ -23,7 +23,7 @@ use Rattle.stmt_check.proofs.PassedLaws.{neither, has_to_be}
 
 -- ---- starts
 
--- a start between the bounds of a test passes it, and the other way round
+-- a start passes a test if and only if it is between its bounds
 one_test : (c : Cmp) (n b : ℤ) → bounds_start c ≡ true → least ≤ℤ b → b <ℤ greatest → (int_le (from_of c n) b && int_lt b (below_of c n)) ≡ compares c (Some b) n
 one_test Eq n b e low high = same_from_decides {P = b ≡ n} (int_le n b && int_lt b (next n)) (int_eq b n) ((λ t. let l : n ≤ℤ b = grind (arith, ints) in let u : b <ℤ next n = grind (arith, ints) in omega (arith, ints, clamps)), (λ s. let l : n ≤ℤ b = omega (arith, ints) in let u : b <ℤ next n = omega (arith, ints, clamps) in grind (arith, ints))) ((λ t. grind (arith, ints)), (λ s. grind (arith, ints)))
 one_test Ne n b e low high = absurd cc
@@ -34,7 +34,8 @@ one_test Ge n b e low high = let u : int_lt b greatest ≡ true = grind (arith, 
 one_test IsNull n b e low high = absurd cc
 one_test NotNull n b e low high = absurd cc
 
--- b is at or above the greater of two numbers where it is at or above both, and below the lesser where it is below both
+-- b is at or above the greater of two numbers if it is at or above both, and below the lesser if it is below
+-- both
 above_max : (x y b : ℤ) → int_le (int_max x y) b ≡ (int_le x b && int_le y b)
 above_max x y b = same_from_decides {P = (x ≤ℤ b) × (y ≤ℤ b)} (int_le (int_max x y) b) (int_le x b && int_le y b) ((λ t. let l : int_max x y ≤ℤ b = grind (arith, ints) in (omega (arith, ints, clamps), omega (arith, ints, clamps))), (λ s. let p : x ≤ℤ b = s.0 in let q : y ≤ℤ b = s.1 in let l : int_max x y ≤ℤ b = omega (arith, ints, clamps) in grind (arith, ints))) ((λ t. (grind (arith, ints), grind (arith, ints))), (λ s. let p : x ≤ℤ b = s.0 in let q : y ≤ℤ b = s.1 in grind (arith, ints)))
 
@@ -65,7 +66,7 @@ between p def lo hi (t ∷ tests) b e low high =
     ∙ ap (λ x. x && list_all (start_passes b) tests) (regroup (int_le lo b) (int_le from b) (int_lt b hi) (int_lt b below) (start_passes b t) (one_test t.cmp t.num b bounds low high))
     ∙ and_assoc (int_le lo b && int_lt b hi) (start_passes b t) (list_all (start_passes b) tests)
 
--- an end that isn't below the start leaves out nothing
+-- an end that isn't below the start excludes nothing
 ends : (lo hi b : ℤ) → (int_le lo b && int_lt b (int_max lo hi)) ≡ (int_le lo b && int_lt b hi)
 ends lo hi b = same_from_decides {P = (lo ≤ℤ b) × (b <ℤ hi)} (int_le lo b && int_lt b (int_max lo hi)) (int_le lo b && int_lt b hi) ((λ t. let l : lo ≤ℤ b = grind (arith, ints) in let u : b <ℤ int_max lo hi = grind (arith, ints) in (l, omega (arith, ints, clamps))), (λ s. let l : lo ≤ℤ b = s.0 in let u : b <ℤ hi = s.1 in let m : b <ℤ int_max lo hi = omega (arith, ints, clamps) in grind (arith, ints))) ((λ t. (grind (arith, ints), grind (arith, ints))), (λ s. let l : lo ≤ℤ b = s.0 in let u : b <ℤ hi = s.1 in grind (arith, ints)))
 
@@ -77,7 +78,7 @@ starts_pass_each p def tests b e low high =
 
 -- ---- chunks
 
--- a time lies before the chunk of a bound exactly where its chunk ends at or before the bound
+-- a time lies before the chunk of a bound if and only if its chunk ends at or before the bound
 chunk_ends : (interval bound t : ℤ) → pos 0 <ℤ interval → int_lt t (chunk_start interval bound) ≡ int_le (chunk_of interval t).hi bound
 chunk_ends d n t h =
     let of_t = remainder_bounds t d h in

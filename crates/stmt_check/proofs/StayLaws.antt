@@ -1,4 +1,4 @@
--- What a statement's names refer to stays the same as a history grows, and so does what the statement requests.
+-- A statement's names refer to the same relations as a history grows, and the statement requests the same.
 use Rattle.std.proofs.Common.{◌≡◌, ◌∙◌, refl, sym, ap, subst, ℕ, zero, suc, ◌+◌, Bool, true, false, cond, not, List, [], ◌∷◌, ◌++◌, Option, Some, None, is_some, inl, inr}
 use Rattle.std.specs.Prelude.{◌⊎◌, nat_lt, length}
 use Rattle.std.proofs.lemmas.Bool.{and_parts, not-true}
@@ -31,7 +31,7 @@ use Rattle.stmt_check.proofs.ReadyLaws.{nothing_found}
 
 -- ---- tables by their names
 
--- the first table with a name stays it, and a hypertable stays one
+-- the first table with a name stays the first, and a hypertable stays one
 abbrev pub TableStays : Found → Found → Type 0
 TableStays found.None f = Unit {0}
 TableStays (found.Plain n) f = (f ≡ found.Plain n) ⊎ (f ≡ found.Hyper n)
@@ -90,7 +90,7 @@ table_stays {g} name (further {h} {e} b) = table_trans (table_from name 0 (roste
 
 -- ---- aggregates by their names
 
--- the first aggregate with a name stays it
+-- the first aggregate with a name stays the first
 abbrev pub ViewStays : Found → Found → Type 0
 ViewStays found.None f = Unit {0}
 ViewStays (found.Plain n) f = f ≡ found.Plain n
@@ -108,7 +108,7 @@ view_more name k [] us = tt
 view_more name k (v ∷ vs) us =
     elim (same_name v.name name) as (λ b. ViewStays (cond b (found.View k) (view_from name (k + 1) vs)) (cond b (found.View k) (view_from name (k + 1) (vs ++ us)))) [ true ↦ refl | false ↦ view_more name (k + 1) vs us ]
 
--- its mode is no part of its name
+-- its mode isn't part of its name
 view_changed : (name : List ℕ) (k : ℕ) (vs : List ViewDef) (i : ℕ) (only : Bool) → view_from name k (change_at vs i (set_only only)) ≡ view_from name k vs
 view_changed name k [] i only = refl
 view_changed name k (v ∷ vs) zero only = refl
@@ -116,7 +116,7 @@ view_changed name k (v ∷ vs) (suc i) only = ap (λ f. cond (same_name v.name n
 
 -- ---- what is found
 
--- what a table is found as, it is found as first
+-- what a table is found as comes first
 table_first : (a b : Found) (n : ℕ) → or_else a b ≡ found.Hyper n → (b ≡ found.Hyper n → ⊥) → a ≡ found.Hyper n
 table_first found.None b n e other = absurd (other e)
 table_first (found.Plain m) b n e other = e
@@ -129,7 +129,7 @@ plain_first (found.Plain m) b n e other = e
 plain_first (found.Hyper m) b n e other = e
 plain_first (found.View m) b n e other = e
 
--- an aggregate is found as nothing else
+-- an aggregate is found only as an aggregate
 no_hyper : (name : List ℕ) (k : ℕ) (vs : List ViewDef) (n : ℕ) → view_from name k vs ≡ found.Hyper n → ⊥
 no_hyper name k [] n e = absurd cc
 no_hyper name k (v ∷ vs) n e = elim (same_name v.name name) as (λ b. cond b (found.View k) (view_from name (k + 1) vs) ≡ found.Hyper n → ⊥) [ true ↦ λ f. absurd cc | false ↦ λ f. no_hyper name (k + 1) vs n f ] e
@@ -138,7 +138,7 @@ no_plain : (name : List ℕ) (k : ℕ) (vs : List ViewDef) (n : ℕ) → view_fr
 no_plain name k [] n e = absurd cc
 no_plain name k (v ∷ vs) n e = elim (same_name v.name name) as (λ b. cond b (found.View k) (view_from name (k + 1) vs) ≡ found.Plain n → ⊥) [ true ↦ λ f. absurd cc | false ↦ λ f. no_plain name (k + 1) vs n f ] e
 
--- a table is found as no aggregate
+-- a table isn't found as an aggregate
 no_view : (name : List ℕ) (k : ℕ) (ts : List TableInfo) (n : ℕ) → table_from name k ts ≡ found.View n → ⊥
 no_view name k [] n e = absurd cc
 no_view name k (t ∷ ts) n e =
@@ -183,7 +183,7 @@ view_parts (found.Plain m) b n e other = absurd cc
 view_parts (found.Hyper m) b n e other = absurd cc
 view_parts (found.View m) b n e other = absurd (other e)
 
--- a table with another name changes nothing of what isn't found
+-- a table with another name doesn't change that nothing is found
 other_table : (name : List ℕ) (k : ℕ) (ts : List TableInfo) (def : TableDef) → same_name def.name name ≡ false → table_from name k ts ≡ found.None → table_from name k (ts ++ record { def = def; hyper = None } ∷ []) ≡ found.None
 other_table name k [] def other e = ap (λ b. cond b (found.Plain k) found.None) other
 other_table name k (t ∷ ts) def other e =
@@ -192,7 +192,7 @@ other_table name k (t ∷ ts) def other e =
       | false ↦ λ f. other_table name (k + 1) ts def other f
     ] e
 
--- nor does a hypertable
+-- and neither does a hypertable
 none_changed : (name : List ℕ) (k : ℕ) (ts : List TableInfo) (i : ℕ) (hyper : HyperInfo) → table_from name k ts ≡ found.None → table_from name k (change_at ts i (made_hyper hyper)) ≡ found.None
 none_changed name k [] i hyper e = refl
 none_changed name k (t ∷ ts) zero hyper e =

@@ -1,4 +1,4 @@
--- Going over a list by a place and what is left.
+-- Iterating over a list by a place and the rest.
 use Rattle.std.proofs.Common.{◌≡◌, ◌∙◌, refl, ap, sym, subst, arith, ℕ, ℤ, ◌+◌, ◌<◌, List, [], ◌∷◌, length, take, drop, get_or, ◌-◌, ◌≤◌, ◌++◌, nat_le, Bool, ◌&&◌, Option, None, ◌⊎◌, inl, inr}
 use Rattle.std.proofs.lemmas.List.{append_assoc, drop_more, take_more, length-drop, length-append, length-map, drop-drop}
 use Rattle.std.proofs.Math.Seq.{take-append_seam, drop-append_seam}
@@ -15,7 +15,7 @@ use Rattle.ts_model.specs.declared.tables.TableInfo.{TableInfo}
 use Rattle.stmt_syntax.specs.declared.statements.NamedAgg.{NamedAgg}
 use Rattle.stmt_check.specs.Folds.{aggregate_name, aggregate_refusal, aggregates_refusal, columns_before, is_key, is_taken, key_refusal, keys_refusal}
 
--- a function of the items before a place and of those from it on, one item further
+-- a function of the items before a place and of those from it on, at the next place
 before_and_after : {X Y : Type 0} (F : List X → List X → Y) (xs : List X) (i : ℕ) (d : X) → i < length xs → F (take i xs) (drop i xs) ≡ F (take i xs) (get_or xs i d ∷ drop (i + 1) xs)
 before_and_after F xs i d h = ap (F (take i xs)) (drop_more xs i d h)
 
@@ -43,7 +43,7 @@ aggregates_step pos distinct n info b ks xs i d h =
     before_and_after (aggregates_refusal pos distinct n info b ks) xs i d h
     ∙ ap (λ before. aggregate_refusal pos n info (columns_before (length ks) (length (take i xs))) (distinct && is_taken b ks (take i xs) (aggregate_name a)) a ⊳ aggregates_refusal pos distinct n info b ks before (drop (i + 1) xs)) (sym (take_more xs i d h))
 
--- nothing is refused where no rule is left, or no value
+-- nothing is refused if no rule is left, or no value
 pub no_value_left : (pos : ℕ) (rules : List Rule) (values : List (Option ℤ)) → (length rules ≡ 0) ⊎ (length values ≡ 0) → values_refusal pos rules values ≡ None
 no_value_left pos [] values none = refl
 no_value_left pos (rule ∷ rules) [] none = refl
@@ -55,7 +55,7 @@ no_value_left pos (rule ∷ rules) (value ∷ values) none =
 
 -- ---- parts of a block
 
--- what stands in front of what is left of a block, and what is left behind it
+-- the front of the rest of a block, and what is left after it
 pub record IsPart {X : Type 0} (block part rest : List X) (from to : ℕ) : Type 0 where
   pub order : from ≤ to
   pub within : to ≤ length block
@@ -74,14 +74,14 @@ next_part block part rest from le h =
       left = sym (drop-drop (length part) from block) ∙ ap (drop (length part)) h ∙ drop-append_seam part rest;
     }
 
--- the values of the next row stand in front of what is left of the block
+-- the values of the next row are at the front of the rest of the block
 pub next_values : (shape : Shape) (block : List (Option ℤ)) (rows : List (List (Option ℤ))) (values : List (Option ℤ)) (rest : List (List (Option ℤ))) (from n : ℕ) → from ≤ length block → drop from block ≡ flat_map (others_of shape) rows → rows ≡ values ∷ rest → n ≡ length shape.others → IsPart block (others_of shape values) (flat_map (others_of shape) rest) from (from + n)
 next_values shape block rows values rest from n le left first count =
     let size : n ≡ length (others_of shape values) = count ∙ sym (length-map shape.others (value_at values)) in
     subst (λ k. IsPart block (others_of shape values) (flat_map (others_of shape) rest) from (from + k)) (sym size)
     (next_part block (others_of shape values) (flat_map (others_of shape) rest) from le (left ∙ ap (flat_map (others_of shape)) first))
 
--- one row more is made, and one less is left
+-- one more row is built, and one less is left
 pub row_made : (shape : Shape) (made new all : List Row) (rows : List (List (Option ℤ))) (values : List (Option ℤ)) (rest : List (List (Option ℤ))) (row : Row) → made ++ rows_of shape rows ≡ all → rows ≡ values ∷ rest → row ≡ row_of shape.time shape.others values → new ≡ made ++ row ∷ [] → new ++ rows_of shape rest ≡ all
 row_made shape made new all rows values rest row before first is more =
     ap (λ n. n ++ rows_of shape rest) more

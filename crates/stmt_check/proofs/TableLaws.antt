@@ -25,7 +25,7 @@ pub any_column : (cols : List Column) (name : List ℕ) → is_column name cols 
 any_column [] name = refl
 any_column (d ∷ cols) name = ap (λ b. same_name d.name name || b) (any_column cols name)
 
--- columns that aren't refused, behind those before
+-- columns that aren't refused, after those before
 record Columns (before cols : List Column) : Type 0 where
   pub apart : all_apart (names_of before ++ names_of cols) ≡ true
   pub few : length before ≤ 16 → length before + length cols ≤ 16

@@ -1,4 +1,4 @@
--- What a statement's first refusal is, and what it asks for where there is none.
+-- A statement's first refusal, and what it requests if there is none.
 use Rattle.std.specs.Prelude.{◌≡◌, ℕ, ℤ, pos as nonneg, true, false, List, [], ◌∷◌, length, slice_index_or, Option, Some, None, unwrap_or, ⊤, IsTrue, ◌<◌, ◌^◌, Result}
 use Rattle.std.specs.List.{AllByRecursion}
 use Rattle.ts_model.specs.declared.events.Op.TheVariants as ops
@@ -106,18 +106,18 @@ refusal_of pos roster (stmts.Calendar number unit fold) =
 refusal_of pos roster (stmts.Rows table tests) =
     query_refusal pos (found_in roster table) ⊳ rows_query_refusal pos roster (found_in roster table) tests
 
--- what SELECT * asks of what was found
+-- the query of SELECT * on what was found
 abbrev pub rows_query : Roster → Found → List NamedTest → Query
 rows_query roster found.None tests = queries.Rows 0 []
 rows_query roster (found.Plain n) tests = queries.Rows n []
 rows_query roster (found.Hyper n) tests = queries.Rows n (tests_of (table_at roster (found.Hyper n)) tests)
 rows_query roster (found.View n) tests = queries.Aggregate n (starts_of tests)
 
--- the rows that an INSERT gives a hypertable
+-- the rows of an INSERT into a hypertable
 abbrev pub rows_into : TableInfo → Option (List (List ℕ)) → List (List (Option ℤ)) → List Row
 rows_into info cols rows = inserted_rows (time_of info.hyper) info.def.cols cols rows
 
--- what a statement asks for, with its names resolved
+-- the request of a statement, with its names resolved
 abbrev pub action_of : Roster → Stmt → Action
 action_of roster (stmts.Table name cols) = actions.Table (record { name = name; cols = cols })
 action_of roster (stmts.Hyper table col interval) =
@@ -158,18 +158,18 @@ action_of roster (stmts.Calendar number unit fold) =
     (calendar_of (table_at roster (found_in roster fold.table)) fold)
 action_of roster (stmts.Rows table tests) = actions.Ask (rows_query roster (found_in roster table) tests)
 
--- a statement is resolved: what it asks for where nothing is refused, and else the first refusal
+-- a statement is resolved: its request if nothing is refused, and otherwise the first refusal
 abbrev pub Resolves : ℕ → Roster → Stmt → Result Action ResolveStop → Type 0
 Resolves pos roster stmt result = Checks (refusal_of pos roster stmt) (action_of roster stmt) result
 
--- the check of a statement: the action where nothing is refused, and else the first refusal
+-- the check of a statement: the action if nothing is refused, and otherwise the first refusal
 abbrev pub IsChecked : ℕ → Roster → Stmt → Checked → Type 0
 IsChecked pos roster stmt (checked.Ready action) =
     (refusal_of pos roster stmt ≡ None) × (action ≡ action_of roster stmt)
 IsChecked pos roster stmt (checked.Refused r) = refusal_of pos roster stmt ≡ Some r
 IsChecked pos roster stmt checked.NoMemory = ⊤
 
--- numbers of 32 bits serve for all relations and their columns, and intervals are in range
+-- 32 bits suffice to number all relations and their columns, and intervals are in range
 pub record IsNumbered (roster : Roster) : Type 0 where
   pub relations : CanBeNumbered roster
   pub columns : AllByRecursion (λ t. length t.def.cols < 2 ^ 32) roster.tables

@@ -25,11 +25,11 @@ use Rattle.stmt_check.specs.declared.actions.ResolveStop.{ResolveStop}
 use Rattle.stmt_check.specs.Results.{Checks}
 use Rattle.ts_bucket.specs.declared.widths.Width.{Width}
 
--- the number of a column, where it is there
+-- the number of a column, if it exists
 abbrev pub number_or_zero : TableInfo → List ℕ → ℕ
 number_or_zero info name = unwrap_or (column_of info name) 0
 
--- tests from left to right: each column is there
+-- tests from left to right: each column exists
 abbrev pub tests_refusal : ℕ → TableInfo → List NamedTest → Option Refusal
 tests_refusal pos info [] = None
 tests_refusal pos info (t ∷ ts) = refusal_if_none pos no_column (column_of info t.col) ⊳ tests_refusal pos info ts
@@ -42,7 +42,7 @@ test_of info t = record { col = number_or_zero info t.col; cmp = t.cmp; num = t.
 abbrev pub tests_of : TableInfo → List NamedTest → List Test
 tests_of info tests = map (test_of info) tests
 
--- the name of a function, which names its column where no other name is given
+-- the name of a function, which names its column if no other name is given
 abbrev pub function_name : Fun → List ℕ
 function_name CountAll = codes "count"
 function_name Count = codes "count"
@@ -67,24 +67,24 @@ is_aggregate aggs name = list_any (λ a. same_name (aggregate_name a) name) aggs
 abbrev pub is_taken : List ℕ → List (List ℕ) → List NamedAgg → List ℕ → Bool
 is_taken bucket keys before name = is_key bucket keys name || is_aggregate before name
 
--- an aggregate's argument is there
+-- an aggregate's argument exists
 abbrev pub argument_refusal : ℕ → TableInfo → Option (List ℕ) → Option Refusal
 argument_refusal pos info None = None
 argument_refusal pos info (Some col) = refusal_if_none pos no_column (column_of info col)
 
--- how many output columns the bucket, so many keys and so many aggregates are, as a count of 64 bits
+-- the number of output columns: the bucket, these keys and these aggregates, as a count of 64 bits
 abbrev pub columns_before : ℕ → ℕ → ℕ
 columns_before keys aggs = raised_by aggs (raised_by keys 1)
 
--- one aggregate after so many columns, whose name is taken where it has to differ: its function's word, which names
--- it without AS, its argument, the word after AS
+-- one aggregate after this many columns, whose name is taken if it must differ. The checks are: its function's
+-- word, which names it without AS; its argument; the word after AS
 abbrev pub aggregate_refusal : ℕ → ℕ → TableInfo → ℕ → Bool → NamedAgg → Option Refusal
 aggregate_refusal pos count info others repeats a =
     refusal_if pos name_taken (is_none a.name && repeats) ⊳ marked_refusal pos too_many count (nat_le most_columns others)
     ⊳ argument_refusal pos info a.col
     ⊳ refusal_if pos name_taken (is_some a.name && repeats)
 
--- the aggregates from left to right, after a bucket, keys and the aggregates before; `distinct` where names have to
+-- the aggregates from left to right, after a bucket, keys and the aggregates before; `distinct` if names must
 -- differ
 abbrev pub aggregates_refusal :
     ℕ → Bool → ℕ → TableInfo → List ℕ → List (List ℕ) → List NamedAgg → List NamedAgg → Option Refusal
@@ -94,7 +94,7 @@ aggregates_refusal pos distinct count info bucket keys before (a ∷ left) =
     (distinct && is_taken bucket keys before (aggregate_name a)) a
     ⊳ aggregates_refusal pos distinct count info bucket keys (before ++ a ∷ []) left
 
--- one key after so many columns, whose name is taken where it has to differ
+-- one key after this many columns, whose name is taken if it must differ
 abbrev pub key_refusal : ℕ → ℕ → TableInfo → ℕ → Bool → List ℕ → Option Refusal
 key_refusal pos count info others repeats key =
     refusal_if pos name_taken repeats ⊳ refusal_if_none pos no_column (column_of info key)
@@ -115,7 +115,7 @@ is_step n = int_lt (nonneg 0) n && int_le n max_step
 abbrev pub is_shift : ℤ → ℤ → Bool
 is_shift step n = int_le (nonneg 0) n && int_lt n step
 
--- the name of the head's column: the one after AS, or the head's own word
+-- the name of the head's column: the one after AS, or the head's default name
 abbrev pub head_name : List ℕ → NamedFold → List ℕ
 head_name word f = unwrap_or f.name word
 
@@ -123,15 +123,15 @@ head_name word f = unwrap_or f.name word
 abbrev pub bucket_column : NamedFold → List ℕ
 bucket_column f = head_name bucket_word f
 
--- the names of the output columns, of which the head's is the first
+-- the names of the output columns; the head's is the first
 abbrev pub names_after : List ℕ → NamedFold → List (List ℕ)
 names_after head f = (head ∷ f.keys) ++ map aggregate_name f.aggs
 
--- the names of the output columns of a fold, of which the bucket's is the first
+-- the names of the output columns of a fold; the bucket's is the first
 abbrev pub output_names : NamedFold → List (List ℕ)
 output_names f = names_after (bucket_column f) f
 
--- how many output columns there are
+-- the number of output columns
 abbrev pub output_count : NamedFold → ℕ
 output_count f = columns_before (length f.keys) (length f.aggs)
 
@@ -151,8 +151,8 @@ width_refusal pos info f =
 abbrev pub width_of : NamedFold → Width
 width_of f = record { step = f.step; shift = f.shift }
 
--- the rest of a fold behind its head, whose column has this name, from left to right; `distinct` where output names
--- have to differ
+-- the rest of a fold after its head, whose column has this name, from left to right; `distinct` if output names
+-- must differ
 abbrev pub rest_refusal : ℕ → Bool → List ℕ → TableInfo → NamedFold → Option Refusal
 rest_refusal pos distinct head info f =
     keys_refusal pos distinct (output_count f) info head [] f.keys
@@ -163,7 +163,7 @@ rest_refusal pos distinct head info f =
 abbrev pub fold_refusal : ℕ → Bool → TableInfo → NamedFold → Option Refusal
 fold_refusal pos distinct info f = width_refusal pos info f ⊳ rest_refusal pos distinct (bucket_column f) info f
 
--- how many units a bucket of the calendar has, where that is from 1 to 1,200
+-- how many units a bucket of the calendar has, if that is from 1 to 1,200
 abbrev pub unit_count : ℤ → Option ℕ
 unit_count n = if int_le (nonneg 1) n && int_le n (nonneg 1200) then Some (unsigned_abs n) else None
 
@@ -210,7 +210,7 @@ fold_of info f = record {
   tests = tests_of info f.tests;
 }
 
--- a fold by buckets of the calendar with the numbers of its columns, in a width that isn't looked at
+-- a fold by buckets of the calendar with the numbers of its columns, with any width
 abbrev pub calendar_of : TableInfo → NamedFold → Fold
 calendar_of info f = record {
   width = record { step = nonneg 1; shift = nonneg 0 };
@@ -230,7 +230,7 @@ abbrev pub ChecksKeys : ℕ → Bool → List ℕ → TableInfo → NamedFold �
 ChecksKeys pos distinct head info f result =
     Checks (keys_refusal pos distinct (output_count f) info head [] f.keys) (map (number_or_zero info) f.keys) result
 
--- one aggregate after so many columns with the number of its column, or its refusal
+-- one aggregate after this many columns, with the number of its column, or its refusal
 abbrev pub ChecksAggregate : ℕ → ℕ → TableInfo → ℕ → Bool → NamedAgg → Result Agg ResolveStop → Type 0
 ChecksAggregate pos count info others repeats a result =
     Checks (aggregate_refusal pos count info others repeats a) (aggregate_of info a) result

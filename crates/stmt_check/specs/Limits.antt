@@ -1,4 +1,4 @@
--- How many rows an INSERT may have.
+-- The greatest number of rows of an INSERT.
 use Rattle.std.specs.Prelude.{ℕ}
 
 -- the most rows of one INSERT

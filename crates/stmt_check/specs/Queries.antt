@@ -1,4 +1,4 @@
--- The buckets of an aggregate that tests ask for, and the chunks below a bound.
+-- The buckets of an aggregate that tests request, and the chunks below a bound.
 use Rattle.std.specs.Prelude.{ℕ, ◌==◌, Bool, true, false, not, ◌&&◌, ℤ, pos as nonneg, ◌+ℤ◌, List, [], ◌∷◌, Option, Some, None}
 use Rattle.std.specs.Int.{int_max, int_min}
 use Rattle.ts_bucket.specs.WholeSpans.{least, greatest}
@@ -15,7 +15,7 @@ use Rattle.ts_catalog.specs.Columns.{view_column_of}
 use Rattle.stmt_syntax.specs.declared.statements.NamedTest.{NamedTest}
 use Rattle.stmt_check.specs.Refusals.{◌⊳◌, refusal_if}
 
--- the next number, where there is one of 64 bits
+-- the next number, if it fits 64 bits
 abbrev pub next : ℤ → ℤ
 next n = int_min (n +ℤ nonneg 1) greatest
 
@@ -42,7 +42,7 @@ starts_refusal pos def (t ∷ ts) =
     refusal_if pos no_column (not (is_bucket_column (view_column_of def t.col) && bounds_start t.cmp))
     ⊳ starts_refusal pos def ts
 
--- the least start that a test lets pass
+-- the least start that passes a test
 abbrev pub from_of : Cmp → ℤ → ℤ
 from_of Eq n = n
 from_of Ne n = least
@@ -53,7 +53,7 @@ from_of Ge n = n
 from_of IsNull n = least
 from_of NotNull n = least
 
--- the number below which starts lie that a test lets pass
+-- the number below which starts lie that pass a test
 abbrev pub below_of : Cmp → ℤ → ℤ
 below_of Eq n = next n
 below_of Ne n = greatest
@@ -74,7 +74,7 @@ abbrev pub below_all : ℤ → List NamedTest → ℤ
 below_all hi [] = hi
 below_all hi (t ∷ ts) = below_all (int_min hi (below_of t.cmp t.num)) ts
 
--- the starts that all tests let pass
+-- the starts that pass all tests
 abbrev pub starts_of : List NamedTest → SpanValue
 starts_of tests = let lo = from_all least tests in record { lo = lo; hi = int_max lo (below_all greatest tests) }
 
@@ -83,6 +83,6 @@ abbrev pub bound_refusal : ℕ → Option ℤ → Option Refusal
 bound_refusal pos None = None
 bound_refusal pos (Some t) = refusal_if pos bad_time (not (is_time t))
 
--- the test that drop_chunks puts: the time lies before the chunk that holds n
+-- the test that drop_chunks applies: the time lies before the chunk that holds n
 abbrev pub drop_test : ℤ → ℤ → Test
 drop_test interval n = record { col = 0; cmp = Lt; num = chunk_start interval n }

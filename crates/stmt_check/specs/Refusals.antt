@@ -1,4 +1,4 @@
--- Refusals in the order of the things looked at.
+-- Refusals in the order of the checks.
 use Rattle.std.specs.Prelude.{ℕ, suc, Bool, true, false, not, nat_le, List, Option, Some, None, if◌then◌else◌, is_none}
 use Rattle.ts_model.specs.Numbers.{no_relation, name_taken, not_hypertable, too_many, not_aggregate}
 use Rattle.ts_model.specs.Limits.{most_relations}
@@ -9,20 +9,20 @@ use Rattle.ts_catalog.specs.declared.relations.Found.TheVariants as found
 use Rattle.ts_catalog.specs.Relations.{found_in}
 
 infixr 4 ◌⊳◌
--- a, or b where a is nothing: what is looked at first is refused first
+-- a, or b if a is nothing: what is checked first is refused first
 abbrev pub ◌⊳◌ : Option Refusal → Option Refusal → Option Refusal
 None ⊳ b = b
 (Some r) ⊳ b = Some r
 
--- the refusal with this number and mark, where something is wrong
+-- the refusal with this number and mark, if something is wrong
 abbrev pub marked_refusal : ℕ → ℕ → ℕ → Bool → Option Refusal
 marked_refusal pos code mark wrong = if wrong then Some (record { code = code; pos = pos; mark = mark }) else None
 
--- the refusal with this number, where something is wrong
+-- the refusal with this number, if something is wrong
 abbrev pub refusal_if : ℕ → ℕ → Bool → Option Refusal
 refusal_if pos code wrong = marked_refusal pos code 0 wrong
 
--- something that has to be there and isn't
+-- something that must exist but doesn't
 abbrev pub refusal_if_none : {T : Type 0} → ℕ → ℕ → Option T → Option Refusal
 refusal_if_none pos code o = refusal_if pos code (is_none o)
 
@@ -33,34 +33,35 @@ finds_nothing (found.Plain n) = false
 finds_nothing (found.Hyper n) = false
 finds_nothing (found.View n) = false
 
--- a relation to be made has a new name, and of its kind there are fewer than there may be
+-- a relation to be created has a new name, and its kind hasn't reached its limit
 abbrev pub name_refusal : ℕ → Roster → List ℕ → ℕ → Option Refusal
 name_refusal pos roster name there =
     refusal_if pos name_taken (not (finds_nothing (found_in roster name)))
     ⊳ marked_refusal pos too_many (suc most_relations) (nat_le most_relations there)
 
--- where a hypertable is needed: the name refers to nothing, or to something else
+-- the refusal if a hypertable is needed: the name refers to nothing, or to something else
 abbrev pub hypertable_refusal : ℕ → Found → Option Refusal
 hypertable_refusal pos found.None = refusal_if pos no_relation true
 hypertable_refusal pos (found.Plain n) = refusal_if pos not_hypertable true
 hypertable_refusal pos (found.Hyper n) = None
 hypertable_refusal pos (found.View n) = refusal_if pos not_hypertable true
 
--- where a table will become a hypertable: the name refers to nothing, to an aggregate, or to a hypertable
+-- the refusal if a table will become a hypertable: the name refers to nothing, to an aggregate, or to a
+-- hypertable
 abbrev pub plain_refusal : ℕ → Found → Option Refusal
 plain_refusal pos found.None = refusal_if pos no_relation true
 plain_refusal pos (found.Plain n) = None
 plain_refusal pos (found.Hyper n) = refusal_if pos name_taken true
 plain_refusal pos (found.View n) = refusal_if pos not_hypertable true
 
--- where an aggregate is needed
+-- the refusal if an aggregate is needed
 abbrev pub view_refusal : ℕ → Found → Option Refusal
 view_refusal pos found.None = refusal_if pos no_relation true
 view_refusal pos (found.Plain n) = refusal_if pos not_aggregate true
 view_refusal pos (found.Hyper n) = refusal_if pos not_aggregate true
 view_refusal pos (found.View n) = None
 
--- where something that can be queried is needed
+-- the refusal if something that can be queried is needed
 abbrev pub query_refusal : ℕ → Found → Option Refusal
 query_refusal pos found.None = refusal_if pos no_relation true
 query_refusal pos (found.Plain n) = refusal_if pos not_hypertable true

@@ -1,5 +1,5 @@
--- What a statement that isn't refused asks for: an event that may come next, a window of an aggregate, or a query
--- that can be asked.
+-- What an unrefused statement requests: an event that may come next, a window of an aggregate, or a query that
+-- can be asked.
 use Rattle.std.specs.Prelude.{◌≡◌, ℕ, ◌+◌, ◌*◌, ◌<◌, ◌≤◌, ℤ, List, [], ◌∷◌, ◌++◌, length, sum_by, Option, Some, None, option_map, IsTrue, IsSome, true}
 use Rattle.std.specs.List.{list_all}
 use Rattle.std.specs.Option.{ForSome}
@@ -31,7 +31,7 @@ pub record MayCome (h : History) (e : Event) : Type 0 where
   pub is_sound : IsTrue (sound h e)
   pub is_timely : IsTrue (timely_at h e)
 
--- an aggregate may be made, and its width is one
+-- an aggregate may be created, and its width is in range
 pub record MayBeMade (h : History) (def : ViewDef) : Type 0 where
   pub event : MayCome h (events.View def)
   pub width : IsWidth def.fold.width
@@ -42,14 +42,14 @@ pub record IsOperation (h : History) (bytes : ℕ) (op : Op) : Type 0 where
   pub fits : IsTrue (op_fits (roster h) op)
   pub size : op_bytes op ≤ 8 * bytes
 
--- a window of an aggregate that is there
+-- a window of an existing aggregate
 pub record IsWindow (h : History) (view : ℕ) (lo hi : Option ℤ) : Type 0 where
   pub there : IsSome (view_of (roster h) view)
   pub low : ForSome lo (λ t. IsTrue (is_time t))
   pub high : ForSome hi (λ t. IsTrue (is_time t))
 
--- a grouping by buckets of the calendar can be asked: it is of a hypertable with this time column, on columns that are
--- there
+-- a grouping by buckets of the calendar can be asked: it is of a hypertable with this time column, on existing
+-- columns
 pub record IsCalendar (h : History) (table number : ℕ) (unit : List ℕ) (at : ℕ) (fold : Fold) : Type 0 where
   pub in_range : (1 ≤ number) × (number ≤ 1200)
   pub known : IsTrue (is_unit unit)
@@ -57,7 +57,7 @@ pub record IsCalendar (h : History) (table number : ℕ) (unit : List ℕ) (at :
   pub query : IsTrue (can_ask (roster h) (Buckets table fold))
   pub columns : IsTrue (columns_are_there most_columns fold)
 
--- what an action from a text of so many bytes asks for can be done at a history
+-- what an action from a text of this many bytes requests can be done at a history
 abbrev pub IsSound : History → ℕ → Action → Type 0
 IsSound h bytes (actions.Table def) = MayCome h (events.Table def)
 IsSound h bytes (actions.Hyper table hyper) = MayCome h (events.Hyper table hyper)
@@ -75,25 +75,26 @@ IsSound h bytes actions.Rollback = Unit {0}
 IsSound h bytes (actions.Calendar table number unit at fold) = IsCalendar h table number unit at fold
 IsSound h bytes (actions.Ask query) = IsTrue (can_ask (roster h) query)
 
--- a statement of a text of at most 65,536 bytes that isn't refused at an allowed history asks for something sound there
+-- a statement of a text of at most 65,536 bytes that isn't refused at an allowed history requests something
+-- sound there
 abbrev pub ActionsAreSound : Type 0
 ActionsAreSound =
     (h : History) (pos bytes : ℕ) (s : Stmt) → all_allowed h ≡ true → IsWritten bytes s → bytes ≤ longest_line
     → refusal_of pos (roster h) s ≡ None → IsSound h bytes (action_of (roster h) s)
 
--- the roster of an allowed history can be checked against
+-- statements can be checked against the roster of an allowed history
 abbrev pub RostersAreNumbered : Type 0
 RostersAreNumbered = (h : History) → all_allowed h ≡ true → IsNumbered (roster h)
 
 -- ---- queues
 
--- operations that may be committed together, from texts of so many bytes
+-- operations that may be committed together, from texts of this many bytes
 pub record IsQueue (h : History) (bytes : ℕ) (ops : List Op) : Type 0 where
   pub fits : IsTrue (list_all (op_fits (roster h)) ops)
   pub size : sum_by op_bytes ops ≤ 8 * bytes
 
--- a queue begins with nothing, takes an operation more, stays as a history grows, and can be committed while its
--- texts have at most 2 ^ 26 bytes
+-- a queue is empty at first, accepts one more operation, and stays valid as a history grows; it can be
+-- committed while its texts have at most 2 ^ 26 bytes
 pub record QueuesAreSound : Type 0 where
   pub begins : (h : History) → IsQueue h 0 []
   pub grows : (h : History) (bytes more : ℕ) (ops : List Op) (op : Op) → IsQueue h bytes ops → IsOperation h more op

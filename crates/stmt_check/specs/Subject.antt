@@ -1,4 +1,4 @@
--- Laws of checks in the words of what a statement means.
+-- Laws of checks, stated by the meaning of a statement.
 use Rattle.std.specs.Prelude.{◌≡◌, ℕ, zero, true, Bool, ℤ, ◌≤ℤ◌, ◌<ℤ◌, int_le, List, [], ◌∷◌, slice_get, slice_index_or, Option, Some, None, is_some, IfSome, if◌then◌else◌}
 use Rattle.std.specs.List.{list_all, AllByRecursion}
 use Rattle.ts_bucket.specs.Chunks.{IsInterval, chunk_of}
@@ -30,14 +30,14 @@ use Rattle.stmt_check.specs.Rows.{insert_refusal, inserted_rows}
 abbrev pub start_passes : ℤ → NamedTest → Bool
 start_passes b t = compares t.cmp (Some b) t.num
 
--- the starts that a query of an aggregate asks for are exactly those that pass every test; no bucket starts at the
--- greatest number of 64 bits
+-- the starts that a query of an aggregate requests are exactly those that pass every test; no bucket starts at
+-- the greatest number of 64 bits
 abbrev pub StartsPassEach : Type 0
 StartsPassEach =
     (pos : ℕ) (def : ViewDef) (tests : List NamedTest) (b : ℤ) → starts_refusal pos def tests ≡ None → least ≤ℤ b
     → b <ℤ greatest → in_span (starts_of tests) b ≡ list_all (start_passes b) tests
 
--- drop_chunks takes away the rows of the chunks that end at or before its bound
+-- drop_chunks removes the rows of the chunks that end at or before its bound
 abbrev pub DropsWholeChunks : Type 0
 DropsWholeChunks =
     (interval bound : ℤ) (row : Row) → IsInterval interval
@@ -45,19 +45,19 @@ DropsWholeChunks =
 
 -- ---- which values
 
--- the value that stands under a name, or NULL
+-- the value written under a name, or NULL
 abbrev pub value_named : List (List ℕ) → List (Option ℤ) → List ℕ → Option ℤ
 value_named [] values name = None
 value_named (n ∷ names) [] name = None
 value_named (n ∷ names) (v ∷ values) name = if same_name n name then v else value_named names values name
 
--- the value that a row's values have for the column with declared place k: the one under its name where columns are
--- listed, and else the one at its place
+-- the value that a row's values have for the column with declared place k: the one under its name if columns
+-- are listed, and otherwise the one at its place
 abbrev pub value_written : Option (List (List ℕ)) → List (Option ℤ) → ℕ → Column → Option ℤ
 value_written None values k c = slice_index_or values k None
 value_written (Some names) values k c = value_named names values c.name
 
--- the value written for a column arrives in that column, and a column that is left out is NULL
+-- the value written for a column arrives in that column, and an omitted column is NULL
 abbrev pub ValuesArrive : Type 0
 ValuesArrive =
     (pos at : ℕ) (cols : List Column) (names : Option (List (List ℕ))) (rows : List (List (Option ℤ))) (i k : ℕ)
@@ -69,15 +69,15 @@ ValuesArrive =
 
 -- ---- what isn't refused
 
--- the columns that a fold names are there, and its bucket is over the time column
+-- the columns that a fold names exist, and its bucket is over the time column
 pub record NamesColumns (info : TableInfo) (f : NamedFold) : Type 0 where
   pub time : column_of info f.at ≡ Some zero
   pub keys : AllByRecursion (λ k. is_some (column_of info k) ≡ true) f.keys
   pub aggs : AllByRecursion (λ a. IfSome a.col (λ c. is_some (column_of info c) ≡ true)) f.aggs
   pub tests : AllByRecursion (λ t. is_some (column_of info t.col) ≡ true) f.tests
 
--- a CREATE TABLE, a hypertable and an aggregate whose event would be allowed aren't refused, where the names that
--- they use are there
+-- a CREATE TABLE, a hypertable and an aggregate whose event would be allowed aren't refused, if the names that
+-- they use exist
 pub record AllowedIsReady : Type 0 where
   pub tables : (h : History) (pos : ℕ) (name : List ℕ) (cols : List Column)
       → allowed h (events.Table (record { name = name; cols = cols })) ≡ true

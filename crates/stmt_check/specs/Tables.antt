@@ -1,4 +1,4 @@
--- Tables and hypertables to be made.
+-- Tables and hypertables to be created.
 use Rattle.std.specs.Prelude.{ℕ, Bool, not, nat_le, ℤ, pos as nonneg, List, [], ◌∷◌, ◌++◌, length, Option, None, int_le, ◌&&◌, Result, unwrap_or}
 use Rattle.std.specs.List.{list_any}
 use Rattle.ts_model.specs.Numbers.{name_taken, no_column, bad_width, too_many}
@@ -21,7 +21,7 @@ is_among name names = list_any (λ other. same_name other name) names
 abbrev pub is_column : List ℕ → List Column → Bool
 is_column name cols = list_any (λ c. same_name c.name name) cols
 
--- the columns of a table, in order after those before: none is named twice, and there aren't too many
+-- the columns of a table, in order after the earlier ones: none is named twice, and there aren't too many
 abbrev pub columns_refusal : ℕ → ℕ → List Column → List Column → Option Refusal
 columns_refusal pos count before [] = None
 columns_refusal pos count before (c ∷ cs) =

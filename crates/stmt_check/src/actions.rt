@@ -1,18 +1,18 @@
-//! What a checked statement asks for.
+//! The requests of checked statements.
 use ts_model::{Fold, Hyper, Op, Query, Refusal, TableDef, ViewDef};
 use ts_schema::{Name, NoMemory};
 
-/// What a statement asks for, with its names resolved to numbers.
+/// The request of a statement, with its names resolved to numbers.
 #[derive(Drop, Debug, Clone, PartialEq, Eq)]
 pub enum Action {
-    /// Make this table.
+    /// Create this table.
     Table(TableDef),
-    /// Make this table a hypertable.
+    /// Turn this table into a hypertable.
     Hyper {
         table: u32,
         hyper: Hyper,
     },
-    /// Make this aggregate, and refresh it where it is to be filled.
+    /// Create this aggregate, and refresh it if it is filled at its creation.
     View {
         def: ViewDef,
         filled: bool,
@@ -48,34 +48,34 @@ pub enum Action {
     Begin,
     /// Begin a read block.
     BeginRead,
-    /// End a block, and make its operations take effect.
+    /// End a block and apply its operations.
     Commit,
-    /// End a block, and give its operations up.
+    /// End a block and discard its operations.
     Rollback,
     /// Answer this query.
     Ask(Query),
     /// Group the rows of a hypertable by buckets of the calendar.
     Calendar {
         table: u32,
-        /// How many units a bucket has, from 1 to 1,200.
+        /// The number of units of a bucket, from 1 to 1,200.
         number: u32,
         /// The unit: `day`, `week`, `month` or `year`.
         unit: Name,
         /// The declared place of the time column.
         at: u32,
-        /// The grouping, whose width isn't looked at.
+        /// The grouping, whose width has no effect.
         fold: Fold,
     },
 }
 
-/// How a check ends.
+/// The result of a check.
 #[derive(Drop, Debug, PartialEq, Eq)]
 pub enum Checked {
     /// Nothing is refused.
     Ready(Action),
     /// The first refusal.
     Refused(Refusal),
-    /// There was no memory.
+    /// It ran out of memory.
     NoMemory,
 }
 
@@ -84,7 +84,7 @@ pub enum Checked {
 pub(crate) enum ResolveStop {
     /// This is refused.
     Refused(Refusal),
-    /// There was no memory.
+    /// It ran out of memory.
     NoMemory,
 }
 

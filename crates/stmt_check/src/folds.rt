@@ -18,10 +18,10 @@ use ts_model::{Agg, Fold, Refusal, TableInfo};
 use ts_num::Fun;
 use ts_schema::{Name, NoMemory, Seq, Test};
 
-/// The name of a bucket's column where no other is given.
+/// The name of a bucket's column if no other is given.
 const BUCKET_NAME: &[u8] = b"time_bucket";
 
-/// The name of the column of a bucket of the calendar where no other is given.
+/// The name of the column of a bucket of the calendar if no other is given.
 const CALENDAR_NAME: &[u8] = b"calendar_bucket";
 
 /// The tests with the numbers of their columns.
@@ -46,7 +46,7 @@ pub(crate) fn check_tests(
     Ok(numbered)
 }
 
-/// What stands behind the head of a fold, with the numbers of its columns.
+/// The part of a fold after its head, with the numbers of its columns.
 #[derive(Drop)]
 pub(crate) struct FoldTail {
     keys: Seq<u32>,
@@ -54,7 +54,7 @@ pub(crate) struct FoldTail {
     tests: Seq<Test>,
 }
 
-/// The fold with the numbers of its columns; `distinct` where its output names have to differ.
+/// The fold with the numbers of its columns; `distinct` if its output names must differ.
 pub(crate) fn check_fold(
     alloc: Global,
     pos: u64,
@@ -82,7 +82,7 @@ pub(crate) fn check_fold(
     })
 }
 
-/// The fold by buckets of the calendar with the numbers of its columns, and how many units a bucket has.
+/// The fold by buckets of the calendar with the numbers of its columns, and the number of units of a bucket.
 pub(crate) fn check_calendar(
     alloc: Global,
     pos: u64,
@@ -113,7 +113,7 @@ pub(crate) fn check_calendar(
     Ok((number, fold))
 }
 
-/// How many units a bucket of the calendar has, where the unit is one and the column is the time column.
+/// The number of units of a bucket of the calendar, if the unit is valid and the column is the time column.
 fn check_units(
     pos: u64,
     info: &TableInfo,
@@ -130,7 +130,7 @@ fn check_units(
     Ok(count)
 }
 
-/// How many units a bucket of the calendar has, where that is in range.
+/// The number of units of a bucket of the calendar, if it is in range.
 fn unit_count(number: i64) -> Option<u32>
     ensures { result ≡ unit_count number }
 {
@@ -151,7 +151,7 @@ fn is_unit(word: &[u8]) -> bool
         || word == b"year".as_slice()
 }
 
-/// The rest of a fold behind its head, whose column has this name.
+/// The rest of a fold after its head, whose column has this name.
 pub(crate) fn check_rest(
     alloc: Global,
     pos: u64,
@@ -169,7 +169,7 @@ pub(crate) fn check_rest(
     Ok(FoldTail { keys, aggs, tests })
 }
 
-/// The width, where it is in range and the column is the time column.
+/// The width, if it is in range and the column is the time column.
 fn check_width(pos: u64, info: &TableInfo, fold: &NamedFold) -> Result<Width, ResolveStop>
     requires { length info.now.def.cols < 2 ^ 32 }
     ensures { ChecksWidth pos info.now fold.now result }
@@ -234,7 +234,8 @@ fn check_keys(
     Ok(numbers)
 }
 
-/// The number of a key's column, after so many columns; whether its name is taken and has to differ.
+/// The number of a key's column, after `others` columns. `repeats` is whether its name must differ and is
+/// taken.
 fn check_key(
     pos: u64,
     repeats: bool,
@@ -277,8 +278,8 @@ fn check_aggregates(
     Ok(numbered)
 }
 
-/// An aggregate with the number of its column, after so many columns; whether its name is taken and
-/// has to differ.
+/// An aggregate with the number of its column, after `others` columns. `repeats` is whether its name must
+/// differ and is taken.
 fn check_aggregate(
     pos: u64,
     repeats: bool,
@@ -308,21 +309,21 @@ fn check_argument(pos: u64, info: &TableInfo, col: &Option<Name>) -> Result<u32,
     }
 }
 
-/// How many output columns the bucket, so many keys and so many aggregates are.
+/// The number of output columns: the bucket, these keys and these aggregates.
 fn columns_up_to(keys: usize, aggs: usize) -> u64
     ensures { result ≡ columns_before keys aggs }
 {
     1u64.saturating_add(keys as u64).saturating_add(aggs as u64)
 }
 
-/// How many output columns there are.
+/// The number of output columns.
 fn count_columns(fold: &NamedFold) -> u64
     ensures { result ≡ output_count fold.now }
 {
     columns_up_to(fold.keys.len(), fold.aggs.len())
 }
 
-/// The name of the head's column: the one after AS, or the head's own word.
+/// The name of the head's column: the one after AS, or the head's default name.
 fn name_of_head<'a>(word: &'a [u8], fold: &'a NamedFold) -> &'a [u8]
     ensures { result.now ≡ head_name word.now fold.now }
 {
@@ -426,7 +427,7 @@ fn output_name(alloc: Global, given: &Option<Name>, word: &[u8]) -> Result<Name,
     }
 }
 
-/// The name that a word is.
+/// The name with this text.
 fn read_word(alloc: Global, word: &[u8]) -> Result<Name, NoMemory>
     requires { IsTrue (is_name word.now) }
     ensures { IfOk result (λ name. name ≡ word.now) }

@@ -1,4 +1,4 @@
-//! Rows to be inserted.
+//! The rows of an INSERT.
 ghost use Rattle.std.specs.Prelude.{◌≡◌, ◌<◌, ◌^◌, ◌==◌, ◌||◌, [], ◌++◌, length, map, slice_index_or, None, IfOk};
 ghost use Rattle.std.specs.List.{flat_map};
 ghost use Rattle.ts_catalog.specs.Columns.{place_from};
@@ -17,7 +17,7 @@ use ts_catalog::column_place;
 use ts_model::codes::{BAD_TIME, NAME_TAKEN, NO_COLUMN, NULL_VALUE, TOO_MANY, VALUE_COUNT};
 use ts_schema::{Column, Name, NoMemory, Row, Seq, SharedSlice, ValueBlock, Values};
 
-/// What a value has to meet.
+/// The condition of a value.
 #[derive(Clone, Copy, Debug, PartialEq, Eq)]
 pub(crate) struct Rule {
     /// Whether it is a time.
@@ -26,14 +26,14 @@ pub(crate) struct Rule {
     must: bool,
 }
 
-/// What the values of an INSERT's rows are for.
+/// The columns that the values of an INSERT's rows are for.
 #[derive(Drop, Debug)]
 pub(crate) struct Shape {
     /// The rule of each value.
     rules: Seq<Rule>,
-    /// Whether a column is left out that must not be NULL.
+    /// Whether a column that must not be NULL is omitted.
     left_out: bool,
-    /// How many rows there are.
+    /// The number of rows.
     count: u64,
     /// The place of the time.
     time: Option<usize>,
@@ -41,7 +41,7 @@ pub(crate) struct Shape {
     others: Seq<Option<usize>>,
 }
 
-/// The rows that an INSERT gives.
+/// The rows of an INSERT.
 pub(crate) fn check_rows(
     alloc: Global,
     pos: u64,
@@ -58,7 +58,7 @@ pub(crate) fn check_rows(
     check_each(alloc, pos, &shape, rows)
 }
 
-/// That the column list names no column twice, and each is there.
+/// Checks that the column list names no column twice, and that each exists.
 fn check_list(pos: u64, columns: &[Column], names: &Option<Seq<Name>>) -> Result<(), ResolveStop>
     requires { length columns.now < 2 ^ 32 }
     ensures { Passes (list_refusal_of pos columns.now names.now) result }
@@ -69,7 +69,7 @@ fn check_list(pos: u64, columns: &[Column], names: &Option<Seq<Name>>) -> Result
     }
 }
 
-/// That no column is named twice, and each is there.
+/// Checks that no column is named twice, and that each exists.
 #[tactic(auto, using(crate::proofs::Steps::list_step))]
 fn check_names(pos: u64, columns: &[Column], names: &[Name]) -> Result<(), ResolveStop>
     requires { length columns.now < 2 ^ 32 }
@@ -89,7 +89,7 @@ pub(crate) fn has_name(names: &[Name], name: &Name) -> bool
     names.iter().any(|other| *other == *name)
 }
 
-/// What the values are for.
+/// The columns that the values are for.
 fn shape_for(
     alloc: Global,
     at: u32,
@@ -183,7 +183,7 @@ fn must_at(columns: &[Column], place: usize) -> bool
     }
 }
 
-/// Whether a column is left out that must not be NULL.
+/// Whether a column that must not be NULL is omitted.
 fn leaves_one_out(at: u32, columns: &[Column], names: &Option<Seq<Name>>) -> bool
     ensures { result ≡ leaves_out at names.now 0 columns.now }
 {
@@ -205,7 +205,7 @@ fn place_of(names: &Option<Seq<Name>>, place: usize, column: &Column) -> Option<
     }
 }
 
-/// The place of the first of these names that is this one.
+/// The place of the first of these names that equals this one.
 fn place_among(names: &[Name], name: &Name) -> Option<usize>
     ensures { result ≡ place_from name.now 0 names.now }
 {
@@ -247,7 +247,7 @@ fn places_of_others(
     Ok(places)
 }
 
-/// The rows, each checked in its turn, and then made.
+/// The rows, after each is checked in order.
 fn check_each(
     alloc: Global,
     pos: u64,
@@ -262,7 +262,7 @@ fn check_each(
     Ok(make_rows(alloc, shape, rows)?)
 }
 
-/// That a row has as many values as it must, and each meets its rule.
+/// Checks that a row has one value per listed column, and that each meets its rule.
 fn check_row(
     pos: u64,
     shape: &Shape,
@@ -277,7 +277,7 @@ fn check_row(
     check_values(pos, shape.rules.items(), values)
 }
 
-/// That each value meets its rule.
+/// Checks that each value meets its rule.
 fn check_values(pos: u64, rules: &[Rule], values: &[Option<i64>]) -> Result<(), ResolveStop>
     ensures { Passes (values_refusal pos rules.now values.now) result }
 {
@@ -287,7 +287,7 @@ fn check_values(pos: u64, rules: &[Rule], values: &[Option<i64>]) -> Result<(), 
     Ok(())
 }
 
-/// Checks that a time is in the range of times, and that NULL is only where it may be.
+/// Checks that a time is in the range of times, and that NULL is there only if it is allowed.
 fn check_value(pos: u64, rule: Rule, value: Option<i64>) -> Result<(), ResolveStop>
     ensures { Passes (value_refusal pos rule value) result }
 {
@@ -301,7 +301,7 @@ fn check_value(pos: u64, rule: Rule, value: Option<i64>) -> Result<(), ResolveSt
     }
 }
 
-/// The rows that these values give. The values of all of them share one block.
+/// The rows of these values. The values of all rows share one block.
 fn make_rows(
     alloc: Global,
     shape: &Shape,
@@ -310,7 +310,8 @@ fn make_rows(
     ensures { IfOk result (λ made. made ≡ rows_of shape.now rows.now) }
 {
     let block = Arc::new(alloc, other_values(alloc, shape, rows)?)?;
-    // A length that is read has 64 bits, so the place behind a row's values in the block has too.
+    // Reading the length tells the prover that it fits 64 bits, and so does the place after a row's values in
+    // the block.
     let _total = block.len();
     let mut made = Vec::with_capacity(alloc, rows.len())?;
     let mut from = 0;
@@ -325,7 +326,7 @@ fn make_rows(
     SharedSlice::of(alloc, Seq::of(made))
 }
 
-/// The values of all columns but the time, in declared order, one row after another.
+/// The values of all columns except the time, in declared order, row by row.
 fn other_values(
     alloc: Global,
     shape: &Shape,
@@ -355,7 +356,7 @@ fn append_others(
     Ok(())
 }
 
-/// The value at a place, or NULL where a column is left out.
+/// The value at a place, or NULL if a column is omitted.
 fn value_at(values: &[Option<i64>], place: Option<usize>) -> Option<i64>
     ensures { result ≡ value_at values.now place }
 {

@@ -1,33 +1,33 @@
-//! Laws of checks. Each is the clause of a function that does nothing.
+//! Laws of checks. Each law is the clause of a function that does nothing.
 ghost use Rattle.stmt_check.specs.Subject.{AllowedIsReady, DropsWholeChunks, StartsPassEach, ValuesArrive};
 ghost use Rattle.stmt_check.specs.Sound.{ActionsAreSound, QueuesAreSound, RostersAreNumbered};
 
-/// The roster of an allowed history may be checked against.
+/// Statements may be checked against the roster of an allowed history.
 pub fn rosters_are_numbered_law()
     ensures { RostersAreNumbered }
 {}
 
-/// What a statement asks for that isn't refused at an allowed history can be done there.
+/// What an unrefused statement requests at an allowed history can be done there.
 pub fn actions_are_sound_law()
     ensures { ActionsAreSound }
 {}
 
-/// Operations that statements ask for can be queued and committed together.
+/// Operations that statements request can be queued and committed together.
 pub fn queues_are_sound_law()
     ensures { QueuesAreSound }
 {}
 
-/// The starts that a query of an aggregate asks for are exactly those that pass every test.
+/// The starts that a query of an aggregate requests are exactly those that pass every test.
 pub fn starts_pass_each_law()
     ensures { StartsPassEach }
 {}
 
-/// `drop_chunks` takes away the rows of the chunks that end at or before its bound.
+/// `drop_chunks` removes the rows of the chunks that end at or before its bound.
 pub fn drops_whole_chunks_law()
     ensures { DropsWholeChunks }
 {}
 
-/// The value written for a column arrives in that column, and a column that is left out is NULL.
+/// The value written for a column arrives in that column, and an omitted column is NULL.
 pub fn values_arrive_law()
     ensures { ValuesArrive }
 {}

@@ -1,4 +1,4 @@
-//! A statement's names and values against the roster: what it asks for, or its first refusal.
+//! Checks a statement's names and values against the roster: its request, or its first refusal.
 #![tactic(auto)]
 
 mod actions;

@@ -1,4 +1,4 @@
-//! The buckets of an aggregate that tests ask for, and the chunks below a bound.
+//! The buckets of an aggregate that tests request, and the chunks below a bound.
 ghost use Rattle.std.specs.Prelude.{◌≡◌, ◌<◌, ◌≤ℤ◌, ◌^◌, pos as nonneg, length, IsTrue};
 ghost use Rattle.ts_bucket.specs.Bucket.{is_time};
 ghost use Rattle.stmt_check.specs.Queries.{below_all, below_of, bound_refusal, bounds_start, drop_test, from_all, from_of, is_bucket_column, starts_of, starts_refusal};
@@ -15,7 +15,7 @@ use ts_model::ViewDef;
 use ts_model::codes::{BAD_TIME, NO_COLUMN};
 use ts_schema::{Cmp, Test};
 
-/// The starts that all tests let pass, where each is on the bucket column and bounds it.
+/// The starts that pass all tests, if each test is on the bucket column and bounds it.
 pub(crate) fn check_starts(
     pos: u64,
     def: &ViewDef,
@@ -51,7 +51,7 @@ fn is_bound(cmp: Cmp) -> bool
     }
 }
 
-/// The starts that all tests let pass.
+/// The starts that pass all tests.
 fn span_of(tests: &[NamedTest]) -> Span
     ensures { result ≡ starts_of tests.now }
 {
@@ -85,7 +85,7 @@ fn start_below(tests: &[NamedTest]) -> i64
     hi
 }
 
-/// The least start that a test lets pass.
+/// The least start that passes a test.
 fn least_start(cmp: Cmp, num: i64) -> i64
     ensures { result ≡ from_of cmp num }
 {
@@ -96,7 +96,7 @@ fn least_start(cmp: Cmp, num: i64) -> i64
     }
 }
 
-/// The number below which starts lie that a test lets pass.
+/// The number below which starts lie that pass a test.
 fn end_of_starts(cmp: Cmp, num: i64) -> i64
     ensures { result ≡ below_of cmp num }
 {
@@ -107,7 +107,7 @@ fn end_of_starts(cmp: Cmp, num: i64) -> i64
     }
 }
 
-/// That a bound lies in the range of times.
+/// Checks that a bound lies in the range of times.
 pub(crate) fn check_bound(pos: u64, bound: Option<i64>) -> Result<(), ResolveStop>
     ensures { Passes (bound_refusal pos bound) result }
 {

@@ -22,7 +22,7 @@ fn stop(pos: u64, code: u8) -> ResolveStop
     ResolveStop::Refused(Refusal { code, pos, mark: 0 })
 }
 
-/// That a relation to be made has a new name, and that there are fewer than 64 of its kind.
+/// Checks that a new relation has a new name, and that there are fewer than 64 of its kind.
 pub(crate) fn new_name(
     pos: u64,
     roster: &Roster,
@@ -91,7 +91,7 @@ pub(crate) fn aggregate(pos: u64, roster: &Roster, name: &Name) -> Result<u32, R
     }
 }
 
-/// What can be queried by name.
+/// A relation that can be queried by name.
 #[derive(Clone, Copy, Debug, PartialEq, Eq)]
 pub(crate) enum QueryTarget {
     /// The hypertable with this number.

@@ -17,10 +17,10 @@ use stmt_syntax::{NamedFold, NamedTest, Stmt};
 use ts_model::{Hyper, Op, Query, Roster, TableDef, ViewDef};
 use ts_schema::{Column, Name, Seq};
 
-/// What a statement asks for by the names of a roster, or the first refusal of its names and values; `pos` is
-/// the position looked at, which a refusal carries. It looks neither at the block of a session nor at what only
-/// shows where the statement is carried out, as `E15` and `E19` do. A query of an aggregate in wider buckets is
-/// refused as `E13`: `hier_agg` reads it.
+/// Checks the names and values of a statement against a roster. Returns its request, or the first refusal,
+/// which carries the read position `pos`. Doesn't check the block of a session, or conditions that only show
+/// when the statement runs, such as those of `E15` and `E19`. Refuses a query of an aggregate in wider buckets
+/// as `E13`; `hier_agg` reads such a query.
 pub fn check(alloc: Global, stmt: &Stmt, roster: &Roster, pos: u64) -> Checked
     requires { IsNumbered roster.now }
     ensures checked { IsChecked pos roster.now stmt.now result }
@@ -32,7 +32,7 @@ pub fn check(alloc: Global, stmt: &Stmt, roster: &Roster, pos: u64) -> Checked
     }
 }
 
-/// What a statement asks for, or why it stops.
+/// The request of a statement, or why the check stops.
 fn resolve(alloc: Global, pos: u64, roster: &Roster, stmt: &Stmt) -> Result<Action, ResolveStop>
     requires { IsNumbered roster.now }
     ensures { Resolves pos roster.now stmt.now result }

@@ -1,4 +1,4 @@
-//! Tables and hypertables to be made.
+//! Tables and hypertables to be created.
 ghost use Rattle.std.specs.Prelude.{◌≡◌, ◌<◌, ◌^◌, [], length};
 ghost use Rattle.stmt_check.specs.Results.{Passes};
 ghost use Rattle.stmt_check.specs.Tables.{columns_refusal, is_column, is_interval, ChecksHyper};
@@ -29,7 +29,7 @@ pub(crate) fn check_columns(pos: u64, columns: &[Column]) -> Result<(), ResolveS
     Ok(())
 }
 
-/// The declared place of the time column, where the interval is in range.
+/// The declared place of the time column, if the interval is in range.
 pub(crate) fn check_hyper(
     pos: u64,
     columns: &[Column],

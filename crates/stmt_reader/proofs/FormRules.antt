@@ -24,7 +24,7 @@ use Rattle.stmt_reader.proofs.RuleLists.{reads_listed}
 use Rattle.stmt_reader.proofs.PartRules.{reads_last, avoids_end, reads_name, reads_quoted, reads_flag, reads_value, reads_row, reads_column, reads_source, on_filters, on_aggregates, on_as, reads_bucket, reads_calendar_bucket, reads_grouping}
 use Rattle.stmt_reader.proofs.SelectRules.{reads_select_list, avoids_select_list}
 
--- a rule behind one that may be no token
+-- a rule after an optional one
 avoids_through : {A B : Type 0} (test mid : Seen → Bool) (L : Rule A) (M : A → Rule B) (on : Seen → Bool) → Avoids test L mid → ((a : A) → Avoids mid (M a) on) → Avoids test (sequence L M) on
 unfolding sequence
 avoids_through test mid L M on first second ts b left (us, vs, a, e, l, m) free =
@@ -35,7 +35,7 @@ avoids_through test mid L M on first second ts b left (us, vs, a, e, l, m) free 
 
 -- ---- folds
 
--- the rest of a fold behind its head
+-- the rest of a fold after its head
 pub reads_fold_behind : (n : ℕ) (own : List ℕ) (b : Head) → Reads n (read.fold_behind own b) (rule.fold_behind own b) none
 unfolding read.fold_behind
 reads_fold_behind n own b =
@@ -433,7 +433,7 @@ reads_form_rule n =
     (avoids_from_alter _ _ refl (avoids_from_insert _ _ refl (avoids_from_delete _ _ refl (avoids_from_call _ _ refl (avoids_from_refresh _ _ refl (avoids_block _ _ refl refl refl)))))))
     (avoids_from_select _ _ refl (avoids_from_alter _ _ refl (avoids_from_insert _ _ refl (avoids_from_delete _ _ refl (avoids_from_call _ _ refl (avoids_from_refresh _ _ refl (avoids_block _ _ refl refl refl)))))))
 
--- ---- the forms as they stand in the grammar
+-- ---- the forms as they are in the grammar
 
 form_to : (ts : List Token) (a : Stmt) → form_rule ts a → rule.form ts a
 unfolding rule.form sequence either
@@ -489,7 +489,7 @@ reads_semicolon : (n : ℕ) → Reads n read.semicolon rule.semicolon on_semicol
 unfolding read.semicolon
 reads_semicolon n = takes_mark n marks.Semicolon (λ m. reads_gives m tt) (reads_gives n tt) (avoids_means _ _ _)
 
--- what may follow a statement: what may go on with it
+-- the tokens that may continue a statement
 abbrev pub on_statement : Seen → Bool
 on_statement = any on_form on_semicolon
 

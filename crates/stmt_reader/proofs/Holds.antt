@@ -1,4 +1,4 @@
--- What is so of whatever a rule has of tokens whose names are names and whose numbers are of 64 bits.
+-- What is true of all results of a rule, for tokens whose names are names and whose numbers fit 64 bits.
 use Rattle.std.proofs.Common.{◌≡◌, ℕ, List, [], ◌∷◌, ◌++◌, Option, Some, subst, inl, inr}
 use Rattle.std.specs.Prelude.{◌⊎◌}
 use Rattle.std.specs.List.{AllByRecursion}
@@ -9,7 +9,7 @@ use Rattle.stmt_syntax.specs.Proper.{IsName, IsWord}
 use Rattle.stmt_reader.specs.Grammar as rule
 use Rattle.stmt_reader.specs.Grammar.{Rule, means, sequence, either, many, list_rule, one, token_rule}
 
--- a token's name is a name, and its number of 64 bits
+-- a token's name is a name, and its number fits 64 bits
 abbrev pub IsProperToken : Token → Type 0
 IsProperToken (word w) = IsName w
 IsProperToken (number z) = IsWord z
@@ -26,7 +26,7 @@ proper_split (t ∷ us) vs h = let k = proper_split us vs h.1 in ((h.0, k.0), k.
 pub record Holds {A : Type 0} (L : Rule A) (P : A → Type 0) : Type 0 where
   pub holds : (ts : List Token) (a : A) → AreProper ts → L ts a → P a
 
--- ---- rules put together
+-- ---- rules combined
 
 pub holds_any : {A : Type 0} (L : Rule A) → Holds L (λ _. Unit {0})
 holds_any L = record { holds = λ ts a h l. tt }
@@ -43,7 +43,7 @@ holds_then f g = record {
       (g a (f.holds us a parts.0 l)).holds vs b parts.1 m;
 }
 
--- behind tokens that say nothing
+-- after tokens without a value
 pub past : {A B : Type 0} (L : Rule A) {M : Rule B} {Q : B → Type 0} → Holds M Q → Holds (sequence L (λ _. M)) Q
 past L g = holds_then (holds_any L) (λ _ _. g)
 

@@ -133,7 +133,7 @@ keys_go front (stops q) = refl
 keys_go front (t then s) =
     body_alike (keys_within (size s)) (λ fr r. keys_within (size r) fr r) (t then s) front (λ fr r lt. keys_enough (size s) (size r) fr r (omega arith) (omega arith))
 
--- behind the word after a comma
+-- after the word that follows a comma
 abbrev pub after_word : List (List ℕ) → List ℕ → Parser (List (List ℕ) × Fun)
 after_word front w = choose (is_mark marks.Open) (function_head (function_of_word w) >>= λ f. gives (front, f)) (keys_and_function (front ++ w ∷ []))
 

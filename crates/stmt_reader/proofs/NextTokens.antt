@@ -1,4 +1,4 @@
--- What a reader knows of the next token, and what it tells of the tokens that are left.
+-- What a reader knows of the next token, and what that means for the tokens left.
 use Rattle.std.proofs.Common.{◌≡◌, ℕ, ◌+◌, ◌≤◌, Bool, true, false, List, length, Option, Some, None, refl, sym, subst}
 use Rattle.stmt_tokens.specs.Tokens.{Next, token, ended, nothing, next}
 use Rattle.stmt_tokens.specs.Scan as scan
@@ -19,13 +19,13 @@ place_of at (scan.token t begin end) = begin + 1
 place_of at scan.ended = at + 1
 place_of at (scan.nothing begin) = begin + 1
 
--- the fault where nothing that may come next comes, by the place
+-- the fault if no allowed token comes next, by the place
 abbrev pub Refuses : SeenNext → Stream → Type 0
 Refuses (scan.token t begin end) s = Syntax (place s) ≡ fault_here s
 Refuses scan.ended s = Syntax (place s) ≡ fault_here s
 Refuses (scan.nothing begin) s = NoToken (place s) ≡ fault_here s
 
--- there is nothing to go past
+-- there is no token to move past
 abbrev pub Stays : SeenNext → Stream → Type 0
 Stays (scan.token t begin end) s = Unit {0}
 Stays scan.ended s = s ≡ tail s

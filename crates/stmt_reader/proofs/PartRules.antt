@@ -30,7 +30,7 @@ begins_one : {A : Type 0} (f : Seen → Option A) (t : Token) (a : A) → f (see
 unfolding rule.one
 begins_one f t a e = (t ∷ [], a, (t, refl, e))
 
--- what was read, said in another way
+-- what was read, in another form
 pub avoids_end : {B : Type 0} (c : Seen → Bool) (b : B) → Avoids c (rule.means b) c
 unfolding rule.means
 avoids_end c b ts a left (e, k) free = subst (λ us. heads c (onto us left) ≡ false) (sym (nothing_placed ts e)) free
@@ -41,7 +41,7 @@ reads_gives_on n c a = reads_alike n (read.gives a) (read.gives a) (rule.means a
 pub reads_last : (n : ℕ) {A B : Type 0} {p : read.Parser A} {L : Rule A} {c : Seen → Bool} (f : A → B) → Reads n p L c → Reads n (read.bind p (λ a. read.gives (f a))) (sequence L (λ a. rule.means (f a))) c
 reads_last n {c = c} f r = reads_bind n r (λ a. reads_gives_on n c (f a)) (λ a. avoids_end c (f a))
 
--- a way that is never taken
+-- a branch that is never taken
 never_heads : (test : Seen → Bool) → ((t : Seen) → test t ≡ false) → (s : Stream) → heads test s ≡ false
 never_heads test h (ends q) = refl
 never_heads test h (stops q) = refl
@@ -224,7 +224,7 @@ reads_aggregate n = reads_then n (reads_function n) (λ f. reads_then n (reads_m
 abbrev pub on_aggregates : Seen → Bool
 on_aggregates = any (parts separators.Comma) on_as
 
--- the aggregates, of which the first begins behind its opening parenthesis
+-- the aggregates; the first begins after its opening parenthesis
 abbrev pub aggregates_of : Fun → Rule (List NamedAgg)
 aggregates_of f = sequence (rule.aggregate_rest f) (λ a. sequence (rule.many (behind (parts separators.Comma) rule.aggregate)) (λ others. rule.means (a ∷ others)))
 

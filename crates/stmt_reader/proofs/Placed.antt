@@ -56,7 +56,7 @@ pub size-onto : (ts : List Placed) (s : Stream) → size (onto ts s) ≡ length 
 size-onto [] s = omega arith
 size-onto (t ∷ ts) s = omega (arith, size-onto ts s)
 
--- what is written over two lists of tokens lies over two lists of placed ones
+-- what two lists of tokens make up, two lists of placed tokens make up
 pub record Splits (ts : List Placed) (us vs : List Token) : Type 0 where
   pub front : List Placed
   pub back : List Placed

@@ -1,4 +1,4 @@
--- What the grammar's statements hold is proper.
+-- The grammar's statements are proper.
 use Rattle.std.proofs.Common.{ℕ, pos, List, [], Option, Some, None, refl}
 use Rattle.std.specs.Prelude.{IfSome}
 use Rattle.std.specs.List.{AllByRecursion}

@@ -1,4 +1,4 @@
--- The tokens of a text are proper, where none is refused.
+-- The tokens of a text are proper, if none is refused.
 use Rattle.std.proofs.Common.{◌≡◌, ℕ, zero, suc, ◌+◌, true, List, [], ◌∷◌, ap, subst, sym, ◌∙◌, length, refl}
 use Rattle.stmt_tokens.specs.Tokens.{Token, Next, token, ended, nothing, word, number, quoted, mark, next}
 use Rattle.stmt_tokens.specs.Scan.{seen_next}
@@ -9,7 +9,7 @@ use Rattle.stmt_tokens.proofs.Named.{IsNamedNext, named_next}
 use Rattle.stmt_reader.proofs.Placed.{AllFit}
 use Rattle.stmt_reader.proofs.Holds.{IsProperToken, AreProper}
 
--- a token that is named is proper where its number is an i64
+-- a token that is named is proper if its number is an i64
 abbrev IsNamedHere : Next → Type 0
 IsNamedHere a = IsNamedNext (seen_next a)
 
@@ -19,7 +19,7 @@ proper_token (number z) begin end h f = f
 proper_token (quoted w) begin end h f = h.0
 proper_token (mark m) begin end h f = tt
 
--- these tokens in front of a stream are proper, where their numbers are i64
+-- these tokens in front of a stream are proper, if their numbers are i64
 abbrev IsProperStream : Stream → Type 0
 IsProperStream s = (ts : List Placed) (p : ℕ) → s ≡ onto ts (ends p) → AllFit ts → AreProper (plain ts)
 

@@ -18,7 +18,7 @@ use Rattle.stmt_reader.specs.declared.phrases.Separator.TheVariants as separator
 use Rattle.stmt_reader.proofs.NextTokens.{BeginsWith, begins_with}
 use Rattle.stmt_reader.proofs.Loops.{more_goes, more_ends, more_turn, past_is_less}
 
--- the stream behind these bytes, from what the code found there
+-- the stream after these bytes, from what the code found there
 pub comes : (text : List ℕ) (skip : ℕ) (a : SeenNext) → skip ≤ length text → a ≡ seen_next (next text skip) → BeginsWith skip a (stream text) (stream text skip)
 comes text skip a le e = begins_with (record { text = text; at = skip }) text skip a refl le e
 
@@ -30,7 +30,7 @@ heads_by test s t seen_token e = ap (passes test) (sym seen_token) ∙ e
 abbrev done : Option ℤ → Stream → Result (Option ℤ × Stream) Fault
 done v s = Ok (v, s)
 
--- the value in front of these tokens, from the token that comes next
+-- the value in front of these tokens, from the next token
 abbrev answer : Stream → Option Seen → Result (Option ℤ × Stream) Fault
 answer s o = cond (passes (is_keyword kw.Null) o) (done None (tail s)) (go_on (fitting_number s (option_and_then number_of o)) (λ z. gives (Some z)))
 
@@ -58,7 +58,7 @@ value_by s r t v seen_token r-is e = value_is s ∙ ap (answer s) (sym seen_toke
 abbrev pub closes : List (Option ℤ) → Parser (List (Option ℤ))
 closes vs = bind (token_parser (is_mark marks.Close)) (λ _. gives vs)
 
--- a row from its next value on, where these values were read
+-- a row from its next value on, if these values were read
 abbrev pub from_value : List (Option ℤ) → Parser (List (Option ℤ))
 from_value front s = go_on (go_on (value s) (λ v. more (parts separators.Comma) value (front ++ v ∷ []))) closes
 
@@ -94,13 +94,13 @@ row_closes front v s m r read e r-is =
     ∙ ap (λ (x : Result (List (Option ℤ) × Stream) Fault). go_on x closes) (more_ends (parts separators.Comma) value (front ++ v ∷ []) m (closed m e))
     ∙ last
 
--- the same, where the end of the row was looked for
+-- the same, after a search for the end of the row
 pub row_may_close : (text : List ℕ) (found : Option ℕ) (front vs : List (Option ℤ)) (v : Option ℤ) (s m : Stream) (total : Result (List (Option ℤ) × Stream) Fault) → vs ≡ front ++ v ∷ [] → value s ≡ Ok (v, m) → IfSome found (λ _. heads (is_mark marks.Close) m ≡ true) → IfSome found (λ end. stream text end ≡ tail m)
     → total ≡ from_value front s → IfSome found (λ end. total ≡ Ok (vs, stream text end))
 row_may_close text None front vs v s m total vs-is read e r-is so_far = tt
 row_may_close text (Some end) front vs v s m total vs-is read e r-is so_far = so_far ∙ row_closes front v s m (stream text end) read e r-is ∙ ap (λ ws. Ok (ws, stream text end)) (sym vs-is)
 
--- a value and the mark behind it leave fewer tokens
+-- a value and the mark after it leave fewer tokens
 pub value_shrinks : (test : Seen → Bool) (v : Option ℤ) (s m r : Stream) → value s ≡ Ok (v, m) → heads test m ≡ true → r ≡ tail m → size r < size s
 value_shrinks test v s m r read e r-is = omega (arith, past_is_less test m r e r-is, forward-value.goes s v m read)
 

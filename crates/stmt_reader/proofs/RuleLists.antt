@@ -28,7 +28,7 @@ forward_of_reads r = record {
       omega (arith, ap size f.split, size-onto f.taken left);
 }
 
--- these items, and then some of the rule
+-- these items, and then more of the rule
 abbrev pub After : {A : Type 0} → List A → Rule (List A) → Rule (List A)
 After {A} front R ts items = (new : List A) × (items ≡ front ++ new) × R ts new
 
@@ -133,7 +133,7 @@ others_back test L a ts items (us, vs, others, e, m, (v, k)) =
 others_alike : {A : Type 0} (test : Seen → Bool) (L : Rule A) (a : A) → Alike (After (a ∷ []) (many (behind test L))) (sequence (many (behind test L)) (λ others. means (a ∷ others)))
 others_alike test L a = record { to = others_to test L a; back = others_back test L a }
 
--- the rule of a list parted by tokens that pass a test
+-- the rule of a list whose separators pass a test
 abbrev pub list_of : {A : Type 0} → (Seen → Bool) → Rule A → Rule (List A)
 list_of test L = sequence L (λ a. sequence (many (behind test L)) (λ others. means (a ∷ others)))
 

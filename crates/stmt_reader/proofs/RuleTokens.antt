@@ -1,4 +1,4 @@
--- Readings of one token, and of one way or another by the token that comes next.
+-- Readings of one token, and choices by the next token.
 use Rattle.std.proofs.Common.{◌≡◌, ℕ, zero, suc, ◌+◌, ◌<◌, ◌≤◌, Bool, true, false, cond, eqb, List, [], ◌∷◌, ◌++◌, length, Option, Some, None, Result, Ok, Err, refl, sym, ap, subst, ◌∙◌, length-append, ℤ, pos, arith, inl, inr}
 use Rattle.std.specs.Prelude.{◌⊎◌}
 use Rattle.std.specs.Str.{bytes_eq}
@@ -40,7 +40,7 @@ said_err s (Some b) f e = absurd cc
 
 -- ---- one token
 
--- what refuses numbers that aren't i64 takes fit tokens alone
+-- a reading that refuses numbers that aren't i64 takes only fit tokens
 fit_number : (test : Seen → Bool) (z : ℤ) (b : Bool) → test (scan.number None) ≡ false → test (scan.number (cond b (Some z) None)) ≡ true → b ≡ true
 fit_number test z true n e = refl
 fit_number test z false n e = sym n ∙ e
@@ -95,7 +95,7 @@ reads_one n f rejects b = record {
 abbrev some_unit : Option (Unit {0})
 some_unit = Some tt
 
--- a token that passes a test says nothing else
+-- a token that passes a test has no other meaning
 abbrev passing : (Seen → Bool) → Seen → Option (Unit {0})
 passing test t = cond (test t) some_unit None
 
@@ -147,7 +147,7 @@ reads_mark n m = reads_wanted n (is_mark m) (mark m) refl (same_mark m)
 
 -- ---- a number
 
--- what a token that is read as a number is
+-- a token that is read as a number
 record IsRead (k : Token) (s : Stream) (a : ℤ) (left : Stream) : Type 0 where
   token : k ≡ number a
   fits : is_i64 a ≡ true
@@ -181,7 +181,7 @@ number_found (t then s) a left e =
     let k = token_read t.token (t then s) a left e in
     record { taken = t ∷ []; split = ap (λ r. t then r) k.rest; said = ap (λ u. u ∷ []) k.token; fit = (ap is_fit k.token ∙ k.fits, tt); firm = λ rest _. rw (k.token, k.fits) refl }
 
--- a token that isn't read as a number is none, or none of 64 bits
+-- a token that isn't read as a number isn't one, or doesn't fit 64 bits
 number_unread : (b : Bool) (z : ℤ) (s : Stream) (f : Fault) → b ≡ is_i64 z → fitting_number s (Some (cond b (Some z) None)) ≡ Err f → (f ≡ BadNumber (place s)) × (is_i64 z ≡ false)
 number_unread true z s f b-is e = absurd cc
 number_unread false z s f b-is e = (cc, sym b-is)
@@ -231,7 +231,7 @@ reads_number n = record {
 
 -- ---- past a token
 
--- a reading behind a token, on streams of at most n tokens with that one
+-- a reading after a token, on streams of at most n tokens with that one
 abbrev pub Inner : ℕ → {A : Type 0} → Parser A → Rule A → (Seen → Bool) → Type 0
 Inner zero p L c = Unit {0}
 Inner (suc m) p L c = Reads m p L c
@@ -390,7 +390,7 @@ pub reads_choose : (n : ℕ) {A : Type 0} (test : Seen → Bool) {p q : Parser A
 reads_choose n test {c = c} {d = d} r t leads apart =
     reads_choose_on n test (any test (any c d)) r t leads apart (λ s e. (heads-any c d s (heads-any test (any c d) s e).1).0) (λ s e. (heads-any c d s (heads-any test (any c d) s e).1).1)
 
--- ---- past a token where it comes next, or another way
+-- ---- past a token if it comes next, or another reading
 
 takes_cond : {A : Type 0} (b : Bool) (p : Parser A) (r : Stream) (f : Fault) (z : Result (A × Stream) Fault) → cond b (p r) z ≡ cond b (go_on (cond b (ok_unit r) (Err f)) (λ _. p)) z
 takes_cond true p r f z = refl

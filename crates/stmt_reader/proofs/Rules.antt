@@ -1,4 +1,5 @@
--- A reading reads a rule: what it finds is in the rule, what the rule has is found, and a fault is the first one.
+-- A reading reads a rule: what it finds is in the rule, all that is in the rule is found, and a fault is the
+-- first one.
 use Rattle.std.proofs.Common.{◌≡◌, ℕ, ◌+◌, ◌≤◌, Bool, false, ◌||◌, List, [], ◌∷◌, ◌++◌, length, Result, Ok, Err, refl, sym, ap, subst, ◌∙◌, append_assoc, length-append, arith, inl, inr}
 use Rattle.std.specs.Prelude.{◌⊎◌}
 use Rattle.std.proofs.lemmas.Bool.{or_parts}
@@ -12,7 +13,7 @@ use Rattle.stmt_reader.specs.declared.faults.Fault.{Fault}
 use Rattle.stmt_reader.specs.declared.faults.Fault.TheVariants.{NoToken, Syntax, BadNumber}
 use Rattle.stmt_reader.proofs.Placed.{AllFit, MisfitIn, misfit_left, misfit_right, fit-append, onto-append, plain-append, size-onto, splits, nothing_placed, ahead_onto}
 
--- what was found: tokens of the rule, whose numbers are i64; and nothing behind them but the next token matters
+-- what was found: tokens of the rule, whose numbers are i64; after them only the next token matters
 pub record Found {A : Type 0} (p : Parser A) (L : Rule A) (s : Stream) (a : A) (left : Stream) : Type 0 where
   pub taken : List Placed
   pub split : s ≡ onto taken left
@@ -20,7 +21,7 @@ pub record Found {A : Type 0} (p : Parser A) (L : Rule A) (s : Stream) (a : A) (
   pub fit : AllFit taken
   pub firm : (rest : Stream) → seen_ahead left ≡ seen_ahead rest → p (onto taken rest) ≡ Ok (a, rest)
 
--- a fault at a token: it is refused whatever follows, or it is a number that isn't an i64 where one may stand
+-- a fault at a token: no rest makes it right, or it is a number that isn't an i64 where a number is allowed
 abbrev pub StuckAt : {A : Type 0} → Parser A → Rule A → List Placed → Placed → Fault → Type 0
 StuckAt p L taken t f =
     ((f ≡ Syntax t.at) × ((rest : Stream) → p (onto taken (t then rest)) ≡ Err f))
@@ -31,7 +32,7 @@ Stuck p L taken (ends q) f = f ≡ Syntax q
 Stuck p L taken (stops q) f = f ≡ NoToken q
 Stuck p L taken (t then left) f = StuckAt p L taken t f
 
--- where reading ended: behind tokens that begin something of the rule, whose numbers are i64
+-- where reading ended: after tokens that begin something of the rule, whose numbers are i64
 pub record Failed {A : Type 0} (p : Parser A) (L : Rule A) (s : Stream) (f : Fault) : Type 0 where
   pub taken : List Placed
   pub left : Stream
@@ -40,12 +41,12 @@ pub record Failed {A : Type 0} (p : Parser A) (L : Rule A) (s : Stream) (f : Fau
   pub fit : AllFit taken
   pub stuck : Stuck p L taken left f
 
--- what the rule has is found, unless a number isn't an i64
+-- all that is in the rule is found, unless a number isn't an i64
 abbrev pub Agrees : {A : Type 0} → List Placed → A → Stream → Result (A × Stream) Fault → Type 0
 Agrees ts a left (Ok x) = x ≡ (a, left)
 Agrees ts a left (Err f) = MisfitIn ts f
 
--- a reading reads a rule, on streams of at most n tokens; `on` are the tokens with which it may go on
+-- a reading reads a rule, on streams of at most n tokens; `on` are the tokens with which it may continue
 pub record Reads (n : ℕ) {A : Type 0} (p : Parser A) (L : Rule A) (on : Seen → Bool) : Type 0 where
   pub starts : Begins L []
   pub finds : (s : Stream) (a : A) (left : Stream) → size s ≤ n → p s ≡ Ok (a, left) → Found p L s a left
@@ -69,7 +70,7 @@ heads-any c d (ends p) e = (refl, refl)
 heads-any c d (stops p) e = (refl, refl)
 heads-any c d (t then s) e = or_parts (c (seen_token t.token)) (d (seen_token t.token)) e
 
--- no word of M, with nothing of `on` behind it, begins with a token of `test`
+-- no word of M, with nothing of `on` after it, begins with a token of `test`
 abbrev pub Avoids : {B : Type 0} → (Seen → Bool) → Rule B → (Seen → Bool) → Type 0
 Avoids {B} test M on = (ts : List Placed) (b : B) (left : Stream) → M (plain ts) b → heads on left ≡ false → heads test (onto ts left) ≡ false
 
@@ -111,7 +112,7 @@ pub went_wrong : {A B : Type 0} (r : Result (A × Stream) Fault) (q : A → Pars
 went_wrong (Ok x) q f e = inr (record { value = x.0; between = x.1; first = refl; second = e })
 went_wrong (Err g) q f e = inl cc
 
--- ---- a reading that is another, and a rule that is another
+-- ---- equal readings, and equal rules
 
 pub record Alike {A : Type 0} (L M : Rule A) : Type 0 where
   pub to : (ts : List Token) (a : A) → L ts a → M ts a
@@ -154,7 +155,7 @@ reads_gives n a = record {
   agrees = λ ts b left le m free. rw (nothing_placed ts m.0) (ap (λ x. (x, left)) m.1);
 }
 
--- ---- one after the other
+-- ---- in order
 
 begins_first : {A B : Type 0} (L : Rule A) (M : A → Rule B) (us : List Token) → ((a : A) → Begins (M a) []) → Begins L us → Begins (sequence L M) us
 unfolding sequence
@@ -173,7 +174,7 @@ stuck_first p q L M taken (stops r) f rest h = h
 stuck_first p q L M taken (t then left) f rest (inl h) = inl (h.0, λ others. rw (h.1 others) refl)
 stuck_first p q L M taken (t then left) f rest (inr h) = inr (h.0, h.1, begins_first L M (plain taken ++ t.token ∷ []) rest h.2)
 
--- what the second reading makes of a stream behind what the first one took
+-- the second reading on the rest that the first one left
 second_is : {A B : Type 0} (p : Parser A) (q : A → Parser B) (us vs : List Placed) (a : A) (r : Stream) → p (onto us (onto vs r)) ≡ Ok (a, onto vs r) → bind p q (onto (us ++ vs) r) ≡ q a (onto vs r)
 unfolding bind
 second_is p q us vs a r e = rw (onto-append us vs r, e) refl

@@ -39,7 +39,7 @@ keyed front f = (front, f)
 abbrev pub keys_rule : List (List ℕ) → Rule (List (List ℕ) × Fun)
 keys_rule front ts x = (us : List Token) × (vs : List Token) × (new : List (List ℕ)) × (ts ≡ us ++ vs) × (x.0 ≡ front ++ new) × many key_rule us new × function_rule vs x.1
 
--- behind the word after a comma, by the function that it names
+-- after the word that follows a comma, by the function that it names
 abbrev word_rule : List (List ℕ) → List ℕ → Option Fun → Rule (List (List ℕ) × Fun)
 word_rule front w None = keys_rule (front ++ w ∷ [])
 word_rule front w (Some f) = either (behind (is_mark marks.Open) (means (keyed front f))) (keys_rule (front ++ w ∷ []))

@@ -1,4 +1,4 @@
--- What reading answers is what the grammar says, and a fault is the first thing that is wrong.
+-- The result of reading is what the grammar says, and a fault is the first error.
 use Rattle.std.proofs.Common.{◌≡◌, ℕ, zero, suc, ◌+◌, ◌<◌, ◌≤◌, Bool, true, false, List, [], ◌∷◌, ◌++◌, length, Result, Ok, Err, refl, sym, ap, subst, ◌∙◌, append_assoc, arith, inl, inr}
 use Rattle.std.specs.Prelude.{◌⊎◌}
 use Rattle.std.proofs.lemmas.Bool.{both_ways}
@@ -64,7 +64,7 @@ later_place (t ∷ ts) s r =
     let k = later_place ts s r.1 in
     (omega (arith, k.0, r.0), λ e. absurd (omega (arith, k.0, r.0)))
 
--- ---- two ways to part a stream
+-- ---- two ways to split a stream
 
 -- the second part of one lies within that of the other
 pub record Within (us : List Placed) (l : Stream) (ts : List Placed) (r : Stream) : Type 0 where
@@ -120,7 +120,7 @@ module _ {A : Type 0} (whole : read.Parser A) (L : Rule A) {on : Seen → Bool} 
   behind_at taken ts left r never (inl w) = record { between = w.between; front = w.front; back = w.back }
   behind_at taken ts left r never (inr w) = behind_in taken ts left r w.between never w.front w.back
 
-  -- what can't lie among the tokens that were taken lies behind them
+  -- a token that can't be among those taken is after them
   behind : (s : Stream) (taken ts : List Placed) (left r : Stream) → Good s taken left → s ≡ onto ts r → ((x : Placed) (xs : List Placed) → taken ≡ ts ++ x ∷ xs → r ≡ x then (onto xs left) → ⊥) → Behind taken left ts r
   behind s taken ts left r g e never = behind_at taken ts left r never (meet taken ts left r (sym g.split ∙ e))
 
@@ -142,7 +142,7 @@ module _ {A : Type 0} (whole : read.Parser A) (L : Rule A) {on : Seen → Bool} 
       let h : t ≡ x = cc in
       both_ways (is_fit t.token) never (fit_at ts xs t (subst AllFit (front ∙ ap (λ y. ts ++ y ∷ xs) (sym h)) g.fit)))
 
-  -- a refusal lies behind what was taken
+  -- a refusal lies after what was taken
   pub record Later (left : Stream) (g : Fault) : Type 0 where
     pub between : List Placed
     pub at : Stream
@@ -173,7 +173,7 @@ module _ {A : Type 0} (whole : read.Parser A) (L : Rule A) {on : Seen → Bool} 
   good_found : (s : Stream) (a : A) (left : Stream) (f : Found whole L s a left) → Good s f.taken left
   good_found s a left f = record { split = f.split; begins = ([], a, subst (λ x. L x a) (sym (append-nil (plain f.taken))) f.said); fit = f.fit }
 
-  -- what reading a stream with these tokens and nothing behind them gives
+  -- the result of reading a stream of exactly these tokens
   pub whole_agrees : (ts : List Placed) (a : A) (p : ℕ) → L (plain ts) a → Agrees ts a (ends p) (whole (onto ts (ends p)))
   whole_agrees ts a p m = (reads_whole (length ts)).agrees ts a (ends p) (omega arith) m refl
 
@@ -219,19 +219,19 @@ module _ {A : Type 0} (whole : read.Parser A) (L : Rule A) {on : Seen → Bool} 
       let h : t ≡ u = cc in
       never (subst (λ x. Begins L (plain x ++ u.token ∷ [])) (sym ts-is) (subst (λ x. Begins L (plain taken ++ x.token ∷ [])) h b))
 
-  -- nothing but the end lies behind the end
+  -- only the end comes after the end
   end_only : (taken : List Placed) (p : ℕ) (ts : List Placed) (r : Stream) → Behind taken (ends p) ts r → (ends p ≡ r → ⊥) → ⊥
   end_only taken p ts r b never = end_only_at p r b.between b.back never
 
   end_same : (taken : List Placed) (p : ℕ) (ts : List Placed) (q : ℕ) → Behind taken (ends p) ts (ends q) → taken ≡ ts
   end_same taken p ts q b = sym (b.front ∙ ap (λ x. taken ++ x) (end_empty p (ends q) b.between b.back) ∙ append-nil taken)
 
-  -- a L can't end where a token was left
+  -- a statement can't end if a token was left
   not_ended : (ts : List Placed) (a b : A) (t : Placed) (l : Stream) (r : Result (A × Stream) Fault) → r ≡ Ok (a, t then l) → Agrees ts b (ends 0) r → ⊥
   not_ended ts a b t l (Ok x) e h = then_is_no_end t l 0 (sym (second a (t then l) x e) ∙ ap (λ y. y.1) h)
   not_ended ts a b t l (Err f) e h = absurd cc
 
-  -- a token that was refused whatever follows is no bad number
+  -- a token that no rest makes right isn't a bad number
   not_syntax : (ts : List Placed) (b : A) (p : ℕ) (r : Result (A × Stream) Fault) → r ≡ Err (Syntax p) → Agrees ts b (ends 0) r → ⊥
   not_syntax ts b p (Ok x) e h = absurd cc
   not_syntax ts b p (Err f) e h = let k = misfit_is_bad_number ts f h in bad_is_no_syntax f p k.0 e k.1
@@ -248,7 +248,7 @@ module _ {A : Type 0} (whole : read.Parser A) (L : Rule A) {on : Seen → Bool} 
 
   -- ---- the verdict
 
-  -- nothing lies behind the end but what is no fault
+  -- after the end there is no fault
   nothing_wrong : (s : Stream) (a : A) (p : ℕ) (f : Found whole L s a (ends p)) (g : Fault) → Refuses L s g → ⊥
   nothing_wrong s a p f (NoToken q) (ts, e) = end_only f.taken p ts (stops q) (stops_behind s f.taken ts (ends p) q (good_found s a (ends p) f) e) (λ k. cc)
   nothing_wrong s a p f (Syntax q) (inl (ts, t, l, e, q-is, never)) = end_only f.taken p ts (t then l) (refused_token_behind s f.taken ts (ends p) t l (good_found s a (ends p) f) e never) (λ k. cc)
@@ -261,7 +261,7 @@ module _ {A : Type 0} (whole : read.Parser A) (L : Rule A) {on : Seen → Bool} 
   verdict_ok s a (stops p) r f = first_at s f.taken (stops p) (NoToken p) (good_found s a (stops p) f) r refl (f.taken, f.split) (λ g _. tt)
   verdict_ok s a (t then l) r f = first_at s f.taken (t then l) (Syntax t.at) (good_found s a (t then l) f) r refl (inl (f.taken, t, l, f.split, refl, none_found s a t l f)) (λ g _. tt)
 
-  -- a number that isn't an i64, where a number may stand: no token there is refused
+  -- a number that isn't an i64, where a number is allowed: no token there is refused
   number_stands : (s : Stream) (taken : List Placed) (t : Placed) (l : Stream) → Good s taken (t then l) → Rises s → Begins L (plain taken ++ t.token ∷ []) → (g : Fault) → Refuses L s g → Comes (BadNumber t.at) g
   number_stands s taken t l good r b (NoToken q) h = tt
   number_stands s taken t l good r b (BadNumber q) h = tt
@@ -288,14 +288,14 @@ module _ {A : Type 0} (whole : read.Parser A) (L : Rule A) {on : Seen → Bool} 
       subst (λ x. First L s x) (sym f-is)
       (first_at s taken (t then l) (BadNumber t.at) good r refl (taken, t, l, good.split, refl, unfit) (number_stands s taken t l good r b))
 
-  -- a reading gives what the grammar says of its text
+  -- a reading returns what the grammar says of its text
   pub verdict_at : (s : Stream) (r : Result (A × Stream) Fault) → Rises s → whole s ≡ r → Verdict L s (go_on r (λ a. bind read.end (λ _. gives a)))
   verdict_at s (Ok x) r e = verdict_ok s x.0 x.1 r ((reads_whole (size s)).finds s x.0 x.1 (omega arith) e)
   verdict_at s (Err f) r e =
       let g = (reads_whole (size s)).fails s f (omega arith) e in
       verdict_err s g.taken g.left f r (record { split = g.split; begins = g.begins; fit = g.fit }) e g.stuck
 
--- the semicolon and the end may be read as two
+-- the semicolon and the end may be read in two steps
 apart : (r : Result (Unit {0} × Stream) Fault) (a : Stmt) → go_on r (λ _. bind read.end (λ _. gives a)) ≡ go_on (go_on r (λ _. gives a)) (λ b. bind read.end (λ _. gives b))
 apart (Ok x) a = refl
 apart (Err f) a = refl
@@ -366,7 +366,7 @@ no_stop L s p q r e (ts, i) (inr (us, k, never)) = no_two_ends ts us p q (sym i 
 no_number : {A : Type 0} (L : Rule A) (s : Stream) (p q : ℕ) → Rises s → p ≡ q → Refuses L s (NoToken p) → Refuses L s (BadNumber q) → ⊥
 no_number L s p q r e (ts, i) (us, t, l, k, at, never) = stop_behind ts us p t l (subst Rises i r) (sym i ∙ k) (at ∙ sym e)
 
--- one thing is the first
+-- only one error is the first
 pub one_first : {A : Type 0} (L : Rule A) (s : Stream) (f g : Fault) → Rises s → First L s f → First L s g → f ≡ g
 one_first L s (NoToken p) (NoToken q) r a b = ap NoToken (let x = (a.1 (NoToken q) b.0).0 in let y = (b.1 (NoToken p) a.0).0 in omega arith)
 one_first L s (Syntax p) (Syntax q) r a b = ap Syntax (let x = (a.1 (Syntax q) b.0).0 in let y = (b.1 (Syntax p) a.0).0 in omega arith)
@@ -378,7 +378,7 @@ one_first L s (BadNumber p) (NoToken q) r a b = absurd (no_number L s q p r (let
 one_first L s (BadNumber p) (Syntax q) r a b = absurd ((a.1 (Syntax q) b.0).1 (let x = (a.1 (Syntax q) b.0).0 in let y = (b.1 (BadNumber p) a.0).0 in omega arith))
 one_first L s (Syntax p) (BadNumber q) r a b = absurd ((b.1 (Syntax p) a.0).1 (let x = (a.1 (BadNumber q) b.0).0 in let y = (b.1 (Syntax p) a.0).0 in omega arith))
 
--- where nothing is wrong, each number is an i64
+-- without an error, each number is an i64
 fit_unless_refused : {A : Type 0} (L : Rule A) (before ts : List Placed) (s l : Stream) → s ≡ onto (before ++ ts) l → ((g : Fault) → Refuses L s g → ⊥) → AllFit ts
 fit_unless_refused L before [] s l e none = tt
 fit_unless_refused L before (t ∷ ts) s l e none =

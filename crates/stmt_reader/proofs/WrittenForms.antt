@@ -1,4 +1,4 @@
--- What the grammar's statements hold is whole, and takes so many bytes.
+-- The grammar's statements are whole, and their texts have at least this many bytes.
 use Rattle.std.proofs.Common.{ℕ, ◌+◌, ◌≤◌, length, Some, None, arith}
 use Rattle.stmt_reader.specs.Grammar as rule
 use Rattle.stmt_reader.specs.Grammar.{Rule}
@@ -11,7 +11,7 @@ use Rattle.stmt_syntax.specs.declared.statements.Stmt.TheVariants as stmt
 use Rattle.stmt_reader.proofs.Yields.{Yields, Item, yields_means, yields_then, yields_either, yields_listed, yields_keyword, yields_mark, yields_name, yields_quoted, yields_number, yields_spelled}
 use Rattle.stmt_reader.proofs.WrittenParts.{Any, yields_value, yields_row, yields_column, yields_source, yields_fold, yields_fold_behind, yields_calendar_bucket}
 
--- a statement by tokens of so many bytes
+-- a statement by tokens of this many bytes
 abbrev Holds : Stmt → ℕ → Type 0
 Holds s n = IsShaped n s
 
@@ -40,7 +40,7 @@ create_hypertable =
     yields_then (yields_mark marks.Close) (λ _ k hk.
     yields_means (stmt.Hyper name col z) _ (record { whole = tt; size = omega arith }))))))))))))
 
--- whatever is written, it takes no bytes less than none
+-- any text takes at least no bytes
 anything : {A : Type 0} (L : Rule A) → Yields L (λ _ n. 0 ≤ n)
 anything L = record { holds = λ ts a l. omega arith }
 

@@ -24,7 +24,7 @@ use Rattle.stmt_reader.proofs.Verdict.{fit_statement, reads_by_the_grammar}
 use Rattle.stmt_reader.proofs.WrittenForms.{yields_statement}
 use Rattle.stmt_tokens.proofs.Named.{word_len}
 
--- ---- a token is as long as it is written
+-- ---- a token is as long as its text
 
 abbrev Sized : Option Lexeme → Type 0
 Sized None = Unit {0}
@@ -85,7 +85,7 @@ next_sized text skip = let begin = skip + blank_len (drop skip text) in sized_he
 
 -- ---- the tokens of a text take no more bytes than the text has
 
--- these tokens up to the end stand behind so many bytes of a text of `most`
+-- these tokens up to the end are after this many bytes of a text of `most`
 abbrev Weighs : ℕ → ℕ → Stream → Type 0
 Weighs skip most s = (ts : List Placed) (p : ℕ) → s ≡ onto ts (ends p) → skip + weight (plain ts) ≤ most
 
@@ -119,7 +119,7 @@ shaped text skip s le (ts, p, e, l) =
     let w = yields_statement.holds (plain ts) s l in
     record { whole = w.whole; size = omega (arith, stream_weighs text skip le ts p e, w.size) }
 
--- where nothing is wrong, a statement is proper too
+-- without an error, a statement is also proper
 said : (text : List ℕ) (skip : ℕ) (s : Stmt) → skip ≤ length text → IsSaid statement (stream text skip) s → ((g : Fault) → Refuses statement (stream text skip) g → ⊥) → IsWritten (length text) s
 said text skip s le (ts, p, e, l) none =
     let w = shaped text skip s le (ts, p, e, l) in

@@ -1,4 +1,4 @@
--- What the grammar's parts hold is whole, and takes so many bytes.
+-- The grammar's parts are whole, and their texts have at least this many bytes.
 use Rattle.std.proofs.Common.{◌≡◌, ℕ, ◌+◌, ◌*◌, ◌<◌, ◌≤◌, Bool, true, false, cond, List, [], ◌∷◌, length, Option, Some, None, refl, sym, ap, subst, ◌∙◌, arith, ℤ, pos}
 use Rattle.std.specs.Prelude.{codes, sum_by, is_some}
 use Rattle.std.specs.Str.{bytes_eq}
@@ -25,7 +25,7 @@ use Rattle.stmt_syntax.specs.declared.statements.NamedFold.{NamedFold}
 use Rattle.stmt_syntax.specs.declared.statements.NamedTest.{NamedTest}
 use Rattle.stmt_reader.proofs.Yields.{Yields, Item, Items, Listed, token_size, yields_means, yields_then, yields_either, yields_many, yields_listed, yields_one, yields_wanted, yields_keyword, yields_mark, yields_name, yields_number, yields_quoted}
 
--- nothing more to say of a value
+-- no condition on a value
 abbrev pub Any : {A : Type 0} → A → Type 0
 Any a = Unit {0}
 
@@ -97,7 +97,7 @@ compares (number z) op e = absurd cc
 compares (quoted w) op e = absurd cc
 compares (mark m) op e = record { plain = compares_mark m op e; size = omega arith }
 
--- what stands behind the column of a test
+-- the rest of a test after its column
 record TestOf (c : List ℕ) (t : NamedTest) (n : ℕ) : Type 0 where
   pub col : t.col ≡ c
   pub whole : IsWholeTest t
@@ -172,7 +172,7 @@ yields_alias =
     (yields_then (yields_keyword kw.As) (λ _ a ha. yields_then yields_name (λ x b hb. yields_means (Some x) _ (omega arith))))
     (yields_means None _ (omega arith))
 
--- a function that is written by a word: it takes an argument
+-- a function with a word of its own: it takes an argument
 record Named (f : Fun) (n : ℕ) : Type 0 where
   pub takes : takes_argument f ≡ true
   pub size : 3 ≤ n
@@ -202,7 +202,7 @@ named (number z) f e = absurd cc
 named (quoted w) f e = absurd cc
 named (mark m) f e = absurd cc
 
--- * or c: a function with an argument where it takes one
+-- * or c: a function with an argument if it takes one
 record ArgumentOf (a : Fun × Option (List ℕ)) (n : ℕ) : Type 0 where
   pub whole : is_some a.1 ≡ takes_argument a.0
   pub size : argument_size a.1 ≤ n
@@ -285,7 +285,7 @@ yields_grouping first keys =
     yields_then (yields_keyword kw.By) (λ _ n hn.
     record { holds = λ ts u l. omega arith }))
 
--- a fold whose head has this column and this name, and what stands behind the head
+-- a fold whose head has this column and this name, and the rest of the fold
 pub record BehindHead (b : Head) (f : NamedFold) (n : ℕ) : Type 0 where
   pub is : IsWholeFold f
   pub size : fold_size f ≤ 15 + length b.at + alias_size b.name + n

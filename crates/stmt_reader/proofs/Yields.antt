@@ -1,4 +1,4 @@
--- What is so of whatever a rule has: of its value, and of how many bytes its tokens take.
+-- What is true of all results of a rule: of its value, and of the number of bytes of its tokens.
 use Rattle.std.proofs.Common.{◌≡◌, ℕ, ◌+◌, ◌<◌, ◌≤◌, Bool, true, List, [], ◌∷◌, ◌++◌, length, Option, Some, sym, ap, subst, ◌∙◌, arith, inl, inr}
 use Rattle.std.specs.Prelude.{sum_by, ◌⊎◌}
 use Rattle.std.specs.List.{AllByRecursion}
@@ -12,7 +12,7 @@ use Rattle.stmt_reader.specs.Grammar.{Rule, means, sequence, either, many, list_
 use Rattle.stmt_tokens.specs.declared.keywords.Keyword.{Keyword}
 use Rattle.stmt_tokens.specs.declared.tokens.Mark.{Mark}
 
--- at least so many bytes are written for a token
+-- the least number of bytes of a token
 abbrev pub token_size : Token → ℕ
 token_size (word w) = length w
 token_size (number z) = 1
@@ -27,11 +27,11 @@ weight-append : (us vs : List Token) → weight (us ++ vs) ≡ weight us + weigh
 weight-append [] vs = omega arith
 weight-append (t ∷ us) vs = omega (arith, weight-append us vs)
 
--- what a rule has is so: its value, with the bytes of its tokens
+-- all results of a rule have a property of the value and of the bytes of its tokens
 pub record Yields {A : Type 0} (L : Rule A) (P : A → ℕ → Type 0) : Type 0 where
   pub holds : (ts : List Token) (a : A) → L ts a → P a (weight ts)
 
--- ---- rules put together
+-- ---- rules combined
 
 pub yields_means : {A : Type 0} (a : A) (P : A → ℕ → Type 0) → P a 0 → Yields (means a) P
 unfolding means
@@ -57,7 +57,7 @@ yields_either f g = record { holds = λ ts a l. yields_one_of f g ts a l }
 
 -- ---- lists
 
--- an item that is so, and takes at least so many bytes
+-- an item with this property, which takes at least this many bytes
 pub record Item {A : Type 0} (R : A → Type 0) (f : A → ℕ) (a : A) (n : ℕ) : Type 0 where
   pub is : R a
   pub size : f a ≤ n
@@ -85,7 +85,7 @@ pub record Listed {A : Type 0} (c : ℕ) (R : A → Type 0) (f : A → ℕ) (ite
   pub each : AllByRecursion R items
   pub size : sum_by f items ≤ c + n
 
--- a list of items, where f counts the c bytes of what parts them to each
+-- a list of items; f adds the c bytes of its separator to each
 pub yields_listed : {A B : Type 0} {S : Rule B} {L : Rule A} {R : A → Type 0} (c : ℕ) (f : A → ℕ) → Yields S (λ _ n. c ≤ n) → Yields L (λ a n. Item R f a (c + n)) → Yields (list_rule S L) (Listed c R f)
 yields_listed {A} {R = R} c f s y =
     yields_then y (λ first n h.
@@ -99,7 +99,7 @@ yields_listed {A} {R = R} c f s y =
 
 -- ---- one token
 
--- a token of which this is so
+-- a token with this property
 one_token : (P : ℕ → Type 0) (ts : List Token) (t : Token) → ts ≡ t ∷ [] → P (token_size t + 0) → P (weight ts)
 one_token P ts t e h = subst (λ (us : List Token). P (weight us)) (sym e) h
 
@@ -111,7 +111,7 @@ pub yields_wanted : (test : Seen → Bool) (P : ℕ → Type 0) → ((t : Token)
 unfolding token_rule
 yields_wanted test P h = record { holds = λ ts u (t, e, k). one_token P ts t e (h t k) }
 
--- whatever it is
+-- for any value
 pub yields_any : (test : Seen → Bool) → Yields (token_rule test) (λ _ n. 0 ≤ n)
 yields_any test = yields_wanted test (λ n. 0 ≤ n) (λ t k. omega arith)
 

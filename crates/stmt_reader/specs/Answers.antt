@@ -15,7 +15,7 @@ abbrev pub IsRead : Statement → Result (Statement × Stream) Fault → Type 0
 IsRead s (Ok x) = x.0 ≡ s
 IsRead s (Err f) = ⊥
 
--- an answer is what reading gives, unless memory ran out
+-- an answer is the result of reading, unless memory ran out
 abbrev pub Answers : ReadStmt → Result (Statement × Stream) Fault → Type 0
 Answers (Stmt s) read = IsRead s read
 Answers (NoToken p) read = IsFault (faults.NoToken p) read

@@ -1,4 +1,4 @@
--- Reading never goes back: the tokens that are left are at most as many as there were.
+-- Reading never goes back: at most as many tokens are left as before.
 use Rattle.std.proofs.Common.{◌≡◌, ℕ, zero, suc, ◌≤◌, Bool, true, false, cond, List, [], ◌∷◌, ◌++◌, Option, Some, None, Result, Ok, Err, refl, ap, subst, arith}
 use Rattle.std.specs.Prelude.{option_and_then}
 use Rattle.stmt_tokens.specs.Scan.{Seen}
@@ -7,7 +7,7 @@ use Rattle.stmt_tokens.specs.Streams.{Stream, ends, stops, ◌then◌, size, hea
 use Rattle.stmt_reader.specs.Reading.{fault_here, Parser, gives, go_on, bind, takes, choose, token_value, one, token_parser, fitting_number, number, repeat, more, parts, list_parser, value, row, not_null, column, null_test, number_test, any_test, alias, argument, aggregate_rest, aggregate, name}
 use Rattle.stmt_reader.specs.declared.faults.Fault.{Fault}
 
--- a parser leaves at most what it was given
+-- a parser leaves at most as many tokens as it was given
 pub record Forward {A : Type 0} (p : Parser A) : Type 0 where
   pub goes : (s : Stream) (a : A) (left : Stream) → p s ≡ Ok (a, left) → size left ≤ size s
 

@@ -1,4 +1,4 @@
--- The grammar: which tokens are which statement. A rule relates some tokens to what they mean.
+-- The grammar: the statement that tokens mean. A rule relates some tokens to their meaning.
 use Rattle.std.specs.Prelude.{◌≡◌, ℕ, suc, ℤ, pos, Bool, true, false, ◌⊎◌, List, [], ◌∷◌, ◌++◌, Option, Some, None}
 use Rattle.stmt_tokens.specs.Tokens.{Token, number as number_token}
 use Rattle.stmt_tokens.specs.Scan.{Seen, seen_token}
@@ -25,7 +25,7 @@ use Rattle.ts_schema.specs.declared.conditions.Cmp.TheVariants as cmp
 abbrev pub Rule : Type 0 → Type 1
 Rule A = List Token → A → Type 0
 
--- ---- how rules are put together
+-- ---- how rules are combined
 
 -- no token, which means this
 unfoldable pub means : {A : Type 0} → A → Rule A
@@ -41,7 +41,7 @@ abbrev pub ◌>>=◌ : {A B : Type 0} → Rule A → (A → Rule B) → Rule B
 L >>= M = sequence L M
 
 infixr 10 ◌>>◌
--- one rule and then another, of which the first one means nothing
+-- one rule and then another; the first one has no value
 abbrev pub ◌>>◌ : {A B : Type 0} → Rule A → Rule B → Rule B
 L >> M = sequence L (λ _. M)
 
@@ -53,12 +53,12 @@ either L M ts a = L ts a ⊎ M ts a
 abbrev pub optional : {A : Type 0} → Rule A → A → Rule A
 optional L d = either L (means d)
 
--- a rule from zero times on
+-- a rule, zero or more times
 unfoldable pub many : {A : Type 0} → Rule A → Rule (List A)
 many L ts [] = ts ≡ []
 many L ts (a ∷ items) = (us : List Token) × (vs : List Token) × (ts ≡ us ++ vs) × L us a × many L vs items
 
--- a rule once or more, parted by another
+-- a rule once or more, separated by another
 abbrev pub list_rule : {A B : Type 0} → Rule B → Rule A → Rule (List A)
 list_rule separator L = do
   first ← L
@@ -67,7 +67,7 @@ list_rule separator L = do
 
 -- ---- one token
 
--- a token that means something
+-- a token with a meaning
 unfoldable pub one : {A : Type 0} → (Seen → Option A) → Rule A
 one f ts a = (t : Token) × (ts ≡ t ∷ []) × (f (seen_token t) ≡ Some a)
 
@@ -91,7 +91,7 @@ name = one word_of
 abbrev pub quoted_name : Rule (List ℕ)
 quoted_name = one quoted_of
 
--- num: any number, also where it isn't an i64
+-- num: any number, even if it isn't an i64
 unfoldable pub number : Rule ℤ
 number ts z = ts ≡ number_token z ∷ []
 
@@ -113,7 +113,7 @@ row = do
   mark marks.Close
   means values
 
--- IS NULL or IS NOT NULL, behind IS
+-- IS NULL or IS NOT NULL, after IS
 abbrev pub null_test : List ℕ → Rule NamedTest
 null_test c =
     either
@@ -147,7 +147,7 @@ source = do
 abbrev pub alias : Rule (Option (List ℕ))
 alias = optional (keyword kw.As >> name >>= λ x. means (Some x)) None
 
--- * behind count (, or c
+-- * after count (, or c
 abbrev pub argument : Fun → Rule (Fun × Option (List ℕ))
 argument f = either (token_rule (is_star_of f) >> means (fun.CountAll, None)) (name >>= λ c. means (f, Some c))
 
@@ -196,7 +196,7 @@ abbrev pub items_from : ℕ → List (List ℕ) → Rule (Unit {0})
 items_from i [] = means tt
 items_from i (n ∷ names) = mark marks.Comma >> token_rule (is_item i n) >> items_from (suc i) names
 
--- GROUP BY item { , item }, where the items are as many as the head, which has this name, and the keys together
+-- GROUP BY item { , item }: one item for the head, which has this name, and one for each key
 abbrev pub group_by : List ℕ → List (List ℕ) → Rule (Unit {0})
 group_by first keys = do
   keyword kw.Group
@@ -204,8 +204,8 @@ group_by first keys = do
   token_rule (is_item 0 first)
   items_from 1 keys
 
--- the rest of a fold behind its head, whose own word this is: { , c } , agg { , agg } FROM n [WHERE tests] GROUP BY
--- item { , item }
+-- the rest of a fold after its head, with this default name: { , c } , agg { , agg } FROM n [WHERE tests] GROUP
+-- BY item { , item }
 abbrev pub fold_behind : List ℕ → Head → Rule NamedFold
 fold_behind own h = do
   list ← select_list
@@ -213,11 +213,11 @@ fold_behind own h = do
   group_by (head_name own h.name) list.0
   means (record { step = h.step; shift = h.shift; at = h.at; name = h.name; keys = list.0; aggs = list.1; table = from.0; tests = from.1 })
 
--- fold, behind its SELECT: bucket { , c } , agg { , agg } FROM n [WHERE tests] GROUP BY item { , item }
+-- fold, after its SELECT: bucket { , c } , agg { , agg } FROM n [WHERE tests] GROUP BY item { , item }
 abbrev pub fold : Rule NamedFold
 fold = bucket >>= fold_behind bucket_word
 
--- ( num , 'unit' , c ) [AS x], behind calendar_bucket
+-- ( num , 'unit' , c ) [AS x], after calendar_bucket
 abbrev pub calendar_bucket : Rule CalendarHead
 calendar_bucket = do
   mark marks.Open

@@ -27,38 +27,38 @@ use Rattle.ts_schema.specs.declared.conditions.Cmp.{Cmp}
 use Rattle.ts_schema.specs.declared.conditions.Cmp.TheVariants as cmp
 use Rattle.stmt_tokens.specs.declared.tokens.Mark.{Mark}
 
--- the fault where nothing that may come next comes
+-- the fault if no allowed token comes next
 abbrev pub fault_here : Stream → Fault
 fault_here (ends p) = Syntax p
 fault_here (stops p) = NoToken p
 fault_here (t then s) = Syntax t.at
 
--- Reading from left to right: what the tokens in front say and the tokens after them, or the first fault.
+-- Reading from left to right: the value of the tokens in front and the tokens after them, or the first fault.
 abbrev pub Parser : Type 0 → Type 0
 Parser A = Stream → Result (A × Stream) Fault
 
--- an error of the code is the fault that reading gives, unless memory ran out
+-- an error of the code is the fault of reading, unless memory ran out
 abbrev pub Fails : {A : Type 0} → ReadError → Result (A × Stream) Fault → Type 0
 Fails errors.Memory read = Unit {0}
 Fails (errors.Fault f) read = read ≡ Err f
 
--- what a function of the code returned, with these tokens left, is what reading gives, unless memory ran out
+-- the result of a function of the code, with these tokens left, is that of reading, unless memory ran out
 abbrev pub Gives : {A : Type 0} → Result A ReadError → Result (A × Stream) Fault → Stream → Type 0
 Gives (Ok a) read left = read ≡ Ok (a, left)
 Gives (Err e) read left = Fails e read
 
--- ---- how readings are put together
+-- ---- how readings are combined
 
--- no token is read, and this is what it gives
+-- no token is read, and this is the result
 abbrev pub gives : {A : Type 0} → A → Parser A
 gives a s = Ok (a, s)
 
--- one after the other
+-- in order
 abbrev pub go_on : {A B : Type 0} → Result (A × Stream) Fault → (A → Parser B) → Result (B × Stream) Fault
 go_on (Ok x) q = q x.0 x.1
 go_on (Err f) q = Err f
 
--- one parser and then another, by what the first one gave
+-- one parser and then another, which depends on the result of the first
 unfoldable pub bind : {A B : Type 0} → Parser A → (A → Parser B) → Parser B
 bind p q s = go_on (p s) q
 
@@ -68,26 +68,26 @@ abbrev pub ◌>>=◌ : {A B : Type 0} → Parser A → (A → Parser B) → Pars
 p >>= q = bind p q
 
 infixr 10 ◌>>◌
--- one parser and then another, of which the first one gives nothing
+-- one parser and then another; the first one has no value
 abbrev pub ◌>>◌ : {A B : Type 0} → Parser A → Parser B → Parser B
 p >> q = bind p (λ _. q)
 
--- past a token that passes the test where one comes next, and else another way
+-- past a token that passes the test if one comes next, and otherwise another parser
 unfoldable pub takes : {A : Type 0} → (Seen → Bool) → Parser A → Parser A → Parser A
 takes test p q s = if heads test s then p (tail s) else q s
 
--- one way where a token comes next that passes the test, and else another
+-- one parser if a token comes next that passes the test, and otherwise another
 unfoldable pub choose : {A : Type 0} → (Seen → Bool) → Parser A → Parser A → Parser A
 choose test p q s = if heads test s then p s else q s
 
 -- ---- one token
 
--- what the token in front says
+-- the value of the token in front
 abbrev pub token_value : {A : Type 0} → Stream → Option A → Result (A × Stream) Fault
 token_value s None = Err (fault_here s)
 token_value s (Some a) = Ok (a, tail s)
 
--- a token that says something
+-- a token with a value
 unfoldable pub one : {A : Type 0} → (Seen → Option A) → Parser A
 one f s = token_value s (option_and_then f (seen_ahead s))
 
@@ -136,7 +136,7 @@ repeat (suc n) test p front = takes test (p >>= λ a. repeat n test p (front ++ 
 unfoldable pub more : {A : Type 0} → (Seen → Bool) → Parser A → List A → Parser (List A)
 more test p front s = repeat (size s) test p front s
 
--- what may part the items of a list
+-- the separators of the items of a list
 abbrev pub parts : Separator → Seen → Bool
 parts separators.Comma t = is_mark marks.Comma t
 parts separators.And t = is_keyword kw.And t
@@ -199,7 +199,7 @@ alias = takes (is_keyword kw.As) (name >>= λ x. gives (Some x)) (gives None)
 
 -- ---- folds
 
--- * behind count (, or c
+-- * after count (, or c
 unfoldable pub argument : Fun → Parser (Fun × Option (List ℕ))
 argument f = takes (is_star_of f) (gives (fun.CountAll, None)) (name >>= λ c. gives (f, Some c))
 
@@ -269,7 +269,7 @@ source = do
   tests ← filters
   gives (t, tests)
 
--- the aggregates, of which the first has this function, from its opening parenthesis on
+-- the aggregates; the first has this function and is read after its opening parenthesis
 unfoldable pub aggregates : Fun → Parser (List NamedAgg)
 aggregates f = do
   first ← aggregate_rest f
@@ -289,7 +289,7 @@ group_by first keys = do
   keyword kw.By
   items first keys
 
--- the rest of a fold behind its head, whose own word this is
+-- the rest of a fold after its head, with this default name
 unfoldable pub fold_behind : List ℕ → Head → Parser NamedFold
 fold_behind own h = do
   list ← select_list
@@ -314,7 +314,7 @@ calendar_bucket = do
   x ← alias
   gives (record { number = z; unit = u; head = record { step = pos 1; shift = pos 0; at = c; name = x } })
 
--- ---- statements, after the words that tell them apart
+-- ---- statements, after the words that distinguish them
 
 -- n ( column { , column } )
 unfoldable pub table_rest : Parser Stmt
@@ -440,7 +440,7 @@ drop_rest = do
   mark marks.Close
   gives (stmt.Drop t z)
 
--- FROM n [WHERE tests], behind SELECT *
+-- FROM n [WHERE tests], after SELECT *
 unfoldable pub rows_rest : Parser Stmt
 rows_rest = source >>= λ s. gives (stmt.Rows s.0 s.1)
 
@@ -513,7 +513,7 @@ form =
     (takes (is_keyword kw.Refresh) refresh_rest
     block))))))
 
--- nothing comes any more
+-- the end of the statement
 unfoldable pub end : Parser (Unit {0})
 end s = if is_end s then Ok (tt, s) else Err (fault_here s)
 
@@ -521,7 +521,7 @@ end s = if is_end s then Ok (tt, s) else Err (fault_here s)
 unfoldable pub semicolon : Parser (Unit {0})
 semicolon = takes (is_mark marks.Semicolon) (gives tt) (gives tt)
 
--- a whole statement, with one ; or none at its end
+-- a whole statement, with an optional ; at its end
 unfoldable pub statement : Parser Stmt
 statement = do
   s ← form

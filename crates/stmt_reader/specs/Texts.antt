@@ -1,4 +1,4 @@
--- What holds of the statement of a text.
+-- What is true of the statement of a text.
 use Rattle.std.specs.Prelude.{◌≡◌, ℕ, ◌≤◌, List, length, Ok}
 use Rattle.stmt_syntax.specs.Written.{IsShaped, IsWritten}
 use Rattle.stmt_syntax.specs.declared.statements.Stmt.{Stmt}
@@ -9,7 +9,7 @@ use Rattle.stmt_reader.specs.Refusals.{IsSaid}
 use Rattle.stmt_reader.specs.declared.reading.ReadStmt.{ReadStmt}
 use Rattle.stmt_reader.specs.declared.reading.ReadStmt.TheVariants as reads
 
--- what holds of the statement of an answer
+-- what is true of the statement of an answer
 abbrev pub OfStatement : (Stmt → Type 0) → ReadStmt → Type 0
 OfStatement P (reads.Stmt s) = P s
 OfStatement P (reads.NoToken p) = Unit {0}
@@ -17,8 +17,8 @@ OfStatement P (reads.Syntax p) = Unit {0}
 OfStatement P (reads.BadNumber p) = Unit {0}
 OfStatement P reads.NoMemory = Unit {0}
 
--- each statement that the grammar has of a text is whole, and no longer than the text; and it is proper where reading
--- gives it
+-- each statement that the grammar finds in a text is whole, and no longer than the text; it is proper if
+-- reading returns it
 pub record StatementsAreWritten : Type 0 where
   pub shaped : (text : List ℕ) (skip : ℕ) (s : Stmt) → skip ≤ length text → IsSaid statement (stream text skip) s
       → IsShaped (length text) s

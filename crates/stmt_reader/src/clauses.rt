@@ -71,7 +71,7 @@ impl Reader<'_> {
         Ok(Some(self.number()?))
     }
 
-    /// The values of a row in parentheses, in the memory of a list of which no value stays.
+    /// The values of a row in parentheses, in the memory of `room`, whose values are dropped.
     fn row(&mut self, room: Seq<Option<i64>>) -> Result<Seq<Option<i64>>, ReadError>
         ensures { Gives result (spec.row (ahead self.old)) (ahead self.new) }
     {
@@ -110,8 +110,8 @@ impl Reader<'_> {
         self.more_rows(rows, values)
     }
 
-    /// Makes room for as many rows of so many values as there may be in what is left of the text, where all of
-    /// them are as long as the one that begins there.
+    /// Makes room for the rows in the rest of the text, assuming that all are as long as the one that begins
+    /// there.
     fn make_room(
         &self,
         begin: usize,
@@ -126,7 +126,7 @@ impl Reader<'_> {
         rows.reserve(more, more.saturating_mul(count))
     }
 
-    /// Reads one more row each time a comma comes next. The memory of `room` takes the values of each in turn.
+    /// Reads one more row each time a comma comes next, each in turn into the memory of `room`.
     fn more_rows(
         &mut self,
         front: CellRows<Option<i64>>,

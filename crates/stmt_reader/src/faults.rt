@@ -1,10 +1,10 @@
-//! Why a text is no statement.
+//! Why a text isn't a statement.
 ghost use Rattle.std.specs.Prelude.{◌≡◌};
 ghost use Rattle.stmt_reader.specs.declared.faults.ReadError.TheVariants.{Memory};
 
 use ts_schema::NoMemory;
 
-/// What is wrong with a text, at a place of the line, which counts from 1.
+/// An error of a text, at a place of the line, counted from 1.
 #[derive(Clone, Copy, Debug, PartialEq, Eq)]
 pub enum Fault {
     /// No token begins here.
@@ -18,9 +18,9 @@ pub enum Fault {
 /// Why reading ended.
 #[derive(Clone, Copy, Debug, PartialEq, Eq)]
 pub enum ReadError {
-    /// A growth was refused.
+    /// An allocation failed.
     Memory,
-    /// The text is no statement.
+    /// The text isn't a statement.
     Fault(Fault),
 }
 

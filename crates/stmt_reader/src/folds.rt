@@ -20,14 +20,14 @@ use ts_schema::{Name, Seq};
 /// The name of a bucket that has none after AS.
 const BUCKET_NAME: &[u8] = b"time_bucket";
 
-/// The word of a bucket of the calendar, which names it where no name follows AS.
+/// The word of a bucket of the calendar. It is the bucket's name if no name follows AS.
 pub const CALENDAR_NAME: &[u8] = b"calendar_bucket";
 
-/// What a fold begins with: a width, the column that it is over, and the name after AS. The rest of
-/// the fold stands behind it.
+/// The start of a fold: a width, the column that it is over, and the name after AS. The rest of the fold
+/// follows it.
 #[derive(Drop)]
 pub struct Head {
-    /// How long a bucket is.
+    /// The length of a bucket.
     pub step: i64,
     /// The offset of the buckets.
     pub shift: i64,
@@ -37,10 +37,10 @@ pub struct Head {
     pub name: Option<Name>,
 }
 
-/// What a fold by buckets of the calendar begins with.
+/// The start of a fold by buckets of the calendar.
 #[derive(Drop)]
 pub struct CalendarHead {
-    /// How many units a bucket has.
+    /// The number of units of a bucket.
     pub number: i64,
     /// The unit.
     pub unit: Name,
@@ -69,7 +69,7 @@ impl Reader<'_> {
         self.fold_behind(BUCKET_NAME, bucket)
     }
 
-    /// The rest of a fold behind its head, which is named by its own word where no name follows AS.
+    /// The rest of a fold after its head. `own` is the name of the head if there is none after AS.
     #[tactic(auto, unfolding(crate::specs::Reading::fold_behind, crate::specs::Reading::bind))]
     pub fn fold_behind(&mut self, own: &[u8], head: Head) -> Result<NamedFold, ReadError>
         requires { lower own.now ≡ own.now }
@@ -117,7 +117,7 @@ impl Reader<'_> {
         })
     }
 
-    /// `( num , 'unit' , c ) [AS x]` behind `calendar_bucket`.
+    /// `( num , 'unit' , c ) [AS x]` after `calendar_bucket`.
     #[tactic(auto, unfolding(crate::specs::Reading::calendar_bucket, crate::specs::Reading::bind))]
     pub fn calendar_bucket(&mut self) -> Result<CalendarHead, ReadError>
         ensures { Gives result (spec.calendar_bucket (ahead self.old)) (ahead self.new) }
@@ -192,7 +192,7 @@ impl Reader<'_> {
         Ok(fun)
     }
 
-    /// The aggregates, of which the first begins behind its opening parenthesis.
+    /// The aggregates. The first begins after its opening parenthesis.
     #[tactic(auto, unfolding(crate::specs::Reading::aggregates, crate::specs::Reading::bind))]
     fn aggregates(&mut self, fun: Fun) -> Result<Seq<NamedAgg>, ReadError>
         ensures { Gives result (spec.aggregates fun (ahead self.old)) (ahead self.new) }
@@ -212,7 +212,7 @@ impl Reader<'_> {
         self.aggregate_rest(fun)
     }
 
-    /// An aggregate behind its opening parenthesis.
+    /// An aggregate after its opening parenthesis.
     #[tactic(auto, unfolding(crate::specs::Reading::aggregate_rest, crate::specs::Reading::bind))]
     fn aggregate_rest(&mut self, fun: Fun) -> Result<NamedAgg, ReadError>
         ensures { Gives result (spec.aggregate_rest fun (ahead self.old)) (ahead self.new) }
@@ -235,7 +235,7 @@ impl Reader<'_> {
         Ok((fun, Some(col)))
     }
 
-    /// Goes past a `*` where it comes next and the function is count.
+    /// Moves past a `*` if it comes next and the function is count.
     fn takes_star_of(&mut self, fun: Fun) -> bool
         ensures taken { result ≡ heads (is_star_of fun) (ahead self.old) }
         ensures left { ahead self.new ≡ (if result then tail (ahead self.old) else ahead self.old) }
@@ -274,7 +274,7 @@ impl Reader<'_> {
         self.more_items(keys.items())
     }
 
-    /// The item of the head, by the name after AS or by its own word.
+    /// The item of the head, by the name after AS or by its default name.
     fn first_item(&mut self, own: &[u8], name: &Option<Name>) -> Result<(), ReadError>
         requires { lower own.now ≡ own.now }
         ensures { Gives result (token_parser (is_item 0 (head_name own.now name.now)) (ahead self.old)) (ahead self.new) }

@@ -1,4 +1,4 @@
-//! The forms of statements, one after the other.
+//! The forms of statements, in order.
 ghost use Rattle.std.specs.Prelude.{◌≡◌, Ok};
 ghost use Rattle.stmt_reader.specs.Cursor.{ahead};
 ghost use Rattle.stmt_reader.specs.Reading as spec;
@@ -21,7 +21,7 @@ struct Window {
 }
 
 impl Reader<'_> {
-    /// A whole statement, with one `;` or none at its end.
+    /// A whole statement, with an optional `;` at its end.
     #[tactic(auto, unfolding(crate::specs::Reading::statement, crate::specs::Reading::bind))]
     pub fn statement(&mut self) -> Result<Stmt, ReadError>
         ensures { Gives result (spec.statement (ahead self.old)) (ahead self.new) }

@@ -4,8 +4,8 @@
 //! - `rows`: the rows of an INSERT, read from their bytes.
 //! - `reader`, `phrases`, `clauses`, `folds`, `forms`: the reader, with a method for each rule of the
 //!   grammar, from one token to a whole statement.
-//!   They are public for crates with forms of their own.
-//! - `faults`: why a text is no statement.
+//!   They are public for crates that read other forms.
+//! - `faults`: why a text isn't a statement.
 #![tactic(auto)]
 
 mod clauses;

@@ -9,7 +9,7 @@ use crate::reader::Reader;
 use stmt_tokens::{Keyword, Mark};
 use ts_schema::Seq;
 
-/// What parts the items of a list.
+/// The separator of the items of a list.
 #[derive(Clone, Copy, Debug, PartialEq, Eq)]
 pub enum Separator {
     /// `,`
@@ -18,12 +18,12 @@ pub enum Separator {
     And,
 }
 
-/// What a reader may read in one call.
+/// A part of a statement that a reader reads in one call.
 pub trait Phrase {
-    /// What the tokens in front say, and the tokens after them.
+    /// The value of the tokens in front, and the tokens after them.
     ghost phrase: { Parser Self };
 
-    /// Reads it.
+    /// Reads a value.
     fn read(reader: &mut Reader<'_>) -> Result<Self, ReadError>
         ensures { Gives result (phrase (ahead reader.old)) (ahead reader.new) };
 
@@ -32,7 +32,7 @@ pub trait Phrase {
 }
 
 impl Reader<'_> {
-    /// Goes past what parts two items, where it comes next.
+    /// Moves past this separator, if it comes next.
     pub(crate) fn takes_separator(&mut self, separator: Separator) -> bool
         ensures taken { result ≡ heads (parts separator) (ahead self.old) }
         ensures left { ahead self.new ≡ (if result then tail (ahead self.old) else ahead self.old) }
@@ -66,7 +66,7 @@ impl Reader<'_> {
         self.listed_in(separator, room)
     }
 
-    /// Reads one or more items into the memory of a list, of whose items none stays.
+    /// Reads one or more items into the memory of a list, whose items are dropped.
     #[tactic(auto, unfolding(crate::specs::Reading::list_parser, crate::specs::Reading::bind))]
     pub(crate) fn listed_in<T: Phrase + Drop>(
         &mut self,

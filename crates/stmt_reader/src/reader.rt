@@ -15,12 +15,12 @@ use stmt_tokens::{Keyword, Mark, NextToken, Token, look, name_of};
 use ts_num::Fun;
 use ts_schema::{Cmp, Name};
 
-/// A reader over the text of a line. It knows the token that comes next, and never goes back.
-/// Contracts see the text and how many of its bytes were read.
+/// A reader over the text of a line. It knows the token that comes next, and never goes back. Contracts see the
+/// text and how many of its bytes were read.
 ///
-/// `is_at_..` checks the next token, and `takes_..` moves past it if it is the one named. A method that
-/// returns `Result` reads what it is named for and moves past that. Otherwise it returns the first fault with
-/// its place, or `ReadError::Memory`, and no clause says how far it has read then.
+/// `is_at_..` checks the next token, and `takes_..` moves past it if it is the one named. A method that returns
+/// `Result` reads what its name says and moves past it. Otherwise it returns the first fault with its place, or
+/// `ReadError::Memory`, and no clause says how far it has read.
 #[derive(Drop)]
 pub struct Reader<'a> {
     alloc: Global,
@@ -71,7 +71,7 @@ impl<'a> Reader<'a> {
         self.text
     }
 
-    /// How many of its bytes were read.
+    /// The number of its bytes that were read.
     pub(crate) fn read_len(&self) -> usize
         ensures len { result ≡ self.now.at }
         ensures within { result ≤ length self.now.text }
@@ -111,7 +111,7 @@ impl<'a> Reader<'a> {
         }
     }
 
-    /// The fault where nothing that may come next comes.
+    /// The fault if no allowed token comes next.
     pub fn refusal(&self) -> ReadError
         ensures { result ≡ ReadError.Fault (fault_here (ahead self.now)) }
     {
@@ -123,7 +123,7 @@ impl<'a> Reader<'a> {
         })
     }
 
-    /// Goes past the next token.
+    /// Moves past the next token.
     fn advance(&mut self)
         ensures tail { ahead self.new ≡ tail (ahead self.old) }
     {
@@ -178,7 +178,7 @@ impl<'a> Reader<'a> {
         }
     }
 
-    /// Whether the output column comes next that has `before` others before it.
+    /// Whether the next token is the output column that has `before` others before it.
     fn is_at_item(&self, before: usize, name: &[u8]) -> bool
         requires { lower name.now ≡ name.now }
         ensures { result ≡ heads (is_item before name.now) (ahead self.now) }
@@ -200,7 +200,7 @@ impl<'a> Reader<'a> {
         }
     }
 
-    /// Goes past this word of the grammar where it comes next.
+    /// Moves past this word of the grammar if it comes next.
     pub fn takes_keyword(&mut self, keyword: Keyword) -> bool
         ensures taken { result ≡ heads (is_keyword keyword) (ahead self.old) }
         ensures left { ahead self.new ≡ (if result then tail (ahead self.old) else ahead self.old) }
@@ -212,7 +212,7 @@ impl<'a> Reader<'a> {
         here
     }
 
-    /// Goes past the word with this text where it comes next. The text is in lower case.
+    /// Moves past the word with this text if it comes next. The text is in lower case.
     pub fn takes_word(&mut self, text: &[u8]) -> bool
         requires { lower text.now ≡ text.now }
         ensures taken { result ≡ heads (is_spelled text.now) (ahead self.old) }
@@ -225,7 +225,7 @@ impl<'a> Reader<'a> {
         here
     }
 
-    /// Goes past this mark where it comes next.
+    /// Moves past this mark if it comes next.
     pub fn takes_mark(&mut self, mark: Mark) -> bool
         ensures taken { result ≡ heads (is_mark mark) (ahead self.old) }
         ensures left { ahead self.new ≡ (if result then tail (ahead self.old) else ahead self.old) }
@@ -377,7 +377,7 @@ impl<'a> Reader<'a> {
         }
     }
 
-    /// The end: nothing comes any more.
+    /// The end of the statement.
     #[tactic(auto, unfolding(crate::specs::Reading::end))]
     pub fn end(&mut self) -> Result<(), ReadError>
         ensures { Gives result (end (ahead self.old)) (ahead self.new) }

@@ -13,8 +13,7 @@ use crate::reader::Reader;
 use std::alloc::Global;
 use stmt_syntax::Stmt;
 
-/// The statement of a text, or why the text is none, at the least place of the line. Places count
-/// from 1.
+/// The statement of a text, or why the text isn't one, at the least place of the line. Places count from 1.
 #[derive(Debug, Drop)]
 pub enum ReadStmt {
     /// The statement.
@@ -26,20 +25,19 @@ pub enum ReadStmt {
     Syntax(u32),
     /// The number at this place isn't an i64.
     BadNumber(u32),
-    /// A growth was refused.
+    /// An allocation failed.
     NoMemory,
 }
 
-/// The statement that stands in a text after its first `skip` bytes. The text is a line before its
-/// comment.
+/// The statement that is in a text after its first `skip` bytes. The text is a line before its comment.
 pub fn read_stmt(alloc: Global, text: &[u8], skip: u32) -> ReadStmt
     requires short { length text.now ≤ longest_line }
     requires within { skip ≤ length text.now }
 
-    // What reading from left to right gives.
+    // The result is that of reading from left to right.
     ensures exact { Answers result (statement (stream text.now skip)) }
 
-    // What the grammar says: the statement where nothing is wrong, and else the first thing that is.
+    // It is what the grammar says: the statement, or otherwise the first error.
     ensures judged { Judges (stream text.now skip) result }
 
     // A statement is whole, and no longer than its text.
@@ -62,18 +60,18 @@ fn answer(alloc: Global, text: &[u8], skip: u32) -> ReadStmt
     }
 }
 
-/// States that what reading gives of each text is what the grammar says of it: its statement where
-/// nothing is wrong, and else the first thing that is. It does nothing.
+/// States that the result of reading each text is what the grammar says of it: its statement, or otherwise the
+/// first error. Does nothing.
 pub fn reading_law()
     ensures { ReadsByTheGrammar }
 {}
 
-/// States that the tokens of a statement say one thing. It does nothing.
+/// States that the tokens of a statement have one meaning. Does nothing.
 pub fn one_reading_law()
     ensures { OneReading }
 {}
 
-/// States that every statement of a text is whole and no longer than the text. It does nothing.
+/// States that every statement of a text is whole and no longer than the text. Does nothing.
 pub fn statements_are_written_law()
     ensures { StatementsAreWritten }
 {}

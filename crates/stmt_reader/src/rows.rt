@@ -1,5 +1,5 @@
-//! Rows of values, read from the bytes of a text. No token of theirs is kept. Where no row is found the reader of
-//! tokens tells what is wrong.
+//! Rows of values, read from the bytes of a text. Their tokens aren't kept. If no row is found, the reader of
+//! tokens reports the error.
 ghost use Rattle.std.specs.Prelude.{◌≡◌, ◌≤◌, length, true, Ok, IfOk, IfSome};
 ghost use Rattle.stmt_tokens.specs.Streams.{heads, tail, size, stream};
 ghost use Rattle.stmt_tokens.specs.Words.{is_mark};
@@ -10,7 +10,7 @@ use cell_rows::CellRows;
 use stmt_tokens::{Mark, NextToken, lone_mark_at, look, short_number_at};
 use ts_schema::NoMemory;
 
-/// A value of a row, and the byte behind it.
+/// A value of a row, and the byte after it.
 #[derive(Clone, Copy, Debug)]
 struct Value {
     value: Option<i64>,
@@ -37,7 +37,7 @@ fn value_behind(text: &[u8], skip: usize) -> Option<Value>
     Some(Value { value, end })
 }
 
-/// The byte behind this mark, where it comes after the first `skip` bytes of a text.
+/// The byte after this mark, if it comes after the first `skip` bytes of a text.
 #[inline]
 fn mark_behind(text: &[u8], skip: usize, mark: Mark) -> Option<usize>
     requires within { skip ≤ length text.now }
@@ -54,7 +54,7 @@ fn mark_behind(text: &[u8], skip: usize, mark: Mark) -> Option<usize>
     Some(found.end)
 }
 
-/// The same for every mark, after any blanks. It is a separate function, since few marks need it.
+/// The same for every mark, after any blanks. It is a separate function because few marks need it.
 #[inline(never)]
 fn mark_behind_blanks(text: &[u8], skip: usize, mark: Mark) -> Option<usize>
     requires within { skip ≤ length text.now }
@@ -98,8 +98,8 @@ pub(crate) fn row_behind(
     Ok(None)
 }
 
-/// Reads one more row each time a comma and a row come next, and gives the byte where that ends. The memory of
-/// `values` takes the values of each row in turn.
+/// Reads one more row each time a comma and a row come next, each in turn into the memory of `values`. Returns
+/// the byte at which they end.
 pub(crate) fn rows_behind(
     text: &[u8],
     skip: usize,

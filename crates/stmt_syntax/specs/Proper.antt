@@ -31,12 +31,12 @@ IsAlias x = IfSome x IsName
 abbrev pub IsProperColumn : Column → Type 0
 IsProperColumn c = IsName c.name
 
--- its column is a name, and its number one of 64 bits
+-- its column is a name, and its number fits 64 bits
 pub record IsProperTest (t : NamedTest) : Type 0 where
   pub col : IsName t.col
   pub num : IsWord t.num
 
--- its column and its name are names, where it has them
+-- its column and its name are names, if it has them
 pub record IsProperAgg (a : NamedAgg) : Type 0 where
   pub col : IsAlias a.col
   pub name : IsAlias a.name

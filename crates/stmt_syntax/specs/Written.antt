@@ -1,4 +1,4 @@
--- What a text holds of a statement: the statement is whole, and the text has at least so many bytes.
+-- Statements as texts have them: a statement is whole, and its text has at least a certain number of bytes.
 use Rattle.std.specs.Prelude.{◌≡◌, ℕ, ◌+◌, ◌*◌, ◌<◌, ◌≤◌, ℤ, pos, Bool, true, false, List, length, sum_by, Option, Some, None, is_some}
 use Rattle.std.specs.List.{AllByRecursion}
 use Rattle.ts_num.specs.declared.values.Fun.{Fun}
@@ -25,12 +25,12 @@ is_null_test other = false
 pub record IsWholeTest (t : NamedTest) : Type 0 where
   pub number : is_null_test t.cmp ≡ true → t.num ≡ pos 0
 
--- each function but count(*) has an argument
+-- each function except count(*) has an argument
 abbrev pub takes_argument : Fun → Bool
 takes_argument fun.CountAll = false
 takes_argument other = true
 
--- an aggregate has an argument exactly where its function takes one
+-- an aggregate has an argument if and only if its function takes one
 pub record IsWholeAgg (a : NamedAgg) : Type 0 where
   pub argument : is_some a.col ≡ takes_argument a.fun
 
@@ -71,7 +71,7 @@ IsWhole (stmt.Buckets fold) = IsWholeFold fold
 IsWhole (stmt.Calendar number unit fold) = IsWholeFold fold
 IsWhole (stmt.Rows table tests) = AllByRecursion IsWholeTest tests
 
--- ---- bytes that a text of a statement has at least
+-- ---- the least number of bytes of a statement's text
 
 -- a name and the comma or parenthesis beside it
 abbrev pub name_size : List ℕ → ℕ
@@ -85,7 +85,7 @@ column_size c = 7 + length c.name
 abbrev pub row_size : List (Option ℤ) → ℕ
 row_size values = 1 + 2 * length values
 
--- c op num, behind WHERE or AND
+-- c op num, after WHERE or AND
 abbrev pub test_size : NamedTest → ℕ
 test_size t = 5 + length t.col
 
@@ -94,7 +94,7 @@ abbrev pub argument_size : Option (List ℕ) → ℕ
 argument_size None = 1
 argument_size (Some c) = length c
 
--- AS x, where there is one
+-- AS x, if there is one
 abbrev pub alias_size : Option (List ℕ) → ℕ
 alias_size None = 0
 alias_size (Some x) = 2 + length x
@@ -109,12 +109,12 @@ fold_size f =
     26 + length f.at + alias_size f.name + sum_by name_size f.keys + sum_by agg_size f.aggs + length f.table + sum_by
     test_size f.tests
 
--- ( c { , c } ), where there is one
+-- ( c { , c } ), if there is one
 abbrev pub list_size : Option (List (List ℕ)) → ℕ
 list_size None = 0
 list_size (Some cols) = 1 + sum_by name_size cols
 
--- at least so many bytes are written of a statement
+-- the least number of bytes that a statement's text has
 abbrev pub size_of : Stmt → ℕ
 size_of (stmt.Table name cols) = 12 + length name + sum_by column_size cols
 size_of (stmt.Hyper table col interval) = length table + length col
@@ -135,12 +135,12 @@ size_of (stmt.Buckets fold) = 6 + fold_size fold
 size_of (stmt.Calendar number unit fold) = 6 + length unit + fold_size fold
 size_of (stmt.Rows table tests) = 11 + length table + sum_by test_size tests
 
--- a statement of a text of so many bytes
+-- a statement of a text of this many bytes
 pub record IsShaped (bytes : ℕ) (s : Stmt) : Type 0 where
   pub whole : IsWhole s
   pub size : size_of s ≤ bytes
 
--- a statement as a text of so many bytes has it, in which nothing is wrong
+-- a statement that a correct text of this many bytes may have
 pub record IsWritten (bytes : ℕ) (s : Stmt) : Type 0 where
   pub whole : IsWhole s
   pub size : size_of s ≤ bytes

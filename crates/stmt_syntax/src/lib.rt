@@ -1,7 +1,7 @@
-//! Statements as they are written: what a statement has, how long its text may be, and what is true of each
-//! statement that has a text.
+//! Statements as they are written: the parts of a statement, the limits of its text, and properties of each
+//! statement with a text.
 //!
-//! - `statements`: what is written in a statement.
+//! - `statements`: the parts of a statement.
 //! - `limits`: how long lines and inputs may be.
 #![tactic(auto)]
 

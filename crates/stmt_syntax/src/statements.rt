@@ -11,8 +11,8 @@ pub enum Stmt {
         name: Name,
         cols: Seq<Column>,
     },
-    /// `SELECT create_hypertable`: `col` is to be the time column, and `interval` is how much time a chunk spans, in
-    /// the unit of that column.
+    /// `SELECT create_hypertable`: `col` will be the time column, and `interval` is how much time a chunk
+    /// spans, in the unit of that column.
     Hyper {
         table: Name,
         col: Name,
@@ -23,7 +23,7 @@ pub enum Stmt {
         name: Name,
         /// Whether the aggregate shows materialized buckets only.
         only: bool,
-        /// Whether it is refreshed after it was made: not so exactly for `WITH NO DATA`.
+        /// Whether the aggregate is refreshed after its creation: false for `WITH NO DATA` only.
         filled: bool,
         fold: NamedFold,
     },
@@ -35,7 +35,7 @@ pub enum Stmt {
     /// `INSERT`
     Insert {
         table: Name,
-        /// The column list, where one is written.
+        /// The column list, if one is written.
         cols: Option<Seq<Name>>,
         rows: CellRows<Option<i64>>,
     },
@@ -62,11 +62,11 @@ pub enum Stmt {
         lo: Option<i64>,
         hi: Option<i64>,
     },
-    /// `REFRESH SNAP`, with the number of the refresh where one is written.
+    /// `REFRESH SNAP`, with the number of the refresh if one is written.
     Snap {
         cut: Option<i64>,
     },
-    /// `REFRESH FINISH`, with the number of the refresh where one is written.
+    /// `REFRESH FINISH`, with the number of the refresh if one is written.
     Finish {
         cut: Option<i64>,
     },
@@ -82,7 +82,7 @@ pub enum Stmt {
     Buckets(NamedFold),
     /// `SELECT calendar_bucket`
     Calendar {
-        /// How many units a bucket has.
+        /// The number of units of a bucket.
         number: i64,
         /// The unit.
         unit: Name,
@@ -101,7 +101,7 @@ pub enum Stmt {
 pub struct NamedFold {
     /// The width of a bucket.
     pub step: i64,
-    /// The offset of the buckets, 0 where none is written.
+    /// The offset of the buckets, 0 if none is written.
     pub shift: i64,
     /// The column of `time_bucket`.
     pub at: Name,
@@ -121,7 +121,7 @@ pub struct NamedFold {
 #[derive(Debug, Drop, PartialEq, Eq)]
 pub struct NamedAgg {
     pub fun: Fun,
-    /// Its argument: `None` exactly for `count(*)`.
+    /// Its argument: `None` for `count(*)` only.
     pub col: Option<Name>,
     /// Its name after AS.
     pub name: Option<Name>,

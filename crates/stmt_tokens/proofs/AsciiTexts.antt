@@ -15,7 +15,7 @@ ascii_at [] i all = omega arith
 ascii_at (b ∷ bs) zero all = ltb-true b 128 (and_parts _ _ all).0
 ascii_at (b ∷ bs) (suc i) all = ascii_at bs i (and_parts _ _ all).1
 
--- a test of the whole text tells it of each byte
+-- a test of the whole text says it of each byte
 pub ascii_of_each : (all : Bool) (bs : List ℕ) → MatchBool all (IsAscii bs) (IsNotAscii bs) → all ≡ list_all is_ascii bs
 ascii_of_each true bs ascii = sym (list_all-ascii bs ascii)
 ascii_of_each false bs other = sym (false_from_ne_true _ (λ all. let below = ascii_at bs other.0 all in omega (arith, below, other.1)))

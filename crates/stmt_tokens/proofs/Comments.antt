@@ -16,7 +16,7 @@ comment_at-skip (x ∷ xs) (suc n) le none =
     let here : comment_at (x ∷ xs) ≡ 1 + comment_at xs = ap (λ b. cond (b && begins_with 45 xs) 0 (1 + comment_at xs)) other in
     omega (arith, here, later)
 
--- one begins at a dash exactly where another dash follows
+-- a comment begins at a dash if and only if another dash follows
 comment_at-dash : (xs : List ℕ) (n : ℕ) → IsFirstByte (is_byte 45) xs (Some n) → comment_at xs ≡ n + cond (begins_with 45 (drop (n + 1) xs)) 0 (1 + comment_at (drop (n + 1) xs))
 comment_at-dash xs n first =
     let rest = drop (n + 1) xs in

@@ -1,11 +1,11 @@
--- The tokens of a text, one after the other.
+-- The tokens of a text, in order.
 use Rattle.std.proofs.Common.{◌≡◌, ℕ, zero, suc, ◌+◌, ◌<◌, ◌≤◌, List, [], length, drop, refl, sym, ap, ◌∙◌, arith}
 use Rattle.std.proofs.lemmas.List.{length-drop, nil_from_length}
 use Rattle.stmt_tokens.specs.Tokens.{Next, token, ended, nothing, next, next_here, blank_len}
 use Rattle.stmt_tokens.specs.Streams.{Stream, ends, stops, ◌then◌, scan as scan_from, stream}
 use Rattle.stmt_tokens.proofs.Lexemes.{NextFits, next_fits}
 
--- what comes next, and then what `after` gives behind it
+-- what comes next, and then what `after` returns after it
 abbrev pub flow : ℕ → Next → (ℕ → Stream) → Stream
 flow skip (token t begin end) after = (record { at = begin + 1; token = t }) then (after end)
 flow skip ended after = ends (skip + 1)
@@ -39,7 +39,7 @@ scan_enough (suc n) (suc m) text skip le a b =
     ∙ flow_alike skip (length text) (next text skip) (scan_from n text) (scan_from m text) (next_fits text skip le) (λ end lt most. scan_enough n m text end most (omega arith) (omega arith))
     ∙ sym (scan_is_flow m text skip)
 
--- the tokens are the next one and those behind it
+-- the tokens are the next one and those after it
 pub stream_is_flow : (text : List ℕ) (skip : ℕ) → skip ≤ length text → stream text skip ≡ flow skip (next text skip) (stream text)
 unfolding stream
 stream_is_flow text skip le =

@@ -18,7 +18,7 @@ blanks_and_return bs n n-is = subst (λ k. is_return (drop k bs) ≡ true → k 
 pub blanks_alone : (bs : List ℕ) (n : ℕ) → n ≡ prefix_len is_space bs → is_return (drop n bs) ≡ false → n ≡ blank_len bs
 blanks_alone bs n n-is = subst (λ k. is_return (drop k bs) ≡ false → k ≡ blank_len bs) (sym n-is) (λ e. rw e refl)
 
--- where neither a space nor a CR stands in front there is no blank
+-- if neither a space nor a CR is in front, there is no blank
 pub no_blank : (b : ℕ) (bs : List ℕ) → (is_space b || eqb b 13) ≡ false → 0 ≡ blank_len (b ∷ bs)
 no_blank b [] e = let k = or_parts (is_space b) (eqb b 13) e in rw (k.0, k.1) refl
 no_blank b (c ∷ bs) e = let k = or_parts (is_space b) (eqb b 13) e in rw k.0 refl
@@ -42,7 +42,7 @@ blank_len-le-length bs =
     (λ e. omega (arith, return_is_one (drop n bs) e, length-drop n bs, prefix_len-le-length is_space bs))
     (λ e. prefix_len-le-length is_space bs)
 
--- what takes at least one byte, and none past the end
+-- a token takes at least one byte, and none past the end
 abbrev pub Fits : ℕ → Option Lexeme → Type 0
 Fits most None = Unit {0}
 Fits most (Some l) = (0 < l.len) × (l.len ≤ most)
@@ -111,7 +111,7 @@ lexeme_fits (b ∷ bs) =
     (λ _. fits_if _ _ _ _ (λ _. number_fits (b ∷ bs))
     (λ _. fits_if _ (eqb b 39) _ _ (λ _. quoted_fits bs) (λ _. mark_fits (b ∷ bs))))
 
--- what comes next lies behind `skip` and before the end
+-- what comes next lies after `skip` and before the end
 abbrev pub NextFits : ℕ → ℕ → Next → Type 0
 NextFits skip most (token t begin end) = (skip ≤ begin) × (begin < end) × (end ≤ most)
 NextFits skip most ended = Unit {0}

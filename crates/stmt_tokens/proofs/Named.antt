@@ -14,7 +14,7 @@ use Rattle.stmt_tokens.specs.Tokens.{Lexeme, sign_len, number_at, begins_with, q
 use Rattle.stmt_tokens.specs.Scan as scan
 use Rattle.stmt_tokens.specs.Scan.{SeenNext, seen_token, seen_next, IsNamedToken}
 
--- a token whose name, where it has one, is a name
+-- a token whose name, if it has one, is a name
 abbrev pub IsNamedLexeme : Option Lexeme → Type 0
 IsNamedLexeme None = Unit {0}
 IsNamedLexeme (Some l) = IsNamedToken (seen_token l.token)

@@ -61,7 +61,7 @@ signed_without bs s n s-is n-is some =
     let h : IsNumeral 10 (take n bs) = subst (λ (i : ℕ). IsNumeral 10 (take i bs)) (sym m) (numeral_in_front bs (λ z. some (m ∙ z))) in
     rw (k, without_sign (take n bs) h) h
 
--- a number's token is a numeral behind its sign
+-- a number's token is a numeral after its sign
 pub number_is_numeral : (bs : List ℕ) (s n : ℕ) → s ≡ sign_len bs → n ≡ prefix_len is_ascii_digit (drop s bs) → n ≢ 0 → IsNumeral 10 (without_leading_sign (take (s + n) bs))
 number_is_numeral [] s n s-is n-is some = signed_without [] s n s-is n-is some
 number_is_numeral (b ∷ bs) s n s-is n-is some =
@@ -70,9 +70,9 @@ number_is_numeral (b ∷ bs) s n s-is n-is some =
       | inr other ↦ signed_without (b ∷ bs) s n (s-is ∙ rw other refl) n-is some
     ]
 
--- ---- digits that stand in front, read one after the other
+-- ---- digits that are in front, read in order
 
--- so many digits stand in front at least, 18 at most, and this is the number that they write
+-- at least this many digits are in front, at most 18, and this is the number that they write
 pub record IsFront (bs : List ℕ) (n v : ℕ) : Type 0 where
   pub within : n ≤ length bs
   pub few : n ≤ 18
@@ -113,7 +113,7 @@ front_ends bs n v f stops =
       | inr past ↦ omega (arith, f.len, prefix_len-drop_all is_ascii_digit bs n (ltb-false n (length bs) past))
     ]
 
--- ---- the value of few digits behind a sign
+-- ---- the value of few digits after a sign
 
 -- a number of 18 digits, and the one below zero
 fits_i64 : (v : ℕ) → v < 10 ^ 18 → (is_i64 (pos v) ≡ true) × (is_i64 (neg_ℤ (pos v)) ≡ true)
@@ -123,7 +123,7 @@ fits_i64 (suc k) small =
     let below : leb k 9223372036854775807 ≡ true = le-leb k 9223372036854775807 (omega (arith, small)) in
     (rw above refl, rw below refl)
 
--- few digits behind their sign write the number of that sign and of their value
+-- few digits after their sign write the number of that sign and of their value
 pub short_number : (bs : List ℕ) (s n v : ℕ) → s ≡ sign_len bs → n ≡ prefix_len is_ascii_digit (drop s bs) → n ≢ 0 → v ≡ digits_value 10 (take n (drop s bs)) → v < 10 ^ 18 → i64_of (signed_digits_value 10 (take (s + n) bs)) ≡ Some (signed_number s v)
 short_number [] s n v s-is n-is some v-is small = absurd (some (n-is ∙ rw s-is refl))
 short_number (b ∷ bs) s n v s-is n-is some v-is small =

@@ -1,4 +1,4 @@
--- A number of few digits, where no blank stands before it.
+-- A number of few digits, if no blank is before it.
 use Rattle.std.proofs.Common.{◌≡◌, ◌≢◌, ℕ, ◌+◌, ◌^◌, ◌<◌, ◌≤◌, true, false, eqb, ◌||◌, List, [], ◌∷◌, length, take, drop, Some, refl, sym, ap, subst, ◌∙◌, arith, inl, inr}
 use Rattle.std.proofs.lemmas.Bool.{cases_Bool, ne_eqb}
 use Rattle.std.proofs.lemmas.Bool.Decides.{nat_tests}
@@ -12,7 +12,7 @@ use Rattle.stmt_tokens.specs.Tokens.{blank_len, lexeme_at, sign_len}
 use Rattle.stmt_tokens.proofs.Lexemes.{Finds, finds_lexeme, no_blank, number_first}
 use Rattle.stmt_tokens.proofs.Numerals.{short_number}
 
--- how many digits stand in front, behind a minus where one does
+-- how many digits are in front, after a minus if there is one
 abbrev digits_at : List ℕ → ℕ
 digits_at bs = prefix_len is_ascii_digit (drop (sign_len bs) bs)
 
@@ -47,7 +47,7 @@ number_seen (b ∷ bs) v some v-is small =
     let value = short_number (b ∷ bs) s n v refl refl some v-is small in
     rw (number_first b bs (starts b bs some), ne_eqb n 0 some) (ap (λ z. Some (record { token = scan.number z; len = s + n })) (sym value))
 
--- few digits behind their sign are what comes next
+-- few digits after their sign are what comes next
 pub finds_number : (text rest unsigned : List ℕ) (skip s n v : ℕ) → skip ≤ length text → rest ≡ drop skip text → s ≡ sign_len rest → unsigned ≡ drop s rest
     → n ≡ prefix_len is_ascii_digit unsigned → n ≢ 0 → v ≡ digits_value 10 (take n unsigned) → v < 10 ^ 18
     → Finds text skip (scan.token (scan.number (Some (signed_number s v))) skip (skip + (s + n)))

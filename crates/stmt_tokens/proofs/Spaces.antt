@@ -1,4 +1,4 @@
--- A space in front changes nothing of what comes next.
+-- A space in front doesn't change what comes next.
 use Rattle.std.proofs.Common.{◌≡◌, ℕ, suc, ◌+◌, ◌<◌, Bool, true, false, cond, List, ◌∷◌, length, drop, get_or, ap, ◌∙◌, arith}
 use Rattle.std.proofs.lemmas.List.{drop_more}
 use Rattle.std.proofs.Math.Numerals.{one-add}
@@ -13,7 +13,7 @@ one_more false n = omega arith
 space_first : (b : ℕ) (bs : List ℕ) → b ≡ 32 → blank_len (b ∷ bs) ≡ 1 + blank_len bs
 space_first b bs e = rw (e, one-add (prefix_len is_space bs)) (one_more (is_return (drop (prefix_len is_space bs) bs)) (prefix_len is_space bs))
 
--- what comes next behind a space comes next before it
+-- what comes next after a space comes next before it
 pub next_past_space : (text : List ℕ) (skip : ℕ) → skip < length text → get_or text skip 0 ≡ 32 → next text (skip + 1) ≡ next text skip
 next_past_space text skip below e =
     let split : drop skip text ≡ get_or text skip 0 ∷ drop (skip + 1) text = drop_more text skip 0 below in

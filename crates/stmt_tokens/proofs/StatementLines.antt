@@ -49,7 +49,7 @@ tails (b ∷ bytes) = by (continues_session b) refl (tails bytes)
         let one : is_tail b ≡ true = tail_of (begins_session b) (nat_le 48 b && nat_le b 57) (b == 95) e in
         ap (λ n. list_all is_tail (take n (b ∷ bytes))) more ∙ (λ i. one i && rest i)
 
--- a name and a colon behind it
+-- a name and a colon after it
 record GoodName (bytes : List ℕ) : Type 0 where
   good : is_name (take (session_len bytes) bytes) ≡ true
   colon : session_len bytes < length bytes

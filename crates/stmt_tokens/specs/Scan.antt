@@ -13,18 +13,18 @@ use Rattle.stmt_tokens.specs.declared.tokens.TokenAt.{TokenAt}
 use Rattle.stmt_tokens.specs.declared.tokens.TokenAt.TheVariants as at
 use Rattle.stmt_tokens.specs.declared.tokens.TokenKind.TheVariants as kinds
 
--- What the code keeps of a token: its bytes in lower case, and a number only where it is an i64.
+-- What the code keeps of a token: its bytes in lower case, and a number only if it is an i64.
 pub data Seen : Type 0 where
   word : List ℕ → Seen
   number : Option ℤ → Seen
   quoted : List ℕ → Seen
   mark : Mark → Seen
 
--- a number where it is an i64
+-- a number if it is an i64
 abbrev pub i64_of : ℤ → Option ℤ
 i64_of z = if is_i64 z then Some z else None
 
--- the number that a sign of so many bytes, a minus or none, and the value of the digits behind it mean
+-- the number with a sign of this many bytes, a minus or none, and this value of the digits after it
 abbrev pub signed_number : ℕ → ℕ → ℤ
 signed_number sign value = if sign == 0 then pos value else neg_ℤ (pos value)
 
@@ -75,7 +75,7 @@ view_ahead (heads.Token t begin end) = token (view t) begin end
 view_ahead heads.End = ended
 view_ahead (heads.Nothing begin) = nothing begin
 
--- what `next_token` answers of a token
+-- what `next_token` returns for a token
 abbrev pub shown_token : Seen → ℕ → ℕ → TokenAt
 shown_token (word w) begin end = at.Token kinds.Word begin end
 shown_token (number None) begin end = at.BadNumber (begin + 1)
@@ -83,7 +83,7 @@ shown_token (number (Some z)) begin end = at.Token (kinds.Number z) begin end
 shown_token (quoted w) begin end = at.Token kinds.Quoted begin end
 shown_token (mark m) begin end = at.Token kinds.Mark begin end
 
--- what comes next lies behind `skip` and before the end
+-- what comes next lies after `skip` and before the end
 abbrev pub SeenFits : ℕ → ℕ → SeenNext → Type 0
 SeenFits skip most (token t begin end) = (skip ≤ begin) × (begin < end) × (end ≤ most)
 SeenFits skip most ended = Unit {0}
@@ -96,7 +96,7 @@ IsNamedToken (number z) = Unit {0}
 IsNamedToken (quoted w) = IsTrue (is_name w) × (length w ≤ 63)
 IsNamedToken (mark m) = Unit {0}
 
--- a token that is there is a name where it is a word or quoted
+-- a token, if there is one, is a name if it is a word or quoted
 abbrev pub IsNamed : Option Token → Type 0
 IsNamed None = Unit {0}
 IsNamed (Some t) = IsNamedToken (view t)

@@ -38,7 +38,7 @@ onto (t ∷ ts) s = t then (onto ts s)
 abbrev pub plain : List Placed → List Token
 plain ts = map (λ t. t.token) ts
 
--- how many tokens there are
+-- the number of tokens
 abbrev pub size : Stream → ℕ
 size (ends p) = 0
 size (stops p) = 0
@@ -50,7 +50,7 @@ seen_ahead (ends p) = None
 seen_ahead (stops p) = None
 seen_ahead (t then s) = Some (seen_token t.token)
 
--- a token is there and passes a test
+-- there is a token, and it passes a test
 abbrev pub passes : (Seen → Bool) → Option Seen → Bool
 passes f None = false
 passes f (Some t) = f t

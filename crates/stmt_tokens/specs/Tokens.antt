@@ -24,7 +24,7 @@ pub record Lexeme : Type 0 where
 
 -- ---- a token at the front of bytes that aren't blank
 
--- as many bytes as go on with a word, 1 to 63 of them
+-- as many bytes as continue a word, 1 to 63 of them
 abbrev pub word_at : List ℕ → Option Lexeme
 word_at bytes =
     let n = prefix_len continues_word bytes in
@@ -35,11 +35,11 @@ abbrev pub begins_with : ℕ → List ℕ → Bool
 begins_with b [] = false
 begins_with b (c ∷ bytes) = c == b
 
--- 1 where a minus stands in front, else 0
+-- 1 if a minus is in front, otherwise 0
 abbrev pub sign_len : List ℕ → ℕ
 sign_len bytes = if begins_with 45 bytes then 1 else 0
 
--- as many digits as there are, and a minus directly before them where one stands there
+-- all digits that follow, and a minus directly before them if there is one
 abbrev pub number_at : List ℕ → Option Lexeme
 number_at bytes =
     let sign = sign_len bytes in
@@ -80,12 +80,12 @@ short_mark a =
     else if a == 62 then Some Greater
     else None
 
--- a mark of so many bytes
+-- a mark of this many bytes
 abbrev pub mark_of_len : ℕ → Option Mark → Option Lexeme
 mark_of_len n None = None
 mark_of_len n (Some m) = Some (record { token = mark m; len = n })
 
--- one token, or the other where the first is none
+-- one token, or the other if there isn't a first
 abbrev pub or_else : Option Lexeme → Option Lexeme → Option Lexeme
 or_else (Some l) other = Some l
 or_else None other = other
@@ -96,7 +96,7 @@ mark_at [] = None
 mark_at (a ∷ []) = mark_of_len 1 (short_mark a)
 mark_at (a ∷ b ∷ bytes) = or_else (mark_of_len 2 (long_mark a b)) (mark_of_len 1 (short_mark a))
 
--- the token that begins here; none begins at the end, or where the answer is None
+-- the token that begins here; none begins at the end, or if the answer is None
 abbrev pub lexeme_at : List ℕ → Option Lexeme
 lexeme_at [] = None
 lexeme_at (b ∷ bytes) =
@@ -107,13 +107,13 @@ lexeme_at (b ∷ bytes) =
 
 -- ---- the next token of a text
 
--- one byte CR and no more
+-- exactly one byte, CR
 abbrev pub is_return : List ℕ → Bool
 is_return [] = false
 is_return (b ∷ []) = b == 13
 is_return (b ∷ c ∷ bytes) = false
 
--- how many blanks stand in front: spaces, tabs, and a CR at the end of the text
+-- how many blanks are in front: spaces, tabs, and a CR at the end of the text
 abbrev pub blank_len : List ℕ → ℕ
 blank_len bytes = let n = prefix_len is_space bytes in if is_return (drop n bytes) then n + 1 else n
 
@@ -130,7 +130,7 @@ abbrev pub of_lexeme : ℕ → Option Lexeme → Next
 of_lexeme begin None = nothing begin
 of_lexeme begin (Some l) = token l.token begin (begin + l.len)
 
--- what comes next at a place, where no blank stands
+-- what comes next at a place, where no blank is
 abbrev pub next_here : ℕ → List ℕ → Next
 next_here begin [] = ended
 next_here begin (b ∷ bytes) = of_lexeme begin (lexeme_at (b ∷ bytes))
@@ -139,7 +139,7 @@ next_here begin (b ∷ bytes) = of_lexeme begin (lexeme_at (b ∷ bytes))
 abbrev pub next : List ℕ → ℕ → Next
 next text skip = let begin = skip + blank_len (drop skip text) in next_here begin (drop begin text)
 
--- ---- what `next_token` answers
+-- ---- what `next_token` returns
 
 -- places count from 1
 abbrev pub token_at_of : ℕ → Next → TokenAt

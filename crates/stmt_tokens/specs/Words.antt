@@ -59,7 +59,7 @@ keyword_text kw.View = codes "view"
 keyword_text kw.Where = codes "where"
 keyword_text kw.With = codes "with"
 
--- ---- what one token says; None where it isn't one of these
+-- ---- what one token says; None if it isn't one of these
 
 -- the word of the grammar
 abbrev pub is_keyword : Keyword → Seen → Bool
@@ -114,7 +114,7 @@ abbrev pub quoted_of : Seen → Option (List ℕ)
 quoted_of (quoted w) = Some w
 quoted_of other = None
 
--- a number, where it is an i64
+-- a number, if it is an i64
 abbrev pub number_of : Seen → Option (Option ℤ)
 number_of (number z) = Some z
 number_of other = None
@@ -162,7 +162,7 @@ abbrev pub function_of : Seen → Option Fun
 function_of (word w) = function_of_word w
 function_of other = None
 
--- the output column with i before it, by its number, which counts from 1, or by its name
+-- the output column with i others before it, by its number, counted from 1, or by its name
 abbrev pub is_item : ℕ → List ℕ → Seen → Bool
 is_item i name (word w) = bytes_eq w name
 is_item i name (number None) = false

@@ -1,4 +1,4 @@
-//! The words that a statement is made of. None of them is reserved.
+//! The words of the grammar. None of them is reserved.
 ghost use Rattle.std.specs.Prelude.{◌≡◌};
 ghost use Rattle.stmt_tokens.specs.Words.{keyword_text};
 

@@ -1,6 +1,6 @@
 //! Lines of a script and their tokens.
 //!
-//! - `lines`: a line without its comment, and the session that speaks in it.
+//! - `lines`: a line without its comment, and its session.
 //! - `tokens`: words, numbers, quoted names and marks.
 //! - `keywords`, `names`: the words of the grammar, and names as they are written.
 #![tactic(auto)]

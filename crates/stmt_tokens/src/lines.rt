@@ -1,4 +1,4 @@
-//! A line without its comment, and the session that speaks in it.
+//! A line without its comment, and its session.
 ghost use Rattle.std.specs.Prelude.{◌≡◌, ◌≤◌, length};
 ghost use Rattle.std.specs.List.{list_all};
 ghost use Rattle.std.specs.Char.{is_ascii as is_ascii_byte};
@@ -12,25 +12,25 @@ use memchr::memchr;
 /// What a line is.
 #[derive(Clone, Copy, Debug, PartialEq, Eq)]
 pub enum LineKind {
-    /// It holds only blanks before its comment.
+    /// Only blanks are before the comment.
     Blank,
-    /// A byte of 128 or more stands before the comment.
+    /// A byte of 128 or more is before the comment.
     NotAscii,
-    /// It doesn't begin, behind blanks or none, with a session name and a colon directly after it. A session name is
-    /// a letter from `a` to `z`, then such letters, digits and `_`, 1 to 16 bytes in all.
+    /// The line doesn't begin, after any blanks, with a session name and a colon directly after it. A session
+    /// name is a letter from `a` to `z`, then such letters, digits and `_`, 1 to 16 bytes in all.
     NoSession,
     /// A session name, a colon, and a statement.
     Stmt {
-        /// How many bytes the session name has. They stand directly before the colon.
+        /// The number of bytes of the session name. They are directly before the colon.
         name_len: u32,
-        /// How many bytes stand before the statement; the last one is the colon.
+        /// The number of bytes before the statement. The last one is the colon.
         skip: u32,
-        /// How many bytes stand before the comment.
+        /// The number of bytes before the comment.
         end: u32,
     },
 }
 
-/// What a line is. The line comes without its LF.
+/// Splits a line, given without its LF, into its parts.
 pub fn split_line(line: &[u8]) -> LineKind
     requires short { length line.now ≤ longest_line }
     ensures kind { result ≡ line_kind line.now }
@@ -62,7 +62,7 @@ fn begins_with_dash(text: &[u8]) -> bool
     text.first() == Some(&b'-')
 }
 
-/// What a line is whose text before the comment is this one, with so many blanks in front.
+/// The kind of a line whose text before the comment is this one, with this many blanks in front.
 fn kind_of(text: &[u8], blanks: usize) -> LineKind
     requires short { length text.now ≤ longest_line }
     requires within { blanks ≤ length text.now }
@@ -93,7 +93,7 @@ fn is_ascii(text: &[u8]) -> bool
     text.is_ascii()
 }
 
-/// Whether a session name of 1 to 16 bytes and a colon stand in front.
+/// Whether a session name of 1 to 16 bytes and a colon are in front.
 fn begins_with_session(text: &[u8]) -> bool
     ensures { result ≡ has_session text.now }
 {
@@ -104,7 +104,7 @@ fn begins_with_session(text: &[u8]) -> bool
     may_begin_session(*first) && len <= 16 && text[len..].first() == Some(&b':')
 }
 
-/// How many bytes in front go on with a session name.
+/// The number of bytes in front that continue a session name.
 fn session_name_len(text: &[u8]) -> usize
     ensures len { result ≡ session_len text.now }
     ensures within { result ≤ length text.now }

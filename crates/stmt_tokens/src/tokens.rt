@@ -18,13 +18,13 @@ use fast_float::parse_i64;
 use ts_num::Fun;
 use ts_schema::Cmp;
 
-/// What comes next in a text. `at` and `end` count bytes from 0: the token is `text[at..end]`. The
-/// other numbers are places, which count from 1.
+/// The next token of a text. `at` and `end` count bytes from 0: the token is `text[at..end]`. The other numbers
+/// are places, which count from 1.
 #[derive(Clone, Copy, Debug, PartialEq, Eq)]
 pub enum TokenAt {
     /// A token.
     Token { kind: TokenKind, at: u32, end: u32 },
-    /// The end: no token is left. Its place is that of the first byte after those that were skipped.
+    /// No token is left. The place is that of the first byte after those that were skipped.
     End(u32),
     /// No token begins at this place.
     NoToken(u32),
@@ -32,7 +32,7 @@ pub enum TokenAt {
     BadNumber(u32),
 }
 
-/// What a token is.
+/// The kind of a token.
 #[derive(Clone, Copy, Debug, PartialEq, Eq)]
 pub enum TokenKind {
     Word,
@@ -75,7 +75,7 @@ pub enum Mark {
 }
 
 impl Mark {
-    /// Its number in the order of the declaration.
+    /// The number of the mark in the order of declaration.
     pub fn number(self) -> u8
         ensures { result ≡ mark_number self }
     {
@@ -90,7 +90,7 @@ impl Mark {
         self.number() == mark.number()
     }
 
-    /// The comparison that it represents.
+    /// The comparison that the token or mark represents.
     pub fn comparison(self) -> Option<Cmp>
         ensures { result ≡ comparison_of_mark self }
     {
@@ -117,7 +117,7 @@ impl Mark {
 pub enum Token<'a> {
     /// A word of 1 to 63 bytes.
     Word(&'a [u8]),
-    /// A number, where it is an i64.
+    /// A number, if it is an i64.
     Number(Option<i64>),
     /// The word between two quotes.
     Quoted(&'a [u8]),
@@ -166,7 +166,7 @@ impl<'a> Token<'a> {
         }
     }
 
-    /// Whether it is the output column that has `before` others before it: its number or its name.
+    /// Whether the token is the number or the name of the output column that has `before` others before it.
     pub fn is_item(self, before: usize, name: &[u8]) -> bool
         requires { lower name.now ≡ name.now }
         ensures { result ≡ is_item before name.now (view self.entry) }
@@ -178,7 +178,7 @@ impl<'a> Token<'a> {
         }
     }
 
-    /// The value of a row that it is: a number that is an i64, or NULL.
+    /// The value of a row, if the token is one: an i64 or NULL.
     #[inline]
     pub fn value(self) -> Option<Option<i64>>
         ensures { result ≡ value_of (view self.entry) }
@@ -196,7 +196,7 @@ impl<'a> Token<'a> {
         }
     }
 
-    /// The function that it names.
+    /// The function that the token names.
     pub fn function(self) -> Option<Fun>
         ensures { result ≡ function_of (view self.entry) }
     {
@@ -206,7 +206,7 @@ impl<'a> Token<'a> {
         }
     }
 
-    /// The comparison that it represents.
+    /// The comparison that the token or mark represents.
     pub fn comparison(self) -> Option<Cmp>
         ensures { result ≡ comparison_of (view self.entry) }
     {
@@ -264,14 +264,14 @@ pub fn function_named(word: &[u8]) -> Option<Fun>
     }
 }
 
-/// A token and how many bytes it takes.
+/// A token and its number of bytes.
 #[derive(Clone, Copy, Debug)]
 pub struct Lexeme<'a> {
     pub token: Token<'a>,
     pub len: usize,
 }
 
-/// What comes after some blanks. The numbers count bytes from 0.
+/// What follows some blanks. The numbers count bytes from 0.
 #[derive(Clone, Copy, Debug)]
 pub enum NextToken<'a> {
     /// A token, its first byte, and the byte after it.
@@ -287,8 +287,8 @@ pub enum NextToken<'a> {
 }
 
 /// The next token after the first `skip` bytes of a text, by its places. The text is a line before its comment.
-/// The reader of statements goes by `look`, which hands out the token itself; this is for callers that keep
-/// places alone.
+/// The reader of statements uses `look`, which returns the token itself. This is for callers that need only its
+/// places.
 pub fn next_token(text: &[u8], skip: u32) -> TokenAt
     requires short { length text.now ≤ longest_line }
     requires within { skip ≤ length text.now }
@@ -333,18 +333,18 @@ pub fn look(text: &[u8], skip: usize) -> NextToken<'_>
     }
 }
 
-/// A mark, and where it stands. The bytes count from 0.
+/// A mark and its place. The bytes count from 0.
 #[derive(Clone, Copy, Debug)]
 pub struct MarkAt {
     pub mark: Mark,
     /// Its first byte.
     pub begin: usize,
-    /// The byte behind it.
+    /// The byte after it.
     pub end: usize,
 }
 
-/// The mark that comes after the first `skip` bytes of a text, where at most one space stands before it and no mark
-/// of two bytes begins with its byte. Most marks are such. `None` doesn't tell that no mark comes next.
+/// The mark after the first `skip` bytes of a text, if at most one space precedes it and no mark of two bytes
+/// begins with its byte. Most marks are like this. `None` doesn't mean that no mark comes next.
 #[inline]
 pub fn lone_mark_at(text: &[u8], skip: usize) -> Option<MarkAt>
     requires within { skip ≤ length text.now }
@@ -362,7 +362,7 @@ pub fn lone_mark_at(text: &[u8], skip: usize) -> Option<MarkAt>
     })
 }
 
-/// The byte behind the space that stands directly after the first `skip` bytes, or `skip` where none does.
+/// The byte after a space directly after the first `skip` bytes, or `skip` if there is no space.
 #[inline]
 #[tactic(auto, using(crate::proofs::Spaces::next_past_space))]
 fn past_space(text: &[u8], skip: usize) -> usize
@@ -377,8 +377,8 @@ fn past_space(text: &[u8], skip: usize) -> usize
     }
 }
 
-/// The mark that stands directly after the first `skip` bytes, where its byte begins no longer one. Most marks
-/// stand so, directly behind a word or a number.
+/// The mark directly after the first `skip` bytes, if its byte doesn't begin a longer one. Most marks are
+/// directly after a word or a number.
 #[inline]
 fn lone_mark(text: &[u8], skip: usize) -> Option<Mark>
     ensures next { IfSome result (λ mark. spec.next text.now skip
@@ -396,7 +396,7 @@ fn lone_mark(text: &[u8], skip: usize) -> Option<Mark>
     }
 }
 
-/// What follows the blanks there. It is a separate function to keep the search for a mark short.
+/// The token after the blanks there. It is a separate function to keep the search for a mark short.
 #[inline(never)]
 fn look_behind_blanks(text: &[u8], skip: usize) -> NextToken<'_>
     requires within { skip ≤ length text.now }
@@ -419,7 +419,7 @@ fn look_behind_blanks(text: &[u8], skip: usize) -> NextToken<'_>
     }
 }
 
-/// How many blanks stand in front: spaces, tabs, and a CR at the end of the text. Most often there is none.
+/// The number of blanks in front: spaces, tabs, and a CR at the end of the text. Most often there are none.
 #[inline]
 pub fn blank_len(text: &[u8]) -> usize
     ensures len { result ≡ spec.blank_len text.now }
@@ -437,7 +437,7 @@ pub fn blank_len(text: &[u8]) -> usize
     }
 }
 
-/// The same, where blanks stand in front.
+/// The number of blanks in front, if there are any.
 fn blanks_in_front(text: &[u8]) -> usize
     ensures len { result ≡ spec.blank_len text.now }
     ensures within { result ≤ length text.now }
@@ -451,7 +451,7 @@ fn blanks_in_front(text: &[u8]) -> usize
     }
 }
 
-/// How many spaces and tabs stand in front.
+/// The number of spaces and tabs in front.
 fn space_len(text: &[u8]) -> usize
     ensures len { result ≡ prefix_len is_space text.now }
     ensures within { result ≤ length text.now }
@@ -459,7 +459,7 @@ fn space_len(text: &[u8]) -> usize
     text.iter().take_while(|b| is_space_byte(**b)).count()
 }
 
-/// Whether this is one byte CR and no more.
+/// Whether this is exactly one byte, CR.
 fn is_lone_return(text: &[u8]) -> bool
     ensures lone { result ≡ spec.is_return text.now }
     ensures one { IsTrue result → length text.now ≡ 1 }
@@ -470,7 +470,8 @@ fn is_lone_return(text: &[u8]) -> bool
     }
 }
 
-/// The token that begins here. Numbers are the most, and their first byte begins nothing else.
+/// The token that begins here. Numbers come first: most tokens are numbers, and their first byte begins no
+/// other token.
 #[inline]
 fn lexeme_at(text: &[u8]) -> Option<Lexeme<'_>>
     ensures lexeme { view_lexeme result ≡ seen_lexeme (spec.lexeme_at text.now) }
@@ -490,7 +491,7 @@ fn lexeme_at(text: &[u8]) -> Option<Lexeme<'_>>
     }
 }
 
-/// As many bytes as go on with a word, 1 to 63 of them.
+/// A word: as many bytes as continue one, 1 to 63.
 fn word_at(text: &[u8]) -> Option<Lexeme<'_>>
     ensures { view_lexeme result ≡ seen_lexeme (spec.word_at text.now) }
 {
@@ -504,17 +505,17 @@ fn word_at(text: &[u8]) -> Option<Lexeme<'_>>
     })
 }
 
-/// The most digits that surely write an i64.
+/// The greatest number of digits that always fit an i64.
 const SHORT_NUMBER: usize = 18;
 
-/// Digits that stand in front: how many, and the number that they write where they are at most `SHORT_NUMBER`.
+/// The digits in front: their number, and their value if there are at most `SHORT_NUMBER`.
 #[derive(Clone, Copy, Debug)]
 struct Digits {
     len: usize,
     value: u64,
 }
 
-/// As many digits as there are, after a minus where one stands in front.
+/// All digits that follow, after a minus if there is one.
 #[inline]
 fn number_at(text: &[u8]) -> Option<Lexeme<'_>>
     ensures { view_lexeme result ≡ seen_lexeme (spec.number_at text.now) }
@@ -532,7 +533,7 @@ fn number_at(text: &[u8]) -> Option<Lexeme<'_>>
     })
 }
 
-/// The value of a numeral, where it is an i64. Few digits were read already.
+/// The value of a numeral, if it is an i64. The value of few digits is known already.
 fn number_of(text: &[u8], sign: usize, digits: Digits) -> Option<i64>
     requires numeral { IsNumeral 10 (without_leading_sign text.now) }
     requires small { digits.value < 10 ^ 18 }
@@ -547,18 +548,18 @@ fn number_of(text: &[u8], sign: usize, digits: Digits) -> Option<i64>
     }
 }
 
-/// A number, and where it stands. The bytes count from 0.
+/// A number and its place. The bytes count from 0.
 #[derive(Clone, Copy, Debug)]
 pub struct NumberAt {
     pub value: i64,
     /// Its first byte.
     pub begin: usize,
-    /// The byte behind it.
+    /// The byte after it.
     pub end: usize,
 }
 
-/// The number that comes after the first `skip` bytes of a text, where it has fewer than 18 digits and at most one
-/// space stands before it. Most values of a row are such. `None` doesn't tell that no number comes next.
+/// The number after the first `skip` bytes of a text, if it has fewer than 18 digits and at most one space
+/// precedes it. Most values of a row are like this. `None` doesn't mean that no number comes next.
 #[inline]
 pub fn short_number_at(text: &[u8], skip: usize) -> Option<NumberAt>
     requires within { skip ≤ length text.now }
@@ -581,7 +582,8 @@ pub fn short_number_at(text: &[u8], skip: usize) -> Option<NumberAt>
     })
 }
 
-/// The digits that stand in front. Few are read once, since most bytes of a statement are digits of short numbers.
+/// The digits in front. Few digits are read only once, since most bytes of a statement are digits of short
+/// numbers.
 #[inline]
 fn digits_in_front(text: &[u8]) -> Digits
     ensures len { result.len ≡ prefix_len is_ascii_digit text.now }
@@ -599,7 +601,7 @@ fn digits_in_front(text: &[u8]) -> Digits
     }
 }
 
-/// The first of the digits that stand in front, `SHORT_NUMBER` at most.
+/// The first digits in front, at most `SHORT_NUMBER`.
 #[inline]
 fn few_digits(text: &[u8]) -> Digits
     ensures most { result.len ≤ 18 }
@@ -619,7 +621,7 @@ fn few_digits(text: &[u8]) -> Digits
     Digits { len, value }
 }
 
-/// The value of digits with one more behind them.
+/// The value of digits with one more after them.
 #[inline]
 fn value_with(value: u64, digit: u8) -> u64
     requires small { value < 10 ^ 17 }
@@ -629,7 +631,7 @@ fn value_with(value: u64, digit: u8) -> u64
     value * 10 + u64::from(digit - b'0')
 }
 
-/// How many digits stand in front.
+/// The number of digits in front.
 fn digit_len(text: &[u8]) -> usize
     ensures len { result ≡ prefix_len is_ascii_digit text.now }
     ensures within { result ≤ length text.now }
@@ -637,7 +639,7 @@ fn digit_len(text: &[u8]) -> usize
     text.iter().take_while(|b| b.is_ascii_digit()).count()
 }
 
-/// The number that a sign of so many bytes and the value of the digits behind it mean.
+/// The number with a sign of `sign` bytes and this value of the digits after it.
 fn signed_number(sign: usize, value: u64) -> i64
     requires { value < 10 ^ 18 }
     ensures { result ≡ signed_number sign value }
@@ -720,7 +722,7 @@ fn short_mark(byte: u8) -> Option<Mark>
     }
 }
 
-/// How many bytes in front go on with a word.
+/// The number of bytes in front that continue a word.
 fn word_len(text: &[u8]) -> usize
     ensures len { result ≡ prefix_len continues_word text.now }
     ensures within { result ≤ length text.now }
@@ -728,7 +730,7 @@ fn word_len(text: &[u8]) -> usize
     text.iter().take_while(|b| may_continue_word(**b)).count()
 }
 
-/// 1 where a minus stands in front, else 0.
+/// 1 if a minus is in front, otherwise 0.
 fn sign_len(text: &[u8]) -> usize
     ensures len { result ≡ spec.sign_len text.now }
     ensures within { result ≤ length text.now }

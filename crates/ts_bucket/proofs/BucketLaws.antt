@@ -86,7 +86,7 @@ holds-one w b t h p held =
     let high : bucket_of w t ≤ℤ b = bucket_of-first w b t h p parts.1 in
     omega (arith, ints)
 
--- a bucket holds a time exactly where it is the time's bucket
+-- a bucket holds a time if and only if it is that time's bucket
 pub holds-is : (w : WidthValue) (b t : ℤ) → IsWidth w → is_bucket w b ≡ true → holds w b t ≡ int_eq b (bucket_of w t)
 holds-is w b t h p =
     same_from_decides (holds w b t) (int_eq b (bucket_of w t))

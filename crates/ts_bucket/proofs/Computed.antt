@@ -1,4 +1,4 @@
--- What the code computes for the bucket of a time, free of its casts.
+-- What the code computes for the bucket of a time, without its casts.
 use Rattle.std.proofs.Common.{◌≡◌, ◌-◌, ◌^◌, ℤ, pos, ◌-ℤ◌, ◌≤ℤ◌, ◌<ℤ◌, sym, ap, ◌∙◌, subst, arith}
 use Rattle.std.specs.Int.{int_rem_euclid, w64, cast_signed, cast_unsigned}
 use Rattle.std.proofs.lemmas.Int.{ints}

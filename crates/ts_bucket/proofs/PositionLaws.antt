@@ -1,4 +1,5 @@
--- Laws of positions: the later of two is the same in every order, and what is above a position, or above a last refresh, goes through it.
+-- Laws of positions: the later of two doesn't depend on their order, and it commutes with the part above a
+-- position or a last refresh.
 use Rattle.std.proofs.Common.{◌≡◌, ℕ, ◌≤◌, max, Bool, true, false, ◌||◌, cond, nat_lt, Option, Some, None, refl, sym, ap, ◌∙◌, arith}
 use Rattle.std.specs.Prelude.{is_some}
 use Rattle.std.proofs.lemmas.Bool.{cond-false}
@@ -27,7 +28,7 @@ pub later-self : (p : Option ℕ) → later p p ≡ p
 later-self None = refl
 later-self (Some p) = ap Some (let e : max p p ≡ p = omega arith in e)
 
--- the later of two is above s exactly where one of them is
+-- the later of two is above s if and only if one of them is
 pub is_above-later : (s : ℕ) (p q : Option ℕ) → is_above s (later p q) ≡ (is_above s p || is_above s q)
 is_above-later s None q = refl
 is_above-later s (Some p) None = grind (arith, nat_tests)
@@ -96,7 +97,7 @@ is_before-above q s (Some p) e = elim (nat_lt s p) as (λ t. is_before q (cond t
 pub at_or_below : (s q : ℕ) → nat_lt s q ≡ false → q ≤ s
 at_or_below s q e = grind (arith, nat_tests)
 
--- above a position that no last refresh is above, it makes no difference what was left out at that
+-- above a position that no last refresh is above, what was left out there makes no difference
 pub above-above_last : (s : ℕ) (last p : Option ℕ) → is_above s last ≡ false → above s (above_last last p) ≡ above s p
 above-above_last s None p e = refl
 above-above_last s (Some q) p e = above-lesser s q p (at_or_below s q e)

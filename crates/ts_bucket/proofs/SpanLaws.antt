@@ -33,7 +33,7 @@ in_span-from_ends s t low high = grind (arith, ints)
 pub in_span-ends : (s : SpanValue) (t : ℤ) → in_span s t ≡ true → (s.lo ≤ℤ t) × (t <ℤ s.hi)
 in_span-ends s t h = (grind (arith, ints), grind (arith, ints))
 
--- a hull meets a bucket exactly where some number of the hull is in the bucket
+-- a hull meets a bucket if and only if some number of the hull is in the bucket
 pub meets-overlaps : (w : WidthValue) (b : ℤ) (h : HullValue) → IsWidth w → meets w b h ≡ overlaps h (bucket_span w b)
 meets-overlaps w b h bounds = let positive : pos 0 <ℤ w.step = bounds.positive in grind (arith, ints)
 

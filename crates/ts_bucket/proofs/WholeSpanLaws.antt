@@ -11,7 +11,7 @@ use Rattle.ts_bucket.proofs.BucketLaws.{bucket_of_meets, bucket_of-last, bucket_
 use Rattle.ts_bucket.proofs.SpanLaws.{in_span-ends, in_span-from_ends}
 use Rattle.ts_bucket.proofs.WindowLaws.{start_from-above, start_from-first}
 
--- a span of whole buckets holds a number exactly where it holds the start of its bucket
+-- a span of whole buckets holds a number if and only if it holds the start of its bucket
 pub in_span-bucket : (w : WidthValue) (s : SpanValue) (t : ℤ) → IsWidth w → is_bucket w s.lo ≡ true → is_bucket w s.hi ≡ true → in_span s t ≡ in_span s (bucket_of w t)
 in_span-bucket w s t h p q =
     let at_or_below : bucket_of w t ≤ℤ t = (bucket_of_meets w t h).at_or_below in
@@ -107,7 +107,7 @@ starts_whole w from to h low =
       from_first = omega (arith, ints);
     }
 
--- no buckets are a span of whole buckets
+-- an empty span is a span of whole buckets
 pub none_whole : (w : WidthValue) → IsWidth w → IsWholeSpan w (record { lo = first_of w; hi = first_of w })
 none_whole w h = record { starts = is_bucket-first w h; ends = is_bucket-first w h; from_first = omega (arith, ints) }
 
@@ -143,7 +143,7 @@ in_both s t from to b e f =
           grind (arith, ints)),
     )
 
--- an empty span has no number, and as many has one whose end is at or below its start
+-- an empty span has no number, like a span whose end is at or below its start
 pub none_between : (from to x b : ℤ) → to ≤ℤ from → in_span (record { lo = x; hi = x }) b ≡ in_span (record { lo = from; hi = to }) b
 none_between from to x b le =
     same_from_decides {P = ⊥} (in_span (record { lo = x; hi = x }) b) (in_span (record { lo = from; hi = to }) b)

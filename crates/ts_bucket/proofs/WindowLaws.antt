@@ -1,4 +1,4 @@
--- The span that a window is given is the greatest span of whole buckets in it.
+-- The span computed for a window is the greatest span of whole buckets in it.
 use Rattle.std.proofs.Common.{◌≡◌, Bool, true, false, cond, ℤ, pos, ◌+ℤ◌, ◌-ℤ◌, ◌≤ℤ◌, ◌<ℤ◌, int_lt, Option, Some, None, MatchOption, sym, refl, subst, arith}
 use Rattle.std.specs.Int.{int_max}
 use Rattle.std.proofs.lemmas.Int.{ints, clamps}
@@ -28,7 +28,7 @@ is_bucket-window_start w (Some lo) h =
     elim (int_lt (start_from w lo) (first_of w)) as (λ c. is_bucket w (cond c (first_of w) (start_from w lo)) ≡ true)
     [ true ↦ is_bucket-first w h | false ↦ is_bucket-bucket_of w (lo +ℤ (w.step -ℤ pos 1)) h ]
 
--- the greater of two numbers is at or below a third where both are
+-- the greater of two numbers is at or below a third if both are
 max_below : (x y b : ℤ) → x ≤ℤ b → y ≤ℤ b → int_max x y ≤ℤ b
 max_below x y b p q = elim (int_lt y x) as (λ c. cond c x y ≤ℤ b) [ true ↦ p | false ↦ q ]
 
@@ -52,7 +52,7 @@ whole_from_parts w (Some lo) hi b h p low high =
     let above : lo ≤ℤ b = let y : start_from w lo ≤ℤ window_start w (Some lo) = bounds.1 in let z = start_from-above w lo h in omega (arith, ints) in
     grind (arith, ints)
 
--- a bucket ends at or before hi exactly where it starts below the bucket of hi
+-- a bucket ends at or before hi if and only if it starts below the bucket of hi
 ends_by : (w : WidthValue) (b hi : ℤ) → IsWidth w → is_bucket w b ≡ true → b <ℤ bucket_of w hi → (b +ℤ w.step) ≤ℤ hi
 ends_by w b hi h p below =
     let apart : (b +ℤ w.step) ≤ℤ bucket_of w hi = buckets_apart w b (bucket_of w hi) h p (is_bucket-bucket_of w hi h) below in
@@ -75,7 +75,7 @@ inscribed_exact w lo hi b h p =
       (λ ends. whole_from_parts w lo hi b h p ends.0 (ends_by w b hi h p ends.1)),
     )
 
--- what a window is given: the span of its whole buckets, and none only where it has none
+-- the span computed for a window: its whole buckets, and none only if it has none
 pub inscribed_meets : (w : WidthValue) (lo : Option ℤ) (hi : ℤ) → IsWidth w → MatchOption (inscribed w lo hi) (HasNoBucket w lo hi) (IsInscribed w lo hi)
 inscribed_meets w lo hi h = by_cases (int_lt (window_start w lo) (bucket_of w hi)) refl
   where
@@ -96,6 +96,6 @@ inscribed_meets w lo hi h = by_cases (int_lt (window_start w lo) (bucket_of w hi
             let low = parts.1 in
             absurd (let empty : bucket_of w hi ≤ℤ window_start w lo = grind (arith, ints) in omega (arith, ints))
 
--- the same of a result that is what the window is given
+-- the same of a result that equals the window's span
 pub inscribed_as : (w : WidthValue) (lo : Option ℤ) (hi : ℤ) (r : Option SpanValue) → IsWidth w → r ≡ inscribed w lo hi → MatchOption r (HasNoBucket w lo hi) (IsInscribed w lo hi)
 inscribed_as w lo hi r h e = let P : Option SpanValue → Type 0 = λ x. MatchOption x (HasNoBucket w lo hi) (IsInscribed w lo hi) in subst P (sym e) (inscribed_meets w lo hi h)

@@ -26,7 +26,7 @@ pub record IsWidth (w : WidthValue) : Type 0 where
   pub from_zero : pos 0 ≤ℤ w.shift
   pub below_step : w.shift <ℤ w.step
 
--- those four as one test
+-- these four conditions as one test
 abbrev pub is_width : WidthValue → Bool
 is_width w = int_lt (pos 0) w.step && int_le w.step max_step && int_le (pos 0) w.shift && int_lt w.shift w.step
 

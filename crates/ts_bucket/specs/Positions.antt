@@ -17,11 +17,11 @@ abbrev pub is_before : ℕ → Option ℕ → Bool
 is_before s None = true
 is_before s (Some p) = nat_lt p s
 
--- the position, where it is above s
+-- the position, if it is above s
 abbrev pub above : ℕ → Option ℕ → Option ℕ
 above s p = cond (is_above s p) p None
 
--- a position, where it is above the last refresh, if there is one
+-- a position, if it is above the last refresh, if there is one
 abbrev pub above_last : Option ℕ → Option ℕ → Option ℕ
 above_last None p = p
 above_last (Some s) p = above s p

@@ -1,4 +1,4 @@
--- Ranges: the buckets that pass a test, as spans of whole buckets as long as can be.
+-- Ranges: the buckets that pass a test, as spans of whole buckets of maximal length.
 use Rattle.std.specs.Prelude.{◌≡◌, Bool, true, ◌&&◌, ℤ, ◌<ℤ◌, int_le, List, [], ◌∷◌}
 use Rattle.std.specs.List.{list_any, AllByRecursion}
 use Rattle.ts_bucket.specs.Bucket.{WidthValue, is_bucket, first_of}
@@ -8,7 +8,7 @@ use Rattle.ts_bucket.specs.Spans.{SpanValue, in_span}
 abbrev pub lies_in : List SpanValue → ℤ → Bool
 lies_in spans b = list_any (λ span. in_span span b) spans
 
--- a bucket that is asked for: one from the first on whose start lies in the span
+-- a requested bucket: it is at or above the first one, and its start lies in the span
 abbrev pub is_asked : WidthValue → SpanValue → ℤ → Bool
 is_asked w starts b = in_span starts b && (is_bucket w b && int_le (first_of w) b)
 
@@ -24,9 +24,9 @@ RiseApart [] = Unit {0}
 RiseApart (s ∷ []) = Unit {0}
 RiseApart (s ∷ t ∷ ss) = (s.hi <ℤ t.lo) × RiseApart (t ∷ ss)
 
--- these are the maximal ranges of the buckets asked for that pass a test
+-- these are the maximal ranges of the buckets requested that pass a test
 pub record AreRanges (w : WidthValue) (starts : SpanValue) (test : ℤ → Bool) (found : List SpanValue) : Type 0 where
   pub whole : AllByRecursion (IsWholeRange w) found
   pub rising : RiseApart found
-  -- a bucket is in one of them exactly where it is asked for and passes
+  -- a bucket is in one of them if and only if it is requested and passes
   pub exact : (b : ℤ) → is_bucket w b ≡ true → lies_in found b ≡ (is_asked w starts b && test b)

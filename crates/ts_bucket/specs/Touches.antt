@@ -1,4 +1,4 @@
--- What was noted as touched, and what of it a bucket was touched by.
+-- Hulls that were noted as touched, and the latest one that touched a bucket.
 use Rattle.std.specs.Prelude.{ℕ, cond, List, [], ◌∷◌, ℤ, Option, Some, None}
 use Rattle.ts_bucket.specs.Bucket.{WidthValue}
 use Rattle.ts_bucket.specs.Positions.{later}

@@ -33,7 +33,7 @@ abbrev pub window_start : WidthValue → Option ℤ → ℤ
 window_start w None = first_of w
 window_start w (Some lo) = int_max (first_of w) (start_from w lo)
 
--- the span from lo on and below hi, where it has a number
+-- the span from lo on and below hi, if it has a number
 abbrev pub nonempty_span : ℤ → ℤ → Option SpanValue
 nonempty_span lo hi = cond (int_lt lo hi) (Some (record { lo = lo; hi = hi })) None
 

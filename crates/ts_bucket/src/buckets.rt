@@ -10,12 +10,12 @@ use crate::widths::Width;
 /// The greatest step of a width.
 pub const MOST_STEP: i64 = 1_099_511_627_776;
 
-/// States that this is the number of the definitions. It does nothing.
+/// States that this is the number of the definitions. Does nothing.
 pub fn step_law()
     ensures step { buckets.MOST_STEP ≡ max_step }
 {}
 
-/// The width with this step and this shift, or `None` where they break its bounds.
+/// The width with this step and this shift, or `None` if they break its bounds.
 pub fn width(step: i64, shift: i64) -> Option<Width>
     ensures within { IsSome result ↔ IsWidth (record { step = step; shift = shift }) }
     ensures value { IfSome result (λ w. w ≡ record { step = step; shift = shift }) }
@@ -27,7 +27,7 @@ pub fn width(step: i64, shift: i64) -> Option<Width>
     }
 }
 
-/// The start of the bucket that holds `t`, which lies at most a little below the range of times.
+/// The start of the bucket that holds `t`, which may lie a little below the range of times.
 pub(crate) fn bucket_start(w: Width, t: i64) -> i64
     requires { IsInReach t }
     ensures bucket { IsBucketOf w t result }
@@ -37,9 +37,9 @@ pub(crate) fn bucket_start(w: Width, t: i64) -> i64
     t - (t - w.shift).rem_euclid(w.step)
 }
 
-/// The start of the bucket that holds `t`: the greatest start of a bucket that isn't above `t`, also where `t` is
-/// negative. `t` lies within 2^41 of the range of times. See `time_bucket` with an offset, for whole numbers, in the
-/// API reference of TimescaleDB.
+/// The start of the bucket that holds `t`: the greatest start of a bucket at or below `t`, even if `t` is
+/// negative. `t` lies within 2^41 of the range of times. See `time_bucket` with an offset, for whole numbers,
+/// in the API reference of TimescaleDB.
 pub fn bucket(w: Width, t: i64) -> i64
     requires { IsNearTimes t }
     ensures bucket { IsBucketOf w t result }

@@ -1,5 +1,5 @@
-//! Buckets of time, without allocation: widths, spans and hulls, the bucket of a time, the whole
-//! buckets of a window and of a span, and the chunk of a time.
+//! Buckets of time: widths, spans and hulls, the bucket of a time, the whole buckets of a window and of a span,
+//! and the chunk of a time. Nothing allocates memory.
 #![tactic(auto)]
 
 mod buckets;

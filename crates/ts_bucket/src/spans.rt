@@ -2,8 +2,7 @@
 
 use std::marker::Model;
 
-/// The numbers from `lo` on and below `hi`. `lo` is at most `hi`; where they are equal, the span
-/// is empty.
+/// The numbers from `lo` on and below `hi`. `lo` is at most `hi`; if they are equal, the span is empty.
 #[derive(Clone, Copy, Debug, PartialEq, Eq)]
 pub struct Span {
     pub lo: i64,

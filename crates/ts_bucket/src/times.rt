@@ -10,7 +10,7 @@ pub const MIN_TIME: i64 = -4_611_686_018_427_387_904;
 /// The greatest time.
 pub const MAX_TIME: i64 = 4_611_686_018_427_387_903;
 
-/// States the numbers that times, widths and intervals keep to. It does nothing.
+/// States the bounds of times, widths and intervals. Does nothing.
 pub fn times_law()
     ensures least { min_time ≡ negsuc 4611686018427387903 }
     ensures most { max_time ≡ pos 4611686018427387903 }

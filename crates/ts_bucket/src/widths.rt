@@ -2,8 +2,7 @@
 
 use std::marker::Model;
 
-/// How long buckets are, and where they start: at each number that is a whole number of steps
-/// above or below the shift.
+/// The length of buckets, and where they start: a whole number of steps above or below the shift.
 ///
 /// The step is from 1 to 2^40, and the shift from 0 to one less than the step.
 #[derive(Clone, Copy, Debug, PartialEq, Eq)]

@@ -1,4 +1,4 @@
-//! The whole buckets of a window, and what meets what.
+//! The whole buckets of a window, and whether a hull and a span meet.
 
 ghost use Rattle.std.specs.Prelude.{◌≡◌, ◌↔◌, ◌≤ℤ◌, IsTrue, MatchOption};
 ghost use Rattle.std.specs.Option.{ForSome};
@@ -11,8 +11,8 @@ use crate::buckets::{bucket, bucket_start, first};
 use crate::spans::{Hull, Span};
 use crate::widths::Width;
 
-/// The first start of a bucket at or above `t`, which lies at most a little below the range of
-/// times and at or below the end of the range of buckets.
+/// The first start of a bucket at or above `t`. `t` may lie a little below the range of times, and is at most
+/// the end of the range of buckets.
 pub(crate) fn next_start(w: Width, t: i64) -> i64
     requires low { IsInReach t }
     requires high { t ≤ℤ (whole_span w).hi }
@@ -34,16 +34,16 @@ fn first_start(w: Width, lo: Option<i64>) -> i64
     }
 }
 
-/// The span from `lo` on and below `hi`, where it has a number.
+/// The span from `lo` on and below `hi`, if it has a number.
 fn nonempty(lo: i64, hi: i64) -> Option<Span>
     ensures { result ≡ nonempty_span lo hi }
 {
     if lo < hi { Some(Span { lo, hi }) } else { None }
 }
 
-/// The greatest span of whole buckets, from the first bucket on, in the window from `lo` on and
-/// below `hi`, or `None` where no whole bucket is in it. A window with no `lo` starts at the first
-/// bucket. Both ends lie within 2^41 of the range of times.
+/// The greatest span of whole buckets in the window from `lo` on and below `hi`, from the first bucket on.
+/// `None` if no whole bucket is in it. A window with no `lo` starts at the first bucket. Both ends lie within
+/// 2^41 of the range of times.
 pub fn inscribe(w: Width, lo: Option<i64>, hi: i64) -> Option<Span>
     requires low { ForSome lo IsNearTimes }
     requires high { IsNearTimes hi }

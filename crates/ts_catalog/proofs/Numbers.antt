@@ -1,4 +1,4 @@
--- What is found by a name is at its number.
+-- What a name finds is at its number.
 use Rattle.std.proofs.Common.{◌≡◌, refl, sym, subst, ℕ, suc, ◌+◌, true, false, if◌then◌else◌, List, [], ◌∷◌, is_some, arith}
 use Rattle.std.specs.Cmp.Lexicographic.{same_text}
 use Rattle.ts_model.specs.declared.rosters.Roster.{Roster}
@@ -15,11 +15,11 @@ record IsNumbered {X : Type 0} (k : ℕ) (items : List X) (n : ℕ) (P : X → T
   pub counted : n ≡ k + place
   pub there : HasItem items place P
 
--- the item in front has the number that is counted from
+-- the first item has the number that counting begins with
 in_front : {X : Type 0} (k : ℕ) (x : X) (xs : List X) (P : X → Type 0) → P x → IsNumbered k (x ∷ xs) k P
 in_front k x xs P p = record { place = 0; counted = omega arith; there = record { item = x; at = refl; is = p } }
 
--- one more item in front puts each place one further
+-- one more item in front moves each place one further
 one_further : {X : Type 0} (k : ℕ) (x : X) (xs : List X) (n : ℕ) (P : X → Type 0) → IsNumbered (k + 1) xs n P → IsNumbered k (x ∷ xs) n P
 one_further k x xs n P i = record {
   place = suc i.place;
@@ -77,7 +77,7 @@ view_is_there name k (v ∷ vs) = elim (same_name v.name name) as (λ b. same_na
   | false ↦ λ _. view_further name k v vs (view_from name (k + 1) vs) (view_is_there name (k + 1) vs)
 ] refl
 
--- a table found is a table, an aggregate found an aggregate
+-- what is found as a table is a table, and what is found as an aggregate is an aggregate
 abbrev IsTable : Found → Type 0
 IsTable found.None = Unit {0}
 IsTable (found.Plain n) = Unit {0}
@@ -116,7 +116,7 @@ table_or_view roster name (found.Plain n) b ta vb ht hv = from_zero roster.table
 table_or_view roster name (found.Hyper n) b ta vb ht hv = from_zero roster.tables n (λ t. (t.def.name ≡ name) × (is_some t.hyper ≡ true)) ht
 table_or_view roster name (found.View n) b ta vb ht hv = absurd ta
 
--- what is found stands in the roster
+-- what is found is in the roster
 pub found_is_there : (roster : Roster) (name : List ℕ) → IsThere roster name (found_in roster name)
 found_is_there roster name = table_or_view roster name (table_from name 0 roster.tables) (view_from name 0 roster.views)
     (from_is_table name 0 roster.tables) (from_is_view name 0 roster.views)

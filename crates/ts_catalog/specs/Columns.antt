@@ -6,18 +6,18 @@ use Rattle.ts_model.specs.declared.views.ViewDef.{ViewDef}
 use Rattle.ts_schema.specs.declared.columns.Column.{Column}
 use Rattle.ts_model.specs.Roster.{same_name}
 
--- the place of the first of these names that is this one, where places count from k
+-- the place, counted from k, of the first of these names that equals this one
 abbrev pub place_from : List ℕ → ℕ → List (List ℕ) → Option ℕ
 place_from name k [] = None
 place_from name k (n ∷ ns) = if same_name n name then Some k else place_from name (k + 1) ns
 
--- the place of the first column with this name, where places count from k
+-- the place, counted from k, of the first column with this name
 abbrev pub column_from : List ℕ → ℕ → List Column → Option ℕ
 column_from name k [] = None
 column_from name k (c ∷ cs) = if same_name c.name name then Some k else column_from name (k + 1) cs
 
--- the number of a hypertable's column by its declared place, where the time column has the place `at`:
--- the time column is number 0, and the others count from 1 in declared order
+-- the number of a hypertable's column by its declared place, if the time column has the place `at`: the time
+-- column is number 0, and the others count from 1 in declared order
 abbrev pub hyper_number : ℕ → ℕ → ℕ
 hyper_number at place = if place == at then 0 else if nat_lt place at then place + 1 else place
 

@@ -5,8 +5,8 @@ ghost use Rattle.ts_catalog.specs.Columns.{column_from, column_of, hyper_number,
 use ts_model::{TableInfo, ViewDef};
 use ts_schema::{Column, Name};
 
-/// The number of a table's column with this name. In a hypertable column 0 is the time, and the
-/// others count from 1 in declared order; in a plain table columns count from 0 in declared order.
+/// The number of a table's column with this name. In a hypertable column 0 is the time, and the others count
+/// from 1 in declared order. In a plain table columns count from 0 in declared order.
 pub fn column(info: &TableInfo, name: &Name) -> Option<u32>
     requires { length info.now.def.cols < 2 ^ 32 }
     ensures column { result ≡ column_of info.now name.now }
@@ -56,7 +56,7 @@ pub fn view_column(def: &ViewDef, name: &Name) -> Option<u32>
     name_place(def.names.items(), name)
 }
 
-/// The place of the first of these names that is this one.
+/// The place of the first of these names that equals this one.
 pub fn name_place(names: &[Name], name: &Name) -> Option<u32>
     requires { length names.now < 2 ^ 32 }
     ensures place { result ≡ place_from name.now 0 names.now }

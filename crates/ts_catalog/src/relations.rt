@@ -32,7 +32,7 @@ pub fn find(roster: &Roster, name: &Name) -> Found
     )
 }
 
-/// What was found among the tables, or else among the aggregates.
+/// The table that was found, or otherwise the aggregate that was found.
 fn first_found(table: Found, view: Found) -> Found
     ensures { result ≡ or_else table view }
 {
@@ -59,7 +59,7 @@ fn find_table(tables: &[TableInfo], name: &Name) -> Found
     Found::None
 }
 
-/// What the table with this number is.
+/// The kind of the table with this number.
 fn kind_of(table: &TableInfo, number: u32) -> Found
     ensures { result ≡ table_kind table.now number }
 {

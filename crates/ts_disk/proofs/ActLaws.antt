@@ -1,4 +1,4 @@
--- One act more, of a disk in memory.
+-- One more act, of a disk in memory.
 use Rattle.std.proofs.Common.{◌≡◌, ◌⊎◌, inl, inr, ⊎_elim, ℕ, ◌+◌, ◌≤◌, List, [], ◌∷◌, ◌++◌, length, Some, Result, Ok, Err, IsSomeAnd, IfSome, OnOk, OnErr, refl, sym, ◌∙◌, ap, subst, arith, length-append}
 use Rattle.std.proofs.lemmas.Bool.{cases_lt}
 use Rattle.std.proofs.lemmas.List.{ext_get_or, take_all, take-append-le}
@@ -20,11 +20,11 @@ pub within_push : (s : State) (acts : List Act) (act : Act) → all_within s act
 within_push s [] act all here = (here, tt)
 within_push s (a ∷ acts) act all here = (all.0, within_push (after s a) acts act all.1 here)
 
--- the record after one act more
+-- the record after one more act
 abbrev pub more : Recorded → Act → Recorded
 more disk act = record disk { acts = disk.acts ++ act ∷ [] }
 
--- the record after one fault more
+-- the record after one more fault
 abbrev pub failed : Recorded → Recorded
 failed disk = record disk { faults = one_more disk.faults }
 
@@ -72,7 +72,7 @@ module _ (disk : Recorded) where
   did_time act (Ok v) new does = subst (λ (r : Recorded). Elapses (moment disk) (moment r) (WasImage disk) (WasImage r) (leaves r)) (sym does) (time_more act)
   did_time act (Err e) new does = subst (λ (r : Recorded). Elapses (moment disk) (moment r) (WasImage disk) (WasImage r) (leaves r)) (sym does) time_failed
 
-  -- what one call did to what a crash may leave
+  -- the effect of one call on what a crash may leave
   pub did_leave : {T E : Type 0} (act : Act) (result : Result T E) (new : Recorded) → PerformsAct act disk result new → (c : List ℕ) → leaves new c → IsImage (after (state_of disk) act) c ⊎ leaves disk c
   did_leave act (Ok v) new does c image = inl (leaves_more act c (subst (λ (r : Recorded). leaves r c) does image))
   did_leave act (Err e) new does c image = inr (subst (λ (r : Recorded). leaves r c) does image)
@@ -101,7 +101,7 @@ module _ (disk : Recorded) where
   pub did_leave_less : {T E : Type 0} (result : Result T E) (new : Recorded) → PerformsAct Sync disk result new → LeavesNoMore (leaves disk) (leaves new)
   did_leave_less result new does c image = ⊎_elim (λ synced. subst (leaves disk) (sym (image_at_rest (content disk) c synced)) (shows-state (at_rest disk.first) disk.acts (shows-at_rest disk.first))) (λ old. old) (did_leave Sync result new does c image)
 
--- a write that was noted, or wasn't, leaves bytes and acts that belong together
+-- after a write, noted or not, the bytes match the acts
 pub noted : {T E : Type 0} (first : State) (acts later : List Act) (piece : Piece) (bytes now : List ℕ) (result : Result T E)
     → bytes ≡ (state_after first acts).now → all_within first acts → piece.at ≤ length bytes
     → OnOk result (now ≡ file_after_write bytes piece.at piece.bytes) → OnOk result (later ≡ acts ++ Write piece ∷ [])

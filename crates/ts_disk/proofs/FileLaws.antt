@@ -67,7 +67,7 @@ pub adds_zeros : (known new : Option FileState) (n : ℕ) → new ≡ after_zero
 adds_zeros None new n is = is
 adds_zeros (Some s) new n is = subst (AddsZeros (Some s)) (sym is) (count_zeros s n)
 
--- after a write that reached the end, the length that is told is the end
+-- after a write that reached the end, the length that is reported is the end
 pub end_told : (told written now : Option FileState) (at len : ℕ) (piece : List ℕ) → written ≡ after_write told at piece → now ≡ written
     → IsLengthOf written len → len ≤ at + length piece → IfSome now (λ s. length s.bytes ≡ at + length piece)
 end_told None written now at len piece is same measured le =
@@ -101,7 +101,7 @@ either_side i end = elim (cases_lt i end) [
   | inr high ↦ inr (omega arith)
 ]
 
--- a write spares the rest
+-- a write doesn't change the rest
 written_rest : (s : FileState) (at : ℕ) (piece : List ℕ) → SparesRest at (length piece) s (record s { bytes = file_with s.bytes at piece })
 written_rest s at piece = record {
   outside = λ i le apart. get_or-patched s.bytes at piece i le apart;
@@ -132,7 +132,7 @@ spares_grown (Some s) written now new at end piece is same spares =
     let t : FileState = record s { bytes = file_with s.bytes at piece } in
     some_also new (SparesRest end 0 t) (SparesRest at (length piece) s) (λ u next. still_rest at (length piece) end s t u (written_rest s at piece) next) (subst (λ (o : Option FileState). Spares o end 0 new) (same ∙ is) spares)
 
--- zeros that failed spare what was there before the first of them
+-- zeros that failed don't change what was before the first of them
 pub zeros_spare : (told now new : Option FileState) (end at n : ℕ) → IfSome told (λ s. length s.bytes ≡ end) → end ≤ at
     → now ≡ after_zeros told (at - end) → Spares now at n new → Spares told end 0 new
 zeros_spare None now new end at n here le is spares = subst (λ (o : Option FileState). Spares o at n new) is spares

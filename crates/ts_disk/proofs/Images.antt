@@ -1,4 +1,4 @@
--- What torn writes leave.
+-- The outcomes of torn writes.
 use Rattle.std.proofs.Common.{◌≡◌, inl, inr, ℕ, ◌+◌, ◌<◌, ◌≤◌, Bool, true, false, ◌||◌, cond, min, max, List, [], ◌∷◌, ◌++◌, length, map, take, drop, get_or, refl, sym, ◌∙◌, ap, arith, append_assoc, length-append, length-take, length-drop}
 use Rattle.std.proofs.lemmas.Bool.{cases_Bool}
 use Rattle.std.proofs.lemmas.Bool.Decides.{nat_tests}
@@ -12,7 +12,7 @@ use Rattle.ts_disk.specs.MemDisk.{after}
 use Rattle.ts_disk.specs.declared.disk_acts.Act.TheVariants.{Write}
 use Rattle.ts_disk.specs.declared.disk_acts.Piece.{Piece}
 
--- a crash may leave all as it was
+-- a crash may leave everything unchanged
 pub torn_refl : (at n : ℕ) (c : List ℕ) → Torn at n c c
 torn_refl at n c = record { before = refl; after = refl; no_shorter = omega arith; no_longer = omega arith }
 
@@ -32,7 +32,8 @@ torn_written file at piece le =
 covered_any : (i : ℕ) (pieces : List Piece) (piece : Piece) → list_any (covers i) pieces ≡ false → covers i piece ≡ false → list_any (covers i) (pieces ++ piece ∷ []) ≡ false
 covered_any i pieces piece none not_here = list_any-append (covers i) pieces (piece ∷ []) ∙ ap (λ (b : Bool). b || (covers i piece || false)) none ∙ ap (λ (b : Bool). b || false) not_here
 
--- an image after a write comes from an image before it: in the range of the write that one has the bytes of the last sync
+-- an image after a write comes from an image before it: in the range of the write, that earlier image has the
+-- bytes of the last sync
 module _ (s : State) (piece : Piece) (c : List ℕ) (begins : piece.at ≤ length s.now) (grown : length s.synced ≤ length s.now) (image : IsImage (after s (Write piece)) c) where
   at_byte : ℕ → ℕ
   at_byte i = cond (covers i piece) (get_or s.synced i 0) (get_or c i 0)

@@ -1,4 +1,4 @@
--- What is picked is an image.
+-- The image picked is a crash image.
 use Rattle.std.proofs.Common.{◌≡◌, ◌⊎◌, inl, inr, ⊎_elim, ℕ, ◌+◌, ◌-◌, ◌/◌, ◌<◌, ◌≤◌, Bool, true, false, ◌&&◌, List, [], ◌∷◌, ◌++◌, length, get_or, replicate, refl, sym, ◌∙◌, ap, subst, arith, length-append, length-take, if◌then◌else◌}
 use Rattle.std.proofs.lemmas.Bool.{cases_Bool, or_parts}
 use Rattle.std.proofs.lemmas.List.{get_or_append_left, length-replicate}
@@ -22,7 +22,7 @@ end_within_push n m (p ∷ pieces) piece le all here =
     let first : p.at + length p.bytes ≤ n = all.0 in
     (omega arith, end_within_push n m pieces piece le all.1 here)
 
--- no write ends behind the bytes, and they have no fewer bytes than at the last sync
+-- no write ends after the bytes, and they have no fewer bytes than at the last sync
 record Holds (s : State) : Type 0 where
   grown : length s.synced ≤ length s.now
   ends : end_within (length s.now) s.writes
@@ -38,7 +38,7 @@ holds_state : (s : State) (acts : List Act) → Holds s → all_within s acts �
 holds_state s [] holds all = holds
 holds_state s (act ∷ acts) holds all = holds_state (after s act) acts (holds_after s act holds all.0) all.1
 
--- no more is kept of a write than there is
+-- the part kept of a write is at most the whole
 part_shorter : (pick i : ℕ) (bytes : List ℕ) (pieces : List Piece) → length (kept_part pick i bytes pieces) ≤ length bytes
 part_shorter pick i bytes pieces = elim (cases_Bool (bit pick 63 && none_kept pick (i + 1) pieces)) [
   | inl picks ↦ subst (λ (b : Bool). length (if b then half bytes else bytes) ≤ length bytes) (sym picks) (omega (arith, length-take ((length bytes + 1) / 2) bytes))
@@ -58,7 +58,7 @@ get_or-patched file at bytes j le outside =
     let filled = file ++ replicate (at - length file) 0 in
     get_or-written filled at bytes j (omega (arith, length-append file (replicate (at - length file) 0))) outside ∙ get_or_append_left file (replicate (at - length file) 0) 0 j le
 
--- the file after one write of those that are picked among
+-- the file after one of the writes that the number picks from
 abbrev next_file : ℕ → ℕ → List ℕ → Piece → List Piece → List ℕ
 next_file pick i file piece pieces = if is_kept pick i then file_with file piece.at (kept_part pick i piece.bytes pieces) else file
 

@@ -1,4 +1,4 @@
--- How acts are done again.
+-- How acts are repeated.
 use Rattle.std.proofs.Common.{◌≡◌, inl, inr, ℕ, ◌+◌, ◌<◌, ◌≤◌, min, List, [], ◌∷◌, ◌++◌, length, take, drop, get_or, refl, sym, ◌∙◌, ap, arith, length-take}
 use Rattle.std.proofs.lemmas.Bool.{cases_lt}
 use Rattle.std.proofs.lemmas.List.{take_all, drop_all, take_more, drop-append-le}
@@ -50,7 +50,7 @@ module _ (first : List ℕ) (acts : List Act) (i since : ℕ) (synced now : List
         in_acts = omega arith;
       }
 
--- a write that begins behind the end is one at the end
+-- a write that begins after the end is like one at the end
 pub written-min : (file : List ℕ) (at : ℕ) (piece : List ℕ) → file_after_write file (min (length file) at) piece ≡ file_after_write file at piece
 written-min file at piece = elim (cases_lt (length file) at) [
   | inl past ↦

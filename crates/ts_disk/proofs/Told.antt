@@ -1,4 +1,4 @@
--- What reads of a disk give.
+-- The bytes that reads of a disk return.
 use Rattle.std.proofs.Common.{◌≡◌, ℕ, ◌≤◌, List, Option, None, Some, Result, Ok, Err, IsSome, IsSomeAnd, IfSome, length, refl, sym, subst}
 use Rattle.ts_disk.specs.CrashImage.{Torn, file_after_write}
 use Rattle.ts_disk.specs.Disk.{Writes}
@@ -22,7 +22,7 @@ the_told (Some a) some = (a, refl)
 
 -- ---- writes
 
--- a write leaves it torn, whole at the most
+-- a write leaves the bytes torn, or at most written whole
 pub torn_after : {T E : Type 0} (before now : Option (List ℕ)) (at : ℕ) (piece file : List ℕ) (result : Result T E)
     → before ≡ Some file → IfSome before (λ whole. at ≤ length whole) → Writes before at piece result now → IsSomeAnd now (Torn at (length piece) file)
 torn_after {T = T} {E = E} before now at piece file (Ok v) told within writes =

@@ -1,5 +1,5 @@
--- What a crash may leave of a file: between two syncs each written range, and the part past the old end, may hold any
--- bytes, the length may be any number from the old to the new one, and bytes outside stay.
+-- The crash images of a file. Between two syncs each written range, and the part past the old end, may hold any
+-- bytes. The length may be any number from the old to the new one. Bytes outside stay.
 use Rattle.std.specs.Prelude.{◌≡◌, ◌⊎◌, ℕ, ◌+◌, ◌<◌, ◌≤◌, Bool, false, ◌&&◌, nat_lt, nat_le, max, List, [], ◌++◌, length, take, drop, slice_index}
 use Rattle.std.specs.List.{list_any}
 use Rattle.ts_disk.specs.declared.disk_acts.Piece.{Piece}
@@ -25,7 +25,7 @@ Follows step old new = (c : List ℕ) → new c → (d : List ℕ) × old d × s
 abbrev pub LeavesNoMore : (List ℕ → Type 0) → (List ℕ → Type 0) → Type 0
 LeavesNoMore old new = (c : List ℕ) → new c → old c
 
--- a crash leaves this and nothing else
+-- a crash leaves exactly this
 abbrev pub Only : List ℕ → (List ℕ → Type 0) → Type 0
 Only file outcomes = (c : List ℕ) → outcomes c → c ≡ file
 
@@ -37,19 +37,19 @@ pub record Elapses (before now : ℕ) (past since : ℕ → List ℕ → Type 0)
   pub nothing_else : (t : ℕ) (c : List ℕ) → t ≤ before → since t c → past t c ⊎ may_leave c
   pub keeps : (t : ℕ) (c : List ℕ) → t ≤ before → past t c → since t c
 
--- a crash at any moment since old leaves a file that has P
+-- a crash at any moment since `old` leaves a file with property P
 pub record LeavesOnly {D : Type 0} (moment : D → ℕ) (left_since : D → ℕ → List ℕ → Type 0) (old new : D)
     (P : List ℕ → Type 0) : Type 0 where
   pub later : moment old ≤ moment new
   pub each : (c : List ℕ) → left_since new (moment old) c → P c
   -- for a run that began earlier
   pub before : (t : ℕ) (c : List ℕ) → t ≤ moment old → left_since new t c → left_since old t c ⊎ P c
-  -- and nothing that it might have left is forgotten
+  -- and each outcome that it might have left stays possible
   pub keeps : (t : ℕ) (c : List ℕ) → t ≤ moment old → left_since old t c → left_since new t c
 
 -- ---- the images between two syncs
 
--- the bytes of the last sync that succeeded, the writes since then in order, and the bytes that a read gives
+-- the bytes of the last sync that succeeded, the writes since then in order, and the bytes that a read returns
 pub record State : Type 0 where
   pub synced : List ℕ
   pub writes : List Piece

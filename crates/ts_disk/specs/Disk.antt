@@ -1,4 +1,4 @@
--- What the calls of a disk do to its known bytes, and what stays.
+-- The effect of a disk's calls on its known bytes, and the bytes that stay.
 use Rattle.std.specs.Prelude.{◌≡◌, ℕ, ◌≤◌, List, Option, None, Some, IsSomeAnd, IfSome, Result, MatchResult, length, take, drop}
 use Rattle.ts_schema.specs.Faults.{Rose}
 use Rattle.ts_disk.specs.CrashImage.{Torn, file_after_write}
@@ -19,8 +19,8 @@ HasRange told end = IfSome told (λ file. end ≤ length file)
 abbrev pub IsRange : Option (List ℕ) → ℕ → List ℕ → Type 0
 IsRange told at bytes = IfSome told (λ file. bytes ≡ take (length bytes) (drop at file))
 
--- a write puts its piece at its place; one that failed may have put any bytes into its range and past the old end,
--- and leaves the others as they were; unknown bytes stay unknown
+-- a write stores its piece at its place. A write that failed may have stored any bytes in its range and past
+-- the old end, and doesn't change the others. Unknown bytes stay unknown
 abbrev pub Writes : {T E : Type 0} → Option (List ℕ) → ℕ → List ℕ → Result T E → Option (List ℕ) → Type 0
 Writes None at piece result new = new ≡ None
 Writes (Some file) at piece result new =

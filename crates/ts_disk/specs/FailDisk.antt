@@ -7,15 +7,14 @@ use Rattle.ts_disk.specs.declared.fail_disks.DiskCall.TheVariants.{Len, Read, Wr
 use Rattle.ts_disk.specs.declared.fail_disks.Plan.{Plan}
 use Rattle.ts_disk.specs.declared.fail_disks.Plan.TheVariants.{Once, After}
 
--- the disk that it holds, which calls fail, how many calls of those that are counted there were, and how many calls
--- failed
+-- its inner disk, the calls that fail, the number of counted calls made, and the number of calls that failed
 pub record Failing : Type 0 where
   pub disk : Recorded
   pub plan : Plan
   pub made : ℕ
   pub faults : ℕ
 
--- the bytes, the images and the moment are those of the disk that is held
+-- the bytes, the images and the moment are those of the inner disk
 abbrev pub known_of : Failing → Option (List ℕ)
 known_of disk = known_bytes disk.disk
 
@@ -55,7 +54,7 @@ is_counted (After calls) call = true
 abbrev pub made_after : Plan → DiskCall → ℕ → ℕ
 made_after plan call made = if is_counted plan call then one_more made else made
 
--- whether a call fails that is the call with this number: only the nth of its kind, or all but the first ones
+-- whether the call with this number fails: only the nth of its kind, or all except the first ones
 abbrev pub is_failing : Plan → DiskCall → ℕ → Bool
 is_failing (Once kind nth) call made = same_kind kind call && made == nth
 is_failing (After calls) call made = nat_lt calls made
@@ -63,7 +62,7 @@ is_failing (After calls) call made = nat_lt calls made
 abbrev pub fails_at : Failing → DiskCall → Bool
 fails_at disk call = is_failing disk.plan call (made_after disk.plan call disk.made)
 
--- a call that fails leaves the disk that is held as it was, and each other is that disk's own call
+-- a call that fails doesn't change the inner disk, and each other is that disk's own call
 pub record Runs {T E : Type 0} (call : DiskCall) (own : Recorded → Result T E → Recorded → Type 0) (old : Failing)
     (result : Result T E) (new : Failing) : Type 0 where
   pub fails : fails_at old call ≡ true → IsErr result × (new.disk ≡ old.disk)

@@ -1,9 +1,9 @@
--- What is known of a file, and what each call makes of it.
+-- The known state of a file, and the effect of each call on it.
 use Rattle.std.specs.Prelude.{◌≡◌, ◌⊎◌, ℕ, ◌+◌, ◌-◌, ◌<◌, ◌≤◌, List, ◌++◌, length, take, drop, slice_index, replicate, Option, None, Some, IfSome, IsSomeAnd, Result, MatchResult, ⊤}
 use Rattle.ts_schema.specs.Counts.{one_more}
 use Rattle.ts_disk.specs.PickedImages.{file_with}
 
--- the bytes that reads give, how many syncs succeeded, and how many calls failed
+-- the bytes that reads return, the number of syncs that succeeded, and the number of calls that failed
 pub record FileState : Type 0 where
   pub bytes : List ℕ
   pub syncs : ℕ
@@ -31,26 +31,26 @@ abbrev pub after_zeros : Option FileState → ℕ → Option FileState
 after_zeros None n = None
 after_zeros (Some s) n = Some (record s { bytes = s.bytes ++ replicate n 0 })
 
--- ---- what is left of a write that failed
+-- ---- the bytes that a failed write leaves unchanged
 
--- bytes outside of the n places from this one on stay, no byte is cut off, and nothing was synced
+-- bytes outside the n places from this one on stay, the file doesn't get shorter, and nothing was synced
 pub record SparesRest (at n : ℕ) (old new : FileState) : Type 0 where
   pub outside : (i : ℕ) → i < length old.bytes → (i < at) ⊎ (at + n ≤ i) → slice_index new.bytes i ≡ slice_index old.bytes i
   pub no_shorter : length old.bytes ≤ length new.bytes
   pub syncs : new.syncs ≡ old.syncs
 
--- a write of n bytes at this place that failed spared the rest
+-- a failed write of n bytes at this place didn't change the rest
 abbrev pub Spares : Option FileState → ℕ → ℕ → Option FileState → Type 0
 Spares None at n new = new ≡ None
 Spares (Some s) at n new = IsSomeAnd new (SparesRest at n s)
 
 -- ---- calls
 
--- the length that is answered is the file's
+-- the length returned is the file's
 abbrev pub IsLengthOf : Option FileState → ℕ → Type 0
 IsLengthOf known n = IfSome known (λ s. n ≡ length s.bytes)
 
--- a call that asks for the length
+-- a call that reads the length
 abbrev pub Measures : {E : Type 0} → Option FileState → Result ℕ E → Option FileState → Type 0
 Measures old result new = MatchResult result (λ n. IsLengthOf old n × (new ≡ old)) (λ _. new ≡ after_failure old)
 
@@ -73,12 +73,12 @@ SyncsFile old result new = MatchResult result (λ _. new ≡ after_sync old) (λ
 
 -- ---- a disk on a file
 
--- the file, and how many calls of the disk failed
+-- the file, and the number of calls of the disk that failed
 pub record OnFile (F : Type 0) : Type 0 where
   pub file : F
   pub faults : ℕ
 
--- as a disk it tells no bytes, and promises nothing of what a crash leaves
+-- as a disk it states no bytes, and nothing about what a crash leaves
 abbrev pub untold : {F : Type 0} → OnFile F → Option (List ℕ)
 untold disk = None
 
@@ -91,7 +91,7 @@ one_moment disk = 0
 abbrev pub any_past : {F : Type 0} → OnFile F → ℕ → List ℕ → Type 0
 any_past disk t c = ⊤
 
--- zeros alone were added at the end
+-- only zeros were added at the end
 abbrev pub AddsZeros : Option FileState → Option FileState → Type 0
 AddsZeros None new = new ≡ None
 AddsZeros (Some s) new = IsSomeAnd new (λ t. t ≡ record s { bytes = s.bytes ++ replicate (length t.bytes - length s.bytes) 0 })

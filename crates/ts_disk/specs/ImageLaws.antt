@@ -1,4 +1,4 @@
--- What holds of the images of a disk in memory at each moment.
+-- Properties of the images of a disk in memory at each moment.
 use Rattle.std.proofs.Common.{◌≡◌, ◌⊎◌, inl, inr, ℕ, ◌+◌, ◌-◌, ◌<◌, ◌≤◌, Bool, true, false, ◌||◌, min, List, [], ◌∷◌, ◌++◌, length, take, drop, get_or, refl, sym, ◌∙◌, ap, subst, arith, length-append, length-take, length-drop}
 use Rattle.std.proofs.lemmas.Bool.Decides.{nat_tests}
 use Rattle.std.proofs.lemmas.List.{take_all, get_or_append_left, get_or-append_right, get_or-take, get_or-drop}
@@ -21,7 +21,7 @@ length-written file at piece =
 pub length-written-le : (file : List ℕ) (at : ℕ) (piece : List ℕ) → length file ≤ length (file_after_write file at piece)
 length-written-le file at piece = omega (arith, length-written file at piece)
 
--- bytes outside of a write stay
+-- bytes outside a write stay
 pub get_or-written :
     (file : List ℕ) (at : ℕ) (piece : List ℕ) (i : ℕ) → i < length file → (i < at) ⊎ (at + length piece ≤ i)
     → get_or (file_after_write file at piece) i 0 ≡ get_or file i 0
@@ -41,7 +41,7 @@ get_or-written file at piece i in_file (inr high) =
     ∙ get_or-drop (at + length piece) file (i - (at + length piece)) 0
     ∙ ap (λ (k : ℕ). get_or file k 0) place
 
--- a place that a write doesn't cover lies before or behind it
+-- a place that a write doesn't cover lies before or after it
 pub apart : (i : ℕ) (piece : Piece) → covers i piece ≡ false → (i < piece.at) ⊎ (piece.at + length piece.bytes ≤ i)
 apart i piece none = grind (arith, nat_tests)
 
@@ -55,7 +55,7 @@ covered-push i pieces piece none =
     none_of false true is = absurd (cc is)
     none_of true b is = absurd (cc is)
 
--- ---- what a read gives is an image
+-- ---- the bytes that a read returns are an image
 
 pub shows-at_rest : (file : List ℕ) → IsImage (at_rest file) file
 shows-at_rest file = record { no_shorter = omega arith; no_longer = omega arith; outside = λ i le none. refl }

@@ -1,4 +1,4 @@
--- A disk in memory, as all that was done to it.
+-- A disk in memory, as the list of acts on it.
 use Rattle.std.specs.Prelude.{◌≡◌, ℕ, ◌≤◌, List, [], ◌∷◌, ◌++◌, length, take, Option, Some, Result, MatchResult, ⊤}
 use Rattle.ts_schema.specs.Counts.{one_more}
 use Rattle.ts_disk.specs.CrashImage.{State, IsImage, at_rest, file_after_write}
@@ -6,7 +6,7 @@ use Rattle.ts_disk.specs.declared.disk_acts.Piece.{Piece}
 use Rattle.ts_disk.specs.declared.disk_acts.Act.{Act}
 use Rattle.ts_disk.specs.declared.disk_acts.Act.TheVariants.{Write, Sync}
 
--- the bytes that it had at first, what was done since, and how many calls failed
+-- the bytes that it had at first, the acts since, and the number of calls that failed
 pub record Recorded : Type 0 where
   pub first : List ℕ
   pub acts : List Act
@@ -30,15 +30,15 @@ written_at at piece disk = record disk { acts = disk.acts ++ Write (record { at 
 abbrev pub state_of : Recorded → State
 state_of disk = state_after (at_rest disk.first) disk.acts
 
--- the bytes that a read gives
+-- the bytes that a read returns
 abbrev pub content : Recorded → List ℕ
 content disk = (state_of disk).now
 
--- they are known
+-- the bytes are known
 abbrev pub known_bytes : Recorded → Option (List ℕ)
 known_bytes disk = Some (content disk)
 
--- what a crash may leave is what the model says
+-- a crash may leave exactly what the model says
 abbrev pub leaves : Recorded → List ℕ → Type 0
 leaves disk c = IsImage (state_of disk) c
 

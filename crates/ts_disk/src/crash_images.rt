@@ -19,16 +19,16 @@ pub fn pick_image(alloc: Global, first: &[u8], acts: &[Act], pick: u64) -> Resul
     Ok(image)
 }
 
-/// What a disk had at its last sync.
+/// The bytes of a disk at its last sync.
 #[derive(Drop)]
 struct SyncedBytes {
     /// The bytes at the last sync.
     synced: Vec<u8>,
-    /// How many acts there were up to it.
+    /// The number of acts up to that sync.
     since: usize,
 }
 
-/// Does these acts again.
+/// Repeats these acts.
 fn replay(alloc: Global, first: &[u8], acts: &[Act]) -> Result<SyncedBytes, NoMemory>
     ensures within { IfOk result (λ r. r.since ≤ length acts.now) }
     ensures synced { IfOk result (λ r. r.synced.items ≡ (state_after (at_rest first.now) acts.now).synced) }
@@ -53,7 +53,7 @@ fn replay(alloc: Global, first: &[u8], acts: &[Act]) -> Result<SyncedBytes, NoMe
     Ok(SyncedBytes { synced, since })
 }
 
-/// Applies those writes that are kept.
+/// Applies the writes that are kept.
 fn keep_picked(image: &mut Vec<u8>, acts: &[Act], pick: u64) -> Result<(), NoMemory>
     ensures { OnOk result (image.new.items ≡ picked_from pick 0 image.old.items (pieces_of acts.now)) }
 {
@@ -87,7 +87,7 @@ fn is_kept_write(pick: u64, i: u64) -> bool
     has_bit(pick, i % 63)
 }
 
-/// Whether none of these writes, which are numbered from `i` on, is kept.
+/// Whether none of these writes, numbered from `i` on, is kept.
 fn is_none_kept(pick: u64, i: u64, acts: &[Act]) -> bool
     requires small { i + length acts.now < 2 ^ 64 }
     ensures { result ≡ none_kept pick i (pieces_of acts.now) }
@@ -106,7 +106,7 @@ fn is_none_kept(pick: u64, i: u64, acts: &[Act]) -> bool
     true
 }
 
-/// What is kept of write number `i`, after which these follow.
+/// The part kept of write number `i`, which these writes follow.
 fn part_to_keep<'a>(pick: u64, i: u64, bytes: &'a [u8], acts: &[Act]) -> &'a [u8]
     requires small { i + 1 + length acts.now < 2 ^ 64 }
     ensures { result.now ≡ kept_part pick i bytes.now (pieces_of acts.now) }
@@ -118,7 +118,7 @@ fn part_to_keep<'a>(pick: u64, i: u64, bytes: &'a [u8], acts: &[Act]) -> &'a [u8
     }
 }
 
-/// Puts bytes at a place, and zeros into a gap before them.
+/// Writes bytes at a place, and zeros into a gap before them.
 fn patch(file: &mut Vec<u8>, at: usize, bytes: &[u8]) -> Result<(), NoMemory>
     ensures { OnOk result (file.new.items ≡ file_with file.old.items at bytes.now) }
 {

@@ -1,4 +1,4 @@
-//! What is done to a disk.
+//! Acts on a disk.
 use ts_schema::Seq;
 
 /// Bytes that were written at a place.
@@ -10,11 +10,11 @@ pub struct Piece {
     pub bytes: Seq<u8>,
 }
 
-/// A call that changed a disk, or what a crash may leave of it.
+/// A call that changed a disk, or its crash images.
 #[derive(Drop, Debug)]
 pub enum Act {
     /// Bytes were written.
     Write(Piece),
-    /// All bytes were put onto the disk.
+    /// All bytes were written to the disk.
     Sync,
 }

@@ -1,23 +1,23 @@
-//! What a disk promises.
+//! The contract of a disk.
 ghost use Rattle.std.specs.Prelude.{◌≡◌, ◌⊎◌, ℕ, ◌+◌, ◌≤◌, List, Option, length, IfOk, OnOk, IfSome};
 ghost use Rattle.ts_disk.specs.CrashImage.{Torn, Follows, LeavesNoMore, Only, Elapses};
 ghost use Rattle.ts_disk.specs.Disk.{Counted, HasLength, HasRange, IsRange, Writes, Keeps};
 
-/// No disk has more bytes.
+/// The greatest number of bytes of a disk.
 pub const MOST_BYTES: u64 = 1 << 62;
 
 /// A call of a disk failed, and its count of faults rose.
 #[derive(Clone, Copy, Debug, PartialEq, Eq)]
 pub struct Failed;
 
-/// Bytes by their places, with a count of failed calls. A crash may lose what wasn't synced.
+/// Bytes by their places, with a count of failed calls. A crash may lose writes that weren't synced.
 ///
-/// Between two syncs each written range, and the part past the old end, may hold any bytes after a
-/// crash, and the length may be any number from the old to the new one. Bytes outside stay. After a
-/// sync that succeeds a crash leaves what a read gives. After a write that failed a read, too, may give
-/// any bytes in its range and past the old end.
+/// A crash between two syncs may leave any bytes in each written range and past the old end. It may leave any
+/// length from the old to the new one. Bytes outside stay. After a successful sync, a crash leaves the bytes
+/// that a read returns. After a failed write, even a read may return any bytes in its range and past the old
+/// end.
 pub trait Disk {
-    /// The bytes that reads give, if they are known.
+    /// The bytes that reads return, if they are known.
     ghost bytes: { Self → Option (List ℕ) };
 
     /// What a crash at this moment may leave.
@@ -29,14 +29,14 @@ pub trait Disk {
     /// What a crash at some moment from that one on might have left, during a call or between two.
     ghost left_since: { Self → ℕ → List ℕ → Type 0 };
 
-    /// How many calls have failed.
+    /// The number of calls that have failed.
     ghost faults: { Self → ℕ };
 
-    /// Returns how many calls have failed, at most `u64::MAX`.
+    /// Returns the number of calls that have failed, at most `u64::MAX`.
     fn faults(&self) -> u64
         ensures { result ≡ faults self.now };
 
-    /// Returns how many bytes there are.
+    /// Returns the number of bytes.
     fn len(&mut self) -> Result<u64, Failed>
         ensures length { IfOk result (λ n. HasLength (bytes self.old) n) }
         ensures most { IfOk result (λ n. n ≤ MOST_BYTES) }
@@ -51,7 +51,7 @@ pub trait Disk {
         ensures kept { Keeps bytes may_leave moment left_since self.old self.new }
         ensures counted { Counted (faults self.old) (faults self.new) result };
 
-    /// Writes bytes at place `at`, over what is there and past the end. A write that would end above
+    /// Writes bytes at place `at`, over existing bytes and past the end. A write that would end above
     /// `MOST_BYTES` fails.
     fn write_at(&mut self, at: u64, piece: &[u8]) -> Result<(), Failed>
         requires most { at ≤ MOST_BYTES }
@@ -63,7 +63,7 @@ pub trait Disk {
             (may_leave self.new) }
         ensures counted { Counted (faults self.old) (faults self.new) result };
 
-    /// Writes all bytes through to the disk. Once this succeeds, a crash leaves what a read gives.
+    /// Writes all bytes through to the disk. Once this succeeds, a crash leaves the bytes that a read returns.
     fn sync(&mut self) -> Result<(), Failed>
         ensures same { bytes self.new ≡ bytes self.old }
         ensures durable { OnOk result (IfSome (bytes self.old) (λ file. Only file (may_leave self.new))) }
@@ -75,9 +75,9 @@ pub trait Disk {
     /// This moment is one of those since an earlier one.
     ghost counts_now: { (disk : Self) (t : ℕ) (c : List ℕ) → t ≤ moment disk → may_leave disk c → left_since disk t c };
 
-    /// Since this moment there is no other.
+    /// No moment is later than this one.
     ghost only_now: { (disk : Self) (c : List ℕ) → left_since disk (moment disk) c → may_leave disk c };
 
-    /// A crash may leave what a read gives.
+    /// A crash may leave the bytes that a read returns.
     ghost shows_an_image: { (disk : Self) → IfSome (bytes disk) (may_leave disk) };
 }

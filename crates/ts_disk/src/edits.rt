@@ -1,4 +1,4 @@
-//! Bytes written over others.
+//! Writes bytes over others.
 ghost use Rattle.std.specs.Prelude.{◌≡◌, ◌+◌, ◌≤◌, length, vec_len, vec_capacity, OnOk, OnErr};
 ghost use Rattle.ts_disk.specs.CrashImage.{file_after_write};
 ghost use Rattle.ts_disk.specs.PickedImages.{file_with};
@@ -22,7 +22,7 @@ pub fn write_over(bytes: &mut Vec<u8>, at: usize, piece: &[u8])
     bytes[at..end].copy_from_slice(piece);
 }
 
-/// Writes a piece at a place, or finds no memory.
+/// Writes a piece at a place, or fails as out of memory.
 pub fn write_growing(bytes: &mut Vec<u8>, at: usize, piece: &[u8]) -> Result<(), NoMemory>
     requires range { at ≤ length bytes.old.items }
     ensures done { OnOk result (bytes.new.items ≡ file_after_write bytes.old.items at piece.now) }
@@ -33,7 +33,7 @@ pub fn write_growing(bytes: &mut Vec<u8>, at: usize, piece: &[u8]) -> Result<(),
     Ok(())
 }
 
-/// Writes a piece at a place, and zeros before it if the place lies past the end, or finds no memory.
+/// Writes a piece at a place, and zeros before it if the place lies past the end. May fail as out of memory.
 pub fn write_with_gap(bytes: &mut Vec<u8>, at: usize, piece: &[u8]) -> Result<(), NoMemory>
     requires most { at ≤ MOST_BYTES }
     ensures done { OnOk result (bytes.new.items ≡ file_with bytes.old.items at piece.now) }

@@ -27,21 +27,21 @@ pub enum DiskCall {
     Sync,
 }
 
-/// Which calls of a disk fail.
+/// The calls of a disk that fail.
 #[derive(Clone, Copy, Debug, PartialEq, Eq)]
 pub enum Plan {
-    /// The call of this kind with this number, counted from 1, and no other.
+    /// Only the call of this kind with this number, counted from 1.
     Once { kind: DiskCall, nth: u64 },
     /// Every call after this many.
     After { calls: u64 },
 }
 
-/// A disk in memory some of whose calls fail. Such a call leaves the disk as it was.
+/// A disk in memory some of whose calls fail. Such a call doesn't change the disk.
 #[derive(Drop)]
 pub struct FailDisk {
     disk: MemDisk,
     plan: Plan,
-    /// How many calls were made, of those that the plan counts.
+    /// The number of calls made, of those that the plan counts.
     made: u64,
     faults: u64,
 }
@@ -91,7 +91,7 @@ impl FailDisk {
         }
     }
 
-    /// Returns the disk that it holds, for tests that check its bytes and what a crash would leave.
+    /// Returns the inner disk, for tests that check its bytes and crash images.
     pub fn inner(&self) -> &MemDisk
         ensures { result.now ≡ self.now.disk }
     {
@@ -99,7 +99,7 @@ impl FailDisk {
     }
 }
 
-/// Counts a call of this kind, and says whether it fails.
+/// Counts a call of this kind, and returns whether it fails.
 fn count_call(plan: Plan, made: &mut u64, call: DiskCall) -> bool
     ensures counted { made.new ≡ made_after plan call made.old }
     ensures fails { result ≡ is_failing plan call made.new }

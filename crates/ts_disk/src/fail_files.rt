@@ -9,8 +9,8 @@ use std::io::{self, ErrorKind};
 use std::marker::Model;
 
 /// A file in memory. One of its calls fails and changes nothing, and the next one succeeds, as on a system that
-/// reports a lost write once. A call fails, too, if memory runs out or it goes beyond `MOST_BYTES`, and a read if it
-/// goes past the end.
+/// reports a lost write once. A call also fails if memory runs out or it extends beyond `MOST_BYTES`, and a
+/// read if it extends past the end.
 #[derive(Drop)]
 pub struct FailFile {
     bytes: Vec<u8>,
@@ -30,7 +30,7 @@ impl Model for FailFile {
 }
 
 impl FailFile {
-    /// A file with these bytes, of which the call with the number `fails_at`, counted from 1, fails.
+    /// A file with these bytes. Its call with the number `fails_at`, counted from 1, fails.
     pub fn new(bytes: Vec<u8>, fails_at: u64) -> FailFile
         ensures made { result ≡ record { bytes = bytes.items; syncs = 0; failed = 0 } }
     {
@@ -43,28 +43,28 @@ impl FailFile {
         }
     }
 
-    /// Returns the bytes that a read gives.
+    /// Returns the bytes as reads return them.
     pub fn bytes(&self) -> &[u8]
         ensures { result.now ≡ self.now.bytes }
     {
         &self.bytes
     }
 
-    /// Returns how many syncs succeeded.
+    /// Returns the number of syncs that succeeded.
     pub fn syncs(&self) -> u64
         ensures { result ≡ self.now.syncs }
     {
         self.syncs
     }
 
-    /// Returns how many calls failed.
+    /// Returns the number of calls that failed.
     pub fn failures(&self) -> u64
         ensures { result ≡ self.now.failed }
     {
         self.failed
     }
 
-    /// Counts a call, and says whether it is the one that fails.
+    /// Counts a call, and returns whether it is the one that fails.
     fn is_failing(&mut self) -> bool
         ensures kept { self.new ≡ self.old }
     {

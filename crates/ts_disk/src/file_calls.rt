@@ -8,10 +8,10 @@ use std::os::unix::fs::FileExt;
 
 /// The calls of an open file that a disk makes.
 pub trait FileCalls {
-    /// What is known of the file. Nothing is known of a file of the operating system.
+    /// The known state of the file. A file of the operating system has none.
     ghost known: { Self → Option FileState };
 
-    /// Returns how many bytes there are.
+    /// Returns the number of bytes.
     fn len(&mut self) -> io::Result<u64>
         ensures measures { Measures (known self.old) result (known self.new) };
 
@@ -19,7 +19,7 @@ pub trait FileCalls {
     fn read(&mut self, at: u64, into: &mut [u8]) -> io::Result<()>
         ensures reads { ReadsFile (known self.old) at result into.new (known self.new) };
 
-    /// Writes bytes at place `at`, over what is there and past the end.
+    /// Writes bytes at place `at`, over existing bytes and past the end.
     fn write(&mut self, at: u64, piece: &[u8]) -> io::Result<()>
         ensures writes { WritesFile (known self.old) at piece.now result (known self.new) };
 

@@ -11,17 +11,17 @@ use crate::file_calls::FileCalls;
 use std::io;
 use std::marker::Model;
 
-/// By how many bytes the file grows at a time, so that few syncs have to wait for new blocks.
+/// The number of bytes by which the file grows at a time, so that few syncs must wait for new blocks.
 const STEP: u64 = 1 << 18;
 
 /// The zeros that one write adds as the file grows.
 const ZEROS: [u8; 4096] = [0; 4096];
 
-/// An open file as a disk, with a count of its errors. As a disk it promises neither what a read gives nor what
-/// a crash leaves. The clauses `file` say which calls of the file it makes, and what it does with their errors.
+/// An open file as a disk, with a count of its errors. As a disk it states neither what a read returns nor what
+/// a crash leaves. The clauses `file` say which calls of the file it makes, and how it handles their errors.
 ///
-/// A write past the end that doesn't begin at place 0 may leave zeros after its bytes: the file grows ahead
-/// in steps.
+/// A write past the end that doesn't begin at place 0 may leave zeros after its bytes: the file grows ahead in
+/// steps.
 #[derive(Drop)]
 pub struct FileDisk<F> {
     file: F,
@@ -50,7 +50,7 @@ impl<F: FileCalls> FileDisk<F> {
         }
     }
 
-    /// Returns the file, for tests that check which calls were made of it.
+    /// Returns the file, for tests that check its calls.
     pub fn file(&self) -> &F
         ensures { result.now ≡ self.now.file }
     {

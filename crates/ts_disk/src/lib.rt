@@ -1,5 +1,5 @@
-//! A disk as a journal sees it: what reads give, what a crash at each moment may leave, and a count of failed
-//! calls. There are disks in memory, in memory with calls that fail, and on a real file.
+//! A disk as a journal sees it: the bytes that reads return, the crash images at each moment, and a count of
+//! failed calls. There are disks in memory, in memory with calls that fail, and on a real file.
 #![tactic(auto)]
 
 mod crash_images;

@@ -16,17 +16,17 @@ use std::alloc::Global;
 use std::marker::Model;
 use ts_schema::{NoMemory, Seq};
 
-/// A disk in memory. Its bytes are known, and it records all its writes and syncs, so what a crash at each
-/// moment may leave is exactly what the model of a disk says. A call fails only if memory runs out or it goes
-/// beyond `MOST_BYTES`.
+/// A disk in memory. Its bytes are known, and it records all its writes and syncs. So its crash images at each
+/// moment are exactly those of the model of a disk. A call fails only if memory runs out or it extends beyond
+/// `MOST_BYTES`.
 #[derive(Drop)]
 pub struct MemDisk {
     alloc: Global,
-    /// The bytes at first.
+    /// The bytes at the start.
     first: Vec<u8>,
-    /// What was done since.
+    /// The acts since then.
     acts: Vec<Act>,
-    /// Whether the bytes are in `bytes`. Otherwise they are still those at first.
+    /// Whether the bytes are in `bytes`. Otherwise they are still those at the start.
     is_changed: bool,
     bytes: Vec<u8>,
     faults: u64,
@@ -62,7 +62,7 @@ impl MemDisk {
         }
     }
 
-    /// Returns the bytes that a read gives.
+    /// Returns the bytes as reads return them.
     pub fn bytes(&self) -> &[u8]
         ensures { result.now ≡ content self.now }
     {
@@ -87,7 +87,7 @@ impl MemDisk {
         Ok(())
     }
 
-    /// Writes bytes at a place and notes it, or finds no memory and leaves all as it was.
+    /// Writes bytes at a place and records the write. Changes nothing when out of memory.
     fn put(&mut self, at: u64, piece: &[u8]) -> Result<(), NoMemory>
         requires range { at ≤ length (content self.old) }
         ensures done { OnOk result (self.new ≡ written_at at piece.now self.old) }
@@ -97,7 +97,7 @@ impl MemDisk {
         note_write(self.alloc, &mut self.bytes, &mut self.acts, at, piece)
     }
 
-    /// Notes a sync, or finds no memory.
+    /// Records a sync, or fails as out of memory.
     fn note_sync(&mut self) -> Result<(), NoMemory>
         ensures done { OnOk result (self.new ≡ record self.old { acts = self.old.acts ++ Sync ∷ [] }) }
         ensures kept { OnErr result (self.new ≡ self.old) }
@@ -106,7 +106,7 @@ impl MemDisk {
         Ok(())
     }
 
-    /// Writes and notes it, or counts a fault.
+    /// Writes and records the write, or counts a fault.
     fn try_put(&mut self, at: u64, piece: &[u8]) -> Result<(), Failed>
         requires most { at ≤ MOST_BYTES }
         requires range { at ≤ length (content self.old) }
@@ -120,7 +120,7 @@ impl MemDisk {
         Ok(())
     }
 
-    /// Notes a sync, or counts a fault.
+    /// Records a sync, or counts a fault.
     fn try_sync(&mut self) -> Result<(), Failed>
         ensures exact { PerformsAct Sync self.old result self.new }
     {
@@ -139,7 +139,7 @@ impl MemDisk {
     }
 }
 
-/// Copies the bytes at first, where nothing has changed yet.
+/// Copies the bytes at the start, if nothing has changed yet.
 fn make_changed(first: &Vec<u8>, is_changed: &mut bool, bytes: &mut Vec<u8>) -> Result<(), NoMemory>
     ensures changed { OnOk result (is_changed.new ≡ true) }
     ensures bytes { OnOk result (bytes.new.items ≡ (if is_changed.old then bytes.old.items else first.now.items)) }
@@ -153,7 +153,7 @@ fn make_changed(first: &Vec<u8>, is_changed: &mut bool, bytes: &mut Vec<u8>) -> 
     Ok(())
 }
 
-/// Writes a piece into bytes and notes it, or finds no memory and leaves both.
+/// Writes a piece into bytes and records the write. Changes neither when out of memory.
 fn note_write(
     alloc: Global,
     bytes: &mut Vec<u8>,

@@ -28,7 +28,7 @@ pub gone_held : (left : Option (List ℕ)) (held rest : List ℕ) → rest ≡ [
 gone_held None held rest empty = tt
 gone_held (Some xs) held rest empty = ap (λ l. held ++ (l ++ xs)) (sym empty)
 
--- two steps, of which the second takes nothing
+-- two steps, the second of which takes nothing
 pub gone_same : (start mid now : Option (List ℕ)) (gone : List ℕ) → Consumes start mid gone → Consumes mid now [] → Consumes start now gone
 gone_same start mid now gone took same = subst (Consumes start now) (append-nil gone) (Consumes-trans start mid now gone [] took same)
 

@@ -39,11 +39,11 @@ first_end_cases false xs h =
 first_end_of : (xs : List ℕ) → MatchOption (position is_end xs) (ended_lines xs ≡ []) (IsFirstEnd xs)
 first_end_of xs = first_end_cases (ltb (position_or_len is_end xs) (length xs)) xs refl
 
--- a place behind which none is, among those of a list
+-- a place of a list, with no other after it
 placed : (test : ℕ → Bool) (xs : List ℕ) (n : ℕ) (within : Bool) → position_or_len test xs ≡ n → ltb n (length xs) ≡ within → cond within (Some n) None ≡ position test xs
 placed test xs n within at e = ap (λ b. cond b (Some n) None) (sym e) ∙ ap (λ k. cond (ltb k (length xs)) (Some k) None) (sym at)
 
--- the first byte that passes a test is the one that a list has first
+-- the first byte of a list that passes a test
 pub position_of_first : (test : ℕ → Bool) (xs : List ℕ) (r : Option ℕ) → IsFirstByte test xs r → r ≡ position test xs
 position_of_first test xs None none =
     let n = length xs in
@@ -52,14 +52,14 @@ position_of_first test xs (Some n) first =
     let fails : (k : ℕ) → k < n → test (get_or xs k 0) ≡ false = λ k below. false_from_ne_true (test (get_or xs k 0)) (first.0.before k (omega arith) below) in
     placed test xs n true (position_or_len_is test xs n 0 (omega (arith, first.0.high)) fails (λ _. first.1)) (grind (arith, first.0.high))
 
--- where a search found it, and where it found none
+-- a search that found one, and one that found none
 pub found_end : (xs : List ℕ) (n : ℕ) → Some n ≡ position is_end xs → IsFirstEnd xs n
 found_end xs n e = subst (λ (o : Option ℕ). MatchOption o (ended_lines xs ≡ []) (IsFirstEnd xs)) (sym e) (first_end_of xs)
 
 pub found_none : (xs : List ℕ) → let none : Option ℕ = None in none ≡ position is_end xs → ended_lines xs ≡ []
 found_none xs e = subst (λ (o : Option ℕ). MatchOption o (ended_lines xs ≡ []) (IsFirstEnd xs)) (sym e) (first_end_of xs)
 
--- the first line end behind bytes without one
+-- the first line end after bytes without one
 pub IsFirstEnd-after : (xs : List ℕ) (s n : ℕ) → s ≤ length xs → ended_lines (take s xs) ≡ [] → IsFirstEnd (take (length xs - s) (drop s xs)) n → IsFirstEnd xs (s + n)
 IsFirstEnd-after xs s n within none found =
     let at : IsFirstEnd (drop s xs) n = subst (λ ys. IsFirstEnd ys n) (take_rest xs s) found in (
@@ -68,13 +68,13 @@ IsFirstEnd-after xs s n within none found =
       subst (λ ys. ended_lines ys ≡ []) (sym (take-add s n xs)) (ended_lines-append_none (take s xs) (take n (drop s xs)) none at.2),
     )
 
--- no line end before or behind a place
+-- no line end before or after a place
 pub none_after : (xs : List ℕ) (s : ℕ) → ended_lines (take s xs) ≡ [] → ended_lines (take (length xs - s) (drop s xs)) ≡ [] → ended_lines xs ≡ []
 none_after xs s none more =
     let rest = subst (λ ys. ended_lines ys ≡ []) (take_rest xs s) more in
     subst (λ ys. ended_lines ys ≡ []) (take-append-drop s xs) (ended_lines-append_none (take s xs) (drop s xs) none rest)
 
--- what stands before and behind the first line end
+-- what is before and after the first line end
 pub split_end : (xs : List ℕ) (n : ℕ) → IsFirstEnd xs n → xs ≡ take n xs ++ 10 ∷ drop (n + 1) xs
 split_end xs n found =
     sym (take-append-drop n xs) ∙ ap (λ l. take n xs ++ l) (drop_more xs n 0 found.0 ∙ ap (λ b. b ∷ drop (n + 1) xs) found.1)

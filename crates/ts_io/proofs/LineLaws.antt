@@ -2,7 +2,7 @@
 use Rattle.std.proofs.Common.{◌≡◌, ℕ, ◌<◌, Bool, true, false, cond, ◌==◌, List, [], ◌∷◌, ◌++◌, length, refl, ◌∙◌, ap, arith}
 use Rattle.ts_io.specs.Lines.{lines_of, ended_lines, onto_first, onto_ended}
 
--- a byte and a text without a line end, where no line ends in both together
+-- a byte and a text without a line end, if no line ends in both together
 front_none : (v : Bool) (b : ℕ) (lines : List (List ℕ)) → cond v ([] ∷ lines) (onto_ended b lines) ≡ [] → (v ≡ false) × (lines ≡ [])
 front_none true b lines h = cc
 front_none false b [] h = (refl, refl)

@@ -11,7 +11,7 @@ use Rattle.ts_io.specs.declared.line_reader.LineEnd.TheVariants.{LineLong, Input
 use Rattle.ts_io.proofs.LineLaws.{ended_lines-append_none}
 use Rattle.ts_io.proofs.Following.{gone_held, gone_same, same_filled, long_given, long_last_given, over_given}
 
--- bytes without a line end are gone, which with so many more are too many for a line
+-- bytes without a line end are gone, and with this many more they are too long for a line
 pub record Skips (start now : Option (List ℕ)) (n m more : ℕ) : Type 0 where
   pub gone : List ℕ
   pub took : Consumes start now gone

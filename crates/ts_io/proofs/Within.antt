@@ -8,7 +8,7 @@ use Rattle.ts_io.proofs.LineLaws.{lines_of-at, ended_lines-at, lines_of-last}
 pub lines_within-whole : (n : ℕ) (text : List ℕ) → length text ≤ n → lines_within n text ≡ lines_of text
 lines_within-whole n text h = ap (λ (v : Bool). cond v (lines_of text) (ended_lines (take n text))) (le-leb (length text) n h)
 
--- of a longer text those that end before it
+-- a longer text has those that end before the limit
 pub lines_within-cut : (n : ℕ) (text : List ℕ) → n < length text → lines_within n text ≡ ended_lines (take n text)
 lines_within-cut n text h = ap (λ (v : Bool). cond v (lines_of text) (ended_lines (take n text))) (lt-leb (length text) n h)
 
@@ -16,7 +16,7 @@ lines_within-cut n text h = ap (λ (v : Bool). cond v (lines_of text) (ended_lin
 pub lines_within-nil : (n : ℕ) → lines_within n [] ≡ []
 lines_within-nil n = lines_within-whole n [] (omega arith)
 
--- bytes without a line end are one line, where they are all
+-- bytes without a line end are one line, if they are all
 pub lines_within-last : (n : ℕ) (p : List ℕ) → ended_lines p ≡ [] → 0 < length p → length p ≤ n → lines_within n p ≡ p ∷ []
 lines_within-last n p none some within = lines_within-whole n p within ∙ lines_of-last p none some
 

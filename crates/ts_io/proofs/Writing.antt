@@ -6,7 +6,7 @@ use Rattle.std.specs.Io.KnownBytes.{Appends}
 use Rattle.std.proofs.KnownBytes.{Appends-nil, Appends-trans}
 use Rattle.ts_io.specs.Whole.{AppendsPart}
 
--- all of the text but the rest was written
+-- all of the text except the rest was written
 pub record AppendsSome (old new : Option (List ℕ)) (text rest : List ℕ) : Type 0 where
   pub done : List ℕ
   pub split : text ≡ done ++ rest

@@ -5,8 +5,8 @@ use Rattle.ts_io.specs.Schedule.{is_listed}
 use Rattle.ts_io.specs.declared.sources.Got.{Got}
 use Rattle.ts_io.specs.declared.sources.Got.TheVariants.{Bytes, Failed}
 
--- the bytes left, whether the end was told, the most that a call gives, the numbers of the calls that fail, and how
--- many calls there were and how many failed
+-- the bytes left, whether the end was reported, and the most that a call returns; the numbers of the calls that
+-- fail, and how many calls there were and how many failed
 pub record Supply : Type 0 where
   pub left : List ℕ
   pub ended : Bool
@@ -19,7 +19,7 @@ pub record Supply : Type 0 where
 abbrev pub source_of : List ℕ → ℕ → List ℕ → Supply
 source_of bytes most fails = record { left = bytes; ended = false; most = most; fails = fails; calls = 0; faults = 0 }
 
--- a read into this much room: a listed call fails and is counted, every other gives as much as may be
+-- a read into this much room: a listed call fails and is counted, every other returns as much as possible
 abbrev pub Supplies : Supply → ℕ → Got → Supply → Type 0
 Supplies old room (Bytes n) new =
     (is_listed old.fails (one_more old.calls) ≡ false) × (n ≡ min old.most (min room (length old.left)))

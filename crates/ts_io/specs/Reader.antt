@@ -6,8 +6,8 @@ use Rattle.ts_io.specs.declared.limits.TheConstants.{INPUT_LIMIT, LINE_LIMIT}
 use Rattle.ts_io.specs.declared.line_reader.LineEnd.{LineEnd}
 use Rattle.ts_io.specs.declared.line_reader.LineEnd.TheVariants.{Line, LineLong, End, InputLong, ReadFault}
 
--- the bytes taken and not yet given, how many bytes from these on lie within the limit of the input, the line given
--- last, whether there may be another, and whether the source has told its end
+-- the bytes read and not yet returned; how many bytes from these on lie within the limit of the input; the line
+-- returned last; whether there may be another; and whether the source has reported its end
 pub record Reading : Type 0 where
   pub held : List ℕ
   pub allowed : ℕ
@@ -20,8 +20,8 @@ abbrev pub SkipsLong : List (List ℕ) → List (List ℕ) → Type 0
 SkipsLong [] rest = ⊥
 SkipsLong (line ∷ lines) rest = (LINE_LIMIT < length line) × (lines ≡ rest)
 
--- what each answer says of the text to come, of which n bytes were allowed, and of the text to come after it, of
--- which m bytes are
+-- what each answer says of the text to come, with n bytes allowed, and of the text to come after the answer,
+-- with m bytes allowed
 abbrev pub Answers : LineEnd → ℕ → List ℕ → ℕ → List ℕ → List ℕ → Type 0
 Answers Line n text m rest line = (lines_within n text ≡ line ∷ lines_within m rest) × (length line ≤ LINE_LIMIT)
 Answers LineLong n text m rest line = SkipsLong (lines_within n text) (lines_within m rest)
@@ -35,8 +35,8 @@ ReadsLine end n None m new line = ⊤
 ReadsLine end n (Some text) m None line = ⊥
 ReadsLine end n (Some text) m (Some rest) line = Answers end n text m rest line
 
--- a line takes at least a byte and at least its own bytes of those that were allowed, and a line that is too long
--- more than a line may have
+-- a line takes at least one byte and at least its own bytes of those that were allowed; a line that is too long
+-- takes more than a line may have
 abbrev pub Spends : LineEnd → ℕ → ℕ → List ℕ → Type 0
 Spends Line n m line = (length line ≤ LINE_LIMIT) × (m < n) × (m + length line ≤ n)
 Spends LineLong n m line = m + LINE_LIMIT < n
@@ -50,7 +50,7 @@ SpendsAlike n None m new = ⊤
 SpendsAlike n (Some text) m None = ⊥
 SpendsAlike n (Some text) m (Some rest) = length text + m ≡ length rest + n
 
--- the same of a reader, whatever its source has left
+-- the same of a reader, for any rest of its source
 abbrev pub SpendsHeld : Reading → Reading → Type 0
 SpendsHeld old new =
     (left : Option (List ℕ))
@@ -76,11 +76,11 @@ is_read_fault End = false
 is_read_fault InputLong = false
 is_read_fault ReadFault = true
 
--- a reader knows whether its source has told its end, and then no byte is left there
+-- a reader knows whether its source has reported its end, and then no byte is left there
 pub record Follows (reading : Reading) (ended : Bool) (left : Option (List ℕ)) : Type 0 where
   pub knows : ended ≡ reading.at_end
   pub empty : reading.at_end ≡ true → IsAtEnd left
 
--- a reader of a source that hasn't told its end follows it
+-- a reader of a source that hasn't reported its end follows it
 abbrev pub FollowsAtStart : Reading → Type 0
 FollowsAtStart reading = (ended : Bool) (left : Option (List ℕ)) → ended ≡ false → Follows reading ended left

@@ -4,8 +4,8 @@ use Rattle.std.specs.Io.KnownBytes.{Consumes, IsAtEnd, Keeps}
 use Rattle.ts_io.specs.declared.sources.Got.{Got}
 use Rattle.ts_io.specs.declared.sources.Got.TheVariants.{Bytes, Failed}
 
--- a read of n bytes took the first n that were left and put them in front; it took none only without room or at the
--- end; one that failed took nothing
+-- a read of n bytes took the first n bytes left and stored them at the front of the slice. It took none only if
+-- the slice was empty or at the end. A read that failed took nothing
 abbrev pub Gives : Option (List ℕ) → Option (List ℕ) → Got → List ℕ → Type 0
 Gives old new (Bytes n) into =
     (n ≤ length into) × Consumes old new (take n into) × (n ≡ 0 → 0 < length into → IsAtEnd new)
@@ -16,12 +16,13 @@ abbrev pub is_failed : Got → Bool
 is_failed (Bytes n) = false
 is_failed Failed = true
 
--- the read told the end: it gave no byte
+-- the read reported the end: it gave no byte
 abbrev pub is_end : Got → Bool
 is_end (Bytes n) = n == 0
 is_end Failed = false
 
--- whether a source has told its end after a read, which it does by giving no byte where there was room
+-- whether a source has reported its end after a read: it reports it by returning no byte although there was
+-- room
 abbrev pub told_end : Got → List ℕ → Bool
 told_end got into = is_end got && nat_lt 0 (length into)
 

@@ -1,5 +1,5 @@
-//! Bytes in and bytes out: sources and sinks with a count of their faults, in memory and standard,
-//! and how a whole input is read and a whole text is written.
+//! Input and output of bytes: sources and sinks that count their I/O errors, in memory and over std; and
+//! functions that read a whole input and write a whole text.
 #![tactic(auto)]
 
 mod limits;

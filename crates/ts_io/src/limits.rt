@@ -2,13 +2,13 @@
 ghost use Rattle.std.specs.Prelude.{◌≡◌};
 ghost use Rattle.ts_io.specs.declared.limits.TheConstants.{INPUT_LIMIT, LINE_LIMIT};
 
-/// How many bytes an input may have.
+/// The greatest number of bytes of an input.
 pub const INPUT_LIMIT: usize = 67_108_864;
 
-/// How many bytes a line may have before its line end.
+/// The greatest number of bytes of a line before its line end.
 pub const LINE_LIMIT: usize = 65_536;
 
-/// States the limits as numbers. It does nothing.
+/// States the limits as numbers. Does nothing.
 pub fn limits_law()
     ensures input { INPUT_LIMIT ≡ 67108864 }
     ensures line { LINE_LIMIT ≡ 65536 }

@@ -14,7 +14,7 @@ fn first_end(text: &[u8]) -> Option<usize>
     memchr(LINE_END, text)
 }
 
-/// The place of the first line end, where none stands among the first `searched` bytes.
+/// The place of the first line end, if none is among the first `searched` bytes.
 pub fn first_end_after(text: &[u8], searched: usize) -> Option<usize>
     requires within { searched ≤ length text.now }
     requires none { ended_lines (take searched text.now) ≡ [] }

@@ -17,40 +17,40 @@ use std::alloc::Global;
 use std::marker::Model;
 use ts_schema::NoMemory;
 
-/// How many bytes a reader of lines holds at most.
+/// The greatest number of bytes that a reader of lines holds.
 pub const HELD_LIMIT: usize = LINE_LIMIT + PIECE;
 
-/// What a reader of lines found.
+/// The result of a reader of lines.
 #[derive(Clone, Copy, Debug, PartialEq, Eq)]
 pub enum LineEnd {
-    /// The next line, which `Lines::line` gives.
+    /// The next line, which `Lines::line` returns.
     Line,
     /// The next line ends within the limit of the input and has more than 65,536 bytes. It is skipped.
     LineLong,
-    /// The input came to its end, and no line is left.
+    /// The input ended, and no line is left.
     End,
-    /// The source gave a byte beyond the limit of the input, and no line that ends within it is left.
+    /// The source returned a byte beyond the limit of the input, and no line that ends within it is left.
     InputLong,
     /// A read failed, and the source's count of faults rose.
     ReadFault,
 }
 
-/// A reader of lines. A line ends with the byte LF, and bytes after the last one form a line where
-/// there are any. At most 67,108,864 bytes of the input are read as lines.
+/// A reader of lines. A line ends with the byte LF, and bytes after the last one form a line if there are any.
+/// At most 67,108,864 bytes of the input are read as lines.
 #[derive(Drop)]
 pub struct Lines {
-    /// The bytes taken: those before `start` were given, and the others are held.
+    /// The bytes read. Those before `start` were returned, and the others are held.
     bytes: Vec<u8>,
     start: usize,
-    /// Where the line given last stands in `bytes`.
+    /// The place in `bytes` of the line returned last.
     line_from: usize,
     line_to: usize,
-    /// How many bytes from those held on lie within the limit of the input. One more may be held.
+    /// The number of bytes, from those held on, within the limit of the input. One more may be held.
     allowed: usize,
     is_open: bool,
-    /// Whether the source has told its end. Then no byte is held.
+    /// Whether the source has reported its end. Then no byte is held.
     at_end: bool,
-    /// What one read fills.
+    /// The buffer of one read.
     piece: Vec<u8>,
 }
 
@@ -78,7 +78,7 @@ impl Model for Lines {
 }
 
 impl Lines {
-    /// A reader that has taken nothing yet. This takes all the memory that it ever needs.
+    /// A reader that has read nothing yet. Allocates all the memory that the reader ever needs.
     pub fn new(alloc: Global) -> Result<Lines, NoMemory>
         ensures fresh { IfOk result IsFresh }
         ensures follows { IfOk result FollowsAtStart }
@@ -95,17 +95,17 @@ impl Lines {
         })
     }
 
-    /// The line that the last call of `next` gave, where that answered `Line`. Its LF is no part of it, and a CR
-    /// before the LF is. After another answer nothing is said of these bytes.
+    /// The line that the last call of `next` found, if it returned `Line`. It includes a CR before the LF, but
+    /// not the LF. After another result these bytes have no meaning.
     pub fn line(&self) -> &[u8]
         ensures line { result.now ≡ self.now.line }
     {
         &self.bytes[self.line_from..self.line_to]
     }
 
-    /// Finds the next line. Reads from the source only if it holds no whole line and the source hasn't told
-    /// its end. Takes no memory. Each call must have the same source, which hasn't told its end before the
-    /// first. After `End`, `InputLong` or `ReadFault` there is no other line, and this may not be called
+    /// Finds the next line. Reads from the source only if no whole line is held and the source hasn't reported
+    /// its end. Takes no memory. Each call must have the same source, which hasn't reported its end before the
+    /// first. After `End`, `InputLong` or `ReadFault` there is no other line, and the caller must not call this
     /// again.
     pub fn next<S: Source>(&mut self, source: &mut S) -> LineEnd
         requires is_open { self.old.is_open ≡ true }
@@ -128,7 +128,7 @@ impl Lines {
         }
     }
 
-    /// Reads until the next line ends, where no whole line is held.
+    /// Reads until the next line ends, if no whole line is held.
     fn read_line<S: Source>(&mut self, source: &mut S) -> LineEnd
         requires is_open { self.old.is_open ≡ true }
         requires none { ended_lines (take self.old.allowed self.old.held) ≡ [] }
@@ -161,7 +161,7 @@ impl Lines {
         self.skip_line(source)
     }
 
-    /// Skips the next line, of which more than a line may have is held, up to its end.
+    /// Skips the next line up to its end. The bytes held are already more than a line may have.
     fn skip_line<S: Source>(&mut self, source: &mut S) -> LineEnd
         requires is_open { self.old.is_open ≡ true }
         requires none { ended_lines (take self.old.allowed self.old.held) ≡ [] }
@@ -199,7 +199,7 @@ impl Lines {
         self.stop(LineEnd::InputLong)
     }
 
-    /// Gives the line that ends at place `n` of the bytes held, or skips it where it is too long.
+    /// Returns the line that ends at place `n` of the bytes held, or skips it if it is too long.
     fn give(&mut self, n: usize) -> LineEnd
         requires is_open { self.old.is_open ≡ true }
         requires end { IsFirstEnd (take self.old.allowed self.old.held) n }
@@ -222,7 +222,7 @@ impl Lines {
         }
     }
 
-    /// Gives the bytes held as the last line, where there are any, at the end of the input.
+    /// Returns the bytes held as the last line, if there are any, at the end of the input.
     fn give_last(&mut self) -> LineEnd
         requires is_open { self.old.is_open ≡ true }
         requires none { ended_lines self.old.held ≡ [] }
@@ -248,7 +248,7 @@ impl Lines {
         LineEnd::Line
     }
 
-    /// Answers that there is no other line.
+    /// Records and returns that there is no other line.
     fn stop(&mut self, end: LineEnd) -> LineEnd
         ensures end { result ≡ end }
         ensures closed { self.new ≡ record self.old { is_open = false } }
@@ -258,7 +258,7 @@ impl Lines {
         end
     }
 
-    /// Notes that the source has told its end, where no byte is held.
+    /// Notes that the source has reported its end, if no byte is held.
     fn note_end(&mut self)
         requires empty { length self.old.held ≡ 0 }
         ensures noted { self.new ≡ record self.old { at_end = true } }
@@ -267,7 +267,7 @@ impl Lines {
         self.at_end = true;
     }
 
-    /// Whether the source has told its end.
+    /// Whether the source has reported its end.
     fn is_at_end(&self) -> bool
         ensures at_end { result ≡ self.now.at_end }
         ensures empty { OnTrue result (self.now.held ≡ []) }
@@ -275,7 +275,7 @@ impl Lines {
         self.at_end
     }
 
-    /// The bytes taken and not yet given.
+    /// The bytes read and not yet returned.
     fn buffered(&self) -> &[u8]
         ensures { result.now ≡ self.now.held }
     {
@@ -290,8 +290,8 @@ impl Lines {
         self.buffered().len() > self.allowed
     }
 
-    /// The place of the first line end within the limit of the input, where none stands among the first
-    /// `searched` bytes held.
+    /// The place of the first line end within the limit of the input, if none is among the first `searched`
+    /// bytes held.
     fn first_end(&self, searched: usize) -> Option<usize>
         requires held { searched ≤ length self.now.held }
         requires allowed { searched ≤ self.now.allowed }
@@ -304,7 +304,7 @@ impl Lines {
         first_end_after(&held[..self.allowed.min(held.len())], searched)
     }
 
-    /// Gives the first `line` bytes held as the line, and moves past the first `past`.
+    /// Returns the first `line` bytes held as the line, and moves past the first `past`.
     fn advance(&mut self, line: usize, past: usize)
         requires within { line ≤ past }
         requires held { past ≤ length self.old.held }
@@ -322,7 +322,7 @@ impl Lines {
         self.allowed -= past;
     }
 
-    /// Reads once behind the bytes held, one byte beyond the limit of the input at most.
+    /// Appends one read to the bytes held, at most one byte beyond the limit of the input.
     fn ask<S: Source>(&mut self, source: &mut S) -> Got
         requires allowed { length self.old.held ≤ self.old.allowed }
         requires short { length self.old.held ≤ LINE_LIMIT }
@@ -345,7 +345,7 @@ impl Lines {
     }
 }
 
-/// Takes the first `n` bytes away.
+/// Removes the first `n` bytes.
 fn drop_front(bytes: &mut Vec<u8>, n: usize)
     requires { n ≤ vec_len bytes.old }
     ensures items { bytes.new.items ≡ drop n bytes.old.items }

@@ -9,8 +9,8 @@ use crate::sinks::{Put, Sink};
 use std::alloc::Global;
 use std::marker::Model;
 
-/// A sink in memory. Contracts know its bytes. It takes a bounded number at each call, and fails at the calls
-/// that it is given and when it is out of memory.
+/// A sink in memory. Contracts know its bytes. Each call takes at most a fixed number of bytes. The calls
+/// listed fail, and so does a call that runs out of memory.
 #[derive(Drop)]
 pub struct MemSink {
     bytes: Vec<u8>,
@@ -52,7 +52,7 @@ impl MemSink {
         }
     }
 
-    /// What was written.
+    /// The bytes written.
     pub fn bytes(&self) -> &[u8]
         ensures { result.now ≡ self.now.written }
     {

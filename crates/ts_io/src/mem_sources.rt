@@ -8,8 +8,8 @@ use crate::schedules::{Schedule, count_call, count_fault};
 use crate::sources::{Got, Source, tells_end};
 use std::marker::Model;
 
-/// A source in memory. Contracts know its bytes. It gives a bounded number at each call, and fails at the
-/// calls that it is given.
+/// A source in memory. Contracts know its bytes. Each call returns at most a fixed number of bytes, and the
+/// calls listed fail.
 #[derive(Drop)]
 pub struct MemSource {
     bytes: Vec<u8>,
@@ -37,8 +37,8 @@ impl Model for MemSource {
 }
 
 impl MemSource {
-    /// A source of these bytes, at most `most` a call. The calls whose numbers, counted from 1, are
-    /// in `fails` fail.
+    /// A source of these bytes, which returns at most `most` per call. The calls whose numbers, counted from 1,
+    /// are in `fails` fail.
     pub fn new(bytes: Vec<u8>, most: usize, fails: Vec<u64>) -> MemSource
         requires { 0 < most }
         ensures made { result ≡ source_of bytes.items most fails.items }
@@ -56,7 +56,7 @@ impl MemSource {
         }
     }
 
-    /// Gives as much as may be from the front of the bytes left.
+    /// Returns as much as possible from the front of the bytes left.
     fn give(&mut self, into: &mut [u8]) -> usize
         ensures count { result ≡ min self.old.most (min (length into.old) (length self.old.left)) }
         ensures copied { take result into.new ≡ take result self.old.left }

@@ -1,15 +1,15 @@
-//! One read of a piece into room that is there.
+//! Reads one piece into existing room.
 ghost use Rattle.std.specs.Prelude.{◌≡◌, false, ◌+◌, ◌<◌, ◌≤◌, ◌++◌, length, vec_len, vec_capacity};
 ghost use Rattle.ts_io.specs.Faults.{Counted};
 ghost use Rattle.ts_io.specs.Source.{Fills, is_end, is_failed};
 
 use crate::sources::{Got, Source};
 
-/// How many bytes one read asks for at most.
+/// The greatest number of bytes that one read requests.
 pub const PIECE: usize = 65_536;
 
-/// Reads at most `most` bytes once, by way of `piece`, and appends what was given to `out`, which has
-/// the room.
+/// Reads once, at most `most` bytes, into `piece`, and appends the bytes read to `out`, which must have room
+/// for them.
 pub fn read_into<S: Source>(source: &mut S, piece: &mut [u8], most: usize, out: &mut Vec<u8>) -> Got
     requires untold { S.ended source.old ≡ false }
     requires asks { 0 < most }

@@ -13,7 +13,7 @@ pub struct Schedule {
     pub faults: u64,
 }
 
-/// Counts one more call, and says whether it fails.
+/// Counts one more call, and returns whether it fails.
 pub fn count_call(schedule: &mut Schedule) -> bool
     ensures failed { result ≡ is_listed schedule.old.fails.items (one_more schedule.old.calls) }
     ensures counted { schedule.new ≡ record schedule.old { calls = one_more schedule.old.calls } }

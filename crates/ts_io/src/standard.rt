@@ -11,7 +11,7 @@ use crate::sources::{Got, Source, tells_end};
 use std::io::{self, ErrorKind, Read, Write};
 use std::marker::Model;
 
-/// How often a call that a signal interrupts is made again before it counts as failed.
+/// How often a call that a signal interrupts is repeated before it counts as failed.
 const TRIES: u32 = 1_000;
 
 /// A reader of std, such as standard input, with a count of its errors. Contracts know exactly the bytes that
@@ -65,7 +65,7 @@ impl<R: Read> Source for StdinSource<R> {
     }
 }
 
-/// What a read of std gave: as many bytes as it says, or nothing where it erred.
+/// The result of a read of std, which is a fault if the read failed.
 fn got(read: io::Result<usize>) -> Got
     ensures { result ≡ got_of read }
 {
@@ -75,14 +75,14 @@ fn got(read: io::Result<usize>) -> Got
     }
 }
 
-/// Whether a signal interrupted the call that erred so.
+/// Whether a signal interrupted the call that failed with this error.
 fn is_interrupted(error: &io::Error) -> bool
     ensures { OnFalse result (error_kind error.now ≢ ErrorKind.Interrupted) }
 {
     error.kind() == ErrorKind::Interrupted
 }
 
-/// One read, made again where a signal interrupts it.
+/// One read, repeated if a signal interrupts it.
 fn read_retrying<R: Read>(reader: &mut R, into: &mut [u8]) -> io::Result<usize>
     ensures bound { ReadsAtMost result into.new }
     ensures taken { IfOk result (λ n. Consumes (R.remaining reader.old) (R.remaining reader.new) (take n into.new)) }
@@ -120,7 +120,7 @@ impl<W> Model for StdoutSink<W> {
 }
 
 impl<W: Write> StdoutSink<W> {
-    /// A sink that writes to this writer, which must hold no bytes back.
+    /// A sink that writes to this writer, which must not buffer.
     pub fn new(writer: W) -> StdoutSink<W>
         ensures made { result ≡ record { writer = writer; faults = 0 } }
     {
@@ -147,8 +147,8 @@ impl<W: Write> Sink for StdoutSink<W> {
     }
 }
 
-/// What a write of std took of a piece: as many bytes as it says, or nothing where it erred or took
-/// none of a piece that isn't empty.
+/// The result of a write of std. It is a fault if the write failed, or if it took nothing of a piece that isn't
+/// empty.
 fn put(written: io::Result<usize>, piece: &[u8]) -> Put
     ensures { result ≡ put_of written piece.now }
 {
@@ -159,7 +159,7 @@ fn put(written: io::Result<usize>, piece: &[u8]) -> Put
     }
 }
 
-/// One write, made again where a signal interrupts it.
+/// One write, repeated if a signal interrupts it.
 fn write_retrying<W: Write>(writer: &mut W, piece: &[u8]) -> io::Result<usize>
     ensures bound { WritesAtMost result piece.now }
     ensures taken { IfOk result (λ n. Appends (W.contents writer.old) (W.contents writer.new) (take n piece.now)) }

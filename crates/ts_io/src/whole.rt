@@ -1,4 +1,4 @@
-//! A whole input read, and a whole text written.
+//! Reads a whole input, and writes a whole text.
 ghost use Rattle.std.specs.Prelude.{◌≡◌, ◌≤◌, false, [], length, OnOk, OnErr, is_err};
 ghost use Rattle.std.specs.Io.KnownBytes.{Appends};
 ghost use Rattle.ts_io.specs.Faults.{Counted};
@@ -32,19 +32,19 @@ pub fn write_whole<K: Sink>(sink: &mut K, bytes: &[u8]) -> Result<(), WriteFault
 /// How the reading of a whole input ended.
 #[derive(Clone, Copy, Debug, PartialEq, Eq)]
 pub enum AllEnd {
-    /// The source came to its end within the limit.
+    /// The source ended within the limit.
     End,
-    /// The source gave a byte beyond the limit.
+    /// The source returned a byte beyond the limit.
     InputLong,
     /// A read failed, and the source's count of faults rose.
     ReadFault,
-    /// There was no room for more bytes. What was given is kept.
+    /// It ran out of memory. The bytes read so far are kept.
     NoMemory,
 }
 
-/// Reads a whole input into `out`, which is empty. If the input is longer than 67,108,864 bytes, reads so
-/// many, then takes one byte more from the source and drops it. Doesn't read on after the source has told its
-/// end. After a fault, or when out of memory, `out` holds all that was given before.
+/// Reads a whole input into `out`, which must be empty. If the input is longer than 67,108,864 bytes, reads
+/// that many, and then reads one more byte and drops it. Doesn't read after the source has reported its end.
+/// After a fault, or when out of memory, `out` holds all bytes read before.
 pub fn read_all<S: Source>(source: &mut S, out: &mut Vec<u8>) -> AllEnd
     requires untold { S.ended source.old ≡ false }
     requires empty { out.old.items ≡ [] }

@@ -1,4 +1,4 @@
--- Laws of allowed events: what is sound stays so, calls make allowed events, and jobs that fit go on fitting.
+-- Laws of allowed events: sound events stay sound, calls create allowed events, and jobs that fit still do.
 use Rattle.std.proofs.Common.{◌≡◌, ℕ, suc, ◌≤◌, Bool, true, false, ◌&&◌, cond, nat_le, ◌==◌, List, [], ◌∷◌, ℤ, Option, Some, None, sym, refl, ap, ◌∙◌, subst, arith}
 use Rattle.std.specs.Prelude.{is_some}
 use Rattle.std.specs.List.{list_all}
@@ -119,12 +119,12 @@ sound_stays g h e q s =
     let parts = and_parts (sound_at g e) _ s in
     and_from _ _ (sound_at_stays g h e q parts.0) parts.1
 
--- whatever an allowed history begins with is allowed
+-- every history that an allowed one begins with is allowed
 pub allowed_begins : {g h : History} → Begins g h → all_allowed h ≡ true → all_allowed g ≡ true
 allowed_begins same ok = ok
 allowed_begins (further {h = h} q) ok = allowed_begins q (and_parts (all_allowed h) _ ok).0
 
--- an allowed event is consistent, and so is an allowed history, which has room besides
+-- an allowed event is consistent, and so is an allowed history, which also has room
 pub consistent_next : (h : History) (e : Event) → allowed h e ≡ true → consistent h e ≡ true
 consistent_next h e ok =
     let parts = and_parts (sound h e) (timely h e) ok in
@@ -137,7 +137,7 @@ consistent_of (h ▸ e) ok =
     let parts = and_parts (all_allowed h) (allowed h e) ok in
     and_from _ _ (consistent_of h parts.0) (consistent_next h e parts.1)
 
--- whatever a consistent history begins with is consistent
+-- every history that a consistent one begins with is consistent
 pub consistent_begins : {g h : History} → Begins g h → all_consistent h ≡ true → all_consistent g ≡ true
 consistent_begins same ok = ok
 consistent_begins (further {h = h} q) ok = consistent_begins q (and_parts (all_consistent h) _ ok).0
@@ -147,7 +147,7 @@ consistent_begins (further {h = h} q) ok = consistent_begins q (and_parts (all_c
 pub answers_stay : AnswersStay
 answers_stay query g h q = ap (answer query) (prefix_begins q)
 
--- ---- jobs that fit go on fitting
+-- ---- jobs that fit still do later
 
 -- a cut is not after the history
 pub cut_bounded : (n : ℕ) (h : History) (k : ℕ) (span : Span) → span_of_cut n h k ≡ Some span → k ≤ position h

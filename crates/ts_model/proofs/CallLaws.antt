@@ -1,5 +1,5 @@
--- Laws of calls: what a call leaves begins with what was seen; what an alone store finds; a stopped store stays
--- stopped.
+-- Laws of calls: the history after a call begins with the one seen; a store that is alone finds what it saw; a
+-- stopped store stays stopped.
 use Rattle.std.specs.Prelude.{Bool, true}
 use Rattle.std.proofs.Common.{sym, refl, subst}
 use Rattle.ts_model.specs.declared.outcomes.Outcome.{Outcome}
@@ -9,7 +9,7 @@ use Rattle.ts_model.specs.States.{State, Keeps}
 use Rattle.ts_model.specs.Calls.{Act, refuses, returns, makes, Answered, Called, Looked}
 use Rattle.ts_model.proofs.HistoryLaws.{begins_trans}
 
--- what a call leaves is what it found, or that with one event
+-- the history after a call is the one that it found, or that with one event
 begins_kept : {found new : State} → Keeps found new → Begins found.history new.history
 begins_kept {found = found} k = subst (λ g. Begins found.history g) (sym k.history) same
 
@@ -27,13 +27,13 @@ begins_answered (makes e a) found (Refused q) new w = begins_kept w.2
 begins_answered (makes e a) found DiskFault new w = subst (λ g. Begins found.history g) (sym w.history) same
 begins_answered (makes e a) found NoMemory new w = begins_kept w
 
--- what a call leaves begins with what was seen before
+-- the history after a call begins with the one seen before
 pub begins_called : {A : Type 0} {alone : Bool} {old : State} {act : History → Act A} {outcome : Outcome A} {new : State} → Called alone old act outcome new → Begins old.history new.history
 begins_called {act = act} {outcome = outcome} {new = new} c = begins_trans c.finds.begins (begins_answered (act c.found.history) c.found outcome new c.answered)
 
 pub begins_looked : {alone : Bool} {old : State} {Tells : History → Type 0} {new : State} → Looked alone old Tells new → Begins old.history new.history
 begins_looked c = begins_trans c.finds.begins (begins_kept c.keeps)
 
--- an alone store answers at what was seen
+-- a store that is alone answers at the history seen
 pub answered_alone : {A : Type 0} {act : History → Act A} {old : State} {outcome : Outcome A} {new : State} → Called true old act outcome new → Answered (act old.history) old outcome new
 answered_alone {act = act} {outcome = outcome} {new = new} c = subst (λ s. Answered (act s.history) s outcome new) (c.finds.alone_found refl) c.answered

@@ -1,4 +1,5 @@
--- A span clipped to bounds between which all chunks lie is near the same rows, and the chunks of consistent histories lie near the range of times.
+-- A span clipped to bounds between which all chunks lie is near the same rows. The chunks of consistent
+-- histories lie near the range of times.
 use Rattle.std.proofs.Common.{◌≡◌, ℕ, Bool, true, false, ◌&&◌, ◌||◌, cond, [], ◌∷◌, ℤ, pos, ◌+ℤ◌, ◌-ℤ◌, ◌≤ℤ◌, ◌<ℤ◌, int_le, int_lt, Option, Some, None, sym, refl, ap, ◌∙◌, subst, arith}
 use Rattle.std.specs.Prelude.{◌+◌, option_and_then}
 use Rattle.std.specs.Int.{int_min, int_max, int_rem_euclid}

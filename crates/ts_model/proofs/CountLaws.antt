@@ -1,4 +1,4 @@
--- Rows put in their places come in as often as they are given, and none is lost.
+-- Rows inserted in their places are there as often as they are given, and none is lost.
 use Rattle.std.proofs.Common.{◌≡◌, ℕ, ◌+◌, Bool, true, false, cond, List, [], ◌∷◌, arith}
 use Rattle.std.specs.List.{fold, count_by}
 use Rattle.std.specs.Ordering.{is_gt}

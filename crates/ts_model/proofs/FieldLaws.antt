@@ -40,7 +40,7 @@ sum_from f n (x ∷ xs) = omega (arith, sum_from f (n + f x) xs, sum_from f (0 +
 pub sum_cons : {X : Type 0} (f : X → ℕ) (x : X) (xs : List X) → sum_by f (x ∷ xs) ≡ f x + sum_by f xs
 sum_cons f x xs = omega (arith, sum_from f (0 + f x) xs)
 
--- as many items as ones in the sum, where each gives at least one
+-- there are at most as many items as the sum, if each adds at least one
 counted : {X : Type 0} (f : X → ℕ) → ((x : X) → 1 ≤ f x) → (xs : List X) → length xs ≤ sum_by f xs
 counted f least [] = omega arith
 counted f least (x ∷ xs) = omega (arith, sum_cons f x xs, counted f least xs, least x)
@@ -66,7 +66,7 @@ names_short (name ∷ names) e =
     let parts = and_parts (is_name name) (list_all is_name names) e in
     and_from _ _ (name_short name parts.0) (names_short names parts.1)
 
--- numbers below a count that is itself at most 16
+-- numbers below a count of at most 16
 all_four : {X : Type 0} (f : X → ℕ) (n : ℕ) → n ≤ 16 → (xs : List X) → list_all (λ x. nat_lt (f x) n) xs ≡ true → list_all (λ x. fits_four (f x)) xs ≡ true
 all_four f n l [] e = refl
 all_four f n l (x ∷ xs) e =

@@ -105,7 +105,7 @@ outside_empty n def h cut snap span spans groups top ok width is f b bucket insi
     let untouched : bucket_rows def.fold b (rows def.table (prefix h snap)) ≡ bucket_rows def.fold b (rows_at def.table (prefix h snap) r) = untouched_rows n def (prefix h snap) b r other.3 in
     untouched ∙ ap (λ g. bucket_rows def.fold b (rows def.table g)) (prefix_prefix h r snap other.1) ∙ none_refreshed n def h b r width bucket is (ap (λ g. touched n def g b r) (root_begins (begins_prefix h snap)) ∙ touched_root n def (prefix h snap) b r other.3) ok other.2 mark
 
--- ---- the top of the spans and the top of the whole span, beside the watermark
+-- ---- the top of the spans and the top of the whole span, compared with the watermark
 
 pub covers_part : (w : Width) (whole : Span) (parts : List Span) (b : ℤ) → list_all (is_part_of w whole) parts ≡ true → lies_in parts b ≡ true → in_span whole b ≡ true
 covers_part w whole [] b e inside = absurd (true≢false (sym inside))
@@ -122,7 +122,7 @@ covers_part w whole (part ∷ parts) b e inside =
     within : (lo hi low high b : ℤ) → int_le low lo ≡ true → int_le hi high ≡ true → (int_le lo b && int_lt b hi) ≡ true → (int_le low b && int_lt b high) ≡ true
     within lo hi low high b e f g = grind (arith, ints)
 
--- a number at or below a mark leaves it
+-- a number at or below a mark doesn't change it
 mark_stays : (x : ℤ) (mark : Option ℤ) → (y : ℤ) → mark ≡ Some y → x ≤ℤ y → greater (Some x) mark ≡ mark
 mark_stays x None y e l = absurd (cc)
 mark_stays x (Some z) y e l = let is : z ≡ y = cc in ap Some (top x z (subst (λ m. x ≤ℤ m) (sym is) l))
@@ -138,7 +138,7 @@ below_mark w b (Some mark) width bucket m e = mark_stays (b +ℤ w.step) (Some m
 pub greater_swap : (x a b : Option ℤ) → greater x (greater a b) ≡ greater a (greater x b)
 greater_swap x a b = sym (greater_assoc x a b) ∙ ap (λ m. greater m b) (greater_comm x a) ∙ greater_assoc a x b
 
--- what is at or below the mark adds nothing to it
+-- a number at or below the mark doesn't raise it
 absorbed : (x mark b : Option ℤ) → greater x mark ≡ mark → greater mark (greater x b) ≡ greater mark b
 absorbed x mark b e = sym (greater_assoc mark x b) ∙ ap (λ m. greater m b) (greater_comm mark x ∙ e)
 
@@ -157,7 +157,7 @@ module _ (fold : Fold) (span : Span) (spans : List Span) (mark : Option ℤ) (wi
   row_kept : (row : Row) → passes_all row fold.tests ≡ true → (holds fold.width (bucket_of fold.width row.at) row.at && passes_all row fold.tests) ≡ true
   row_kept row passes = and_from _ _ (holds-bucket_of fold.width row.at width) passes
 
-  -- one row: what it gives to the top of the spans, and to that of the whole span
+  -- one row: its effect on the top of the spans, and on that of the whole span
   one_row : (row : Row) (xs : List Row) (rest_a rest_b : Option ℤ) → Outside (row ∷ xs) → greater mark rest_a ≡ greater mark rest_b → (inside lies passes : Bool) → in_span span (bucket_of fold.width row.at) ≡ inside → lies_in spans (bucket_of fold.width row.at) ≡ lies → passes_all row fold.tests ≡ passes → greater mark (cond (lies && passes) (greater (Some (bucket_of fold.width row.at +ℤ fold.width.step)) rest_a) rest_a) ≡ greater mark (greater (cond (inside && passes) (Some (bucket_of fold.width row.at +ℤ fold.width.step)) None) rest_b)
   one_row row xs rest_a rest_b out same_rest true true true i l p =
       let end : Option ℤ = Some (bucket_of fold.width row.at +ℤ fold.width.step) in

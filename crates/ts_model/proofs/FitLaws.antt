@@ -1,4 +1,5 @@
--- Rows of consistent histories fit their tables: they have times, and the columns of each fold that may be asked for.
+-- Rows of consistent histories fit their tables: they have times, and the columns of each fold that may be
+-- asked.
 use Rattle.std.proofs.Common.{◌≡◌, ℕ, suc, ◌≤◌, Bool, true, false, ◌&&◌, not, cond, nat_lt, nat_le, List, [], ◌∷◌, ◌++◌, length, length-append, length-take, length-drop, take, drop, filter, ℤ, Option, Some, None, sym, refl, ap, ◌∙◌, subst, arith}
 use Rattle.std.specs.Prelude.{◌==◌, remove}
 use Rattle.std.specs.List.{list_all, AllByRecursion}
@@ -42,7 +43,7 @@ use Rattle.ts_model.proofs.RosterLaws.{relations_further, relations_stay}
 use Rattle.ts_model.proofs.AllowedLaws.{table_stays, consistent_begins}
 use Rattle.ts_model.proofs.SoundLaws.{rosters_are_sound}
 
--- ---- whatever holds of each row that was inserted holds of each that is there, and of each that is taken away
+-- ---- what is true of each inserted row is true of each existing row, and of each removed one
 
 module _ (p : Row → Bool) where
   pub all_filtered : (q : Row → Bool) (xs : List Row) → list_all p xs ≡ true → list_all p (filter q xs) ≡ true
@@ -195,7 +196,7 @@ values_length (c ∷ cs) (v ∷ vs) e = ap suc (values_length cs vs (and_parts _
 pub remove_length : (xs : List Column) (i : ℕ) → length xs ≤ suc (length (remove xs i))
 remove_length xs i = omega (arith, length-append (take i xs) (drop (suc i) xs), length-take i xs, length-drop (suc i) xs)
 
--- each item with a number below n has one of at most m, where n is at most one more
+-- each item whose number is below n has a number of at most m, if n is at most m + 1
 all_within : {X : Type 0} (f : X → ℕ) (n m : ℕ) → n ≤ suc m → (xs : List X) → list_all (λ x. nat_lt (f x) n) xs ≡ true → AllByRecursion (λ x. f x ≤ m) xs
 all_within f n m l [] e = tt
 all_within f n m l (x ∷ xs) e =

@@ -1,4 +1,4 @@
--- Laws of groups: what they show is the aggregation from scratch.
+-- Laws of groups: they show the aggregation from scratch.
 use Rattle.std.proofs.Common.{◌≡◌, ℕ, ◌≤◌, nat_lt, List, [], ◌∷◌, ◌++◌, map, ℤ, Option, refl, sym, ap, ◌∙◌, subst}
 use Rattle.std.proofs.lemmas.Bool.{and_left, cond-false, le-ltb}
 use Rattle.ts_num.specs.Aggregates.{shown_or_null}
@@ -31,7 +31,7 @@ bucket_cells fold b found (q ∷ qs) =
 pub cells_are_scratch : (fold : Fold) (rows : List Row) (b : ℤ) → map (cells_of fold) (groups_in fold rows b) ≡ scratch_of fold b rows
 cells_are_scratch fold rows b = bucket_cells fold b (bucket_rows fold b rows) (key_lists fold (bucket_rows fold b rows))
 
--- at or above the base, what stood in a bucket are the groups of the rows there
+-- at or above the base, the groups of a bucket are those of its rows
 pub stood_is : (n : ℕ) (def : ViewDef) (g : History) (s : ℕ) (b : ℤ) → base_position g ≤ s → groups_at_last n def g s b ≡ groups_in def.fold (rows def.table g) b
 stood_is n def start s b l = refl
 stood_is n def (resumed i) s b l = cond-false _ (saved_groups n i b) (groups_in def.fold (rows def.table (resumed i)) b) (and_left (nat_lt s i.pos) (is_dirty n i b) (le-ltb s i.pos l))
@@ -40,6 +40,6 @@ stood_is n def (g ▸ e) s b l = refl
 pub groups_at_is : (n : ℕ) (def : ViewDef) (h : History) (s : ℕ) (b : ℤ) → base_position h ≤ s → groups_at n def h s b ≡ groups_in def.fold (rows_at def.table h s) b
 groups_at_is n def h s b l = stood_is n def (prefix h s) s b (subst (λ p. p ≤ s) (sym (base_prefix h s)) l)
 
--- what stood in a bucket at a position shows the aggregation from scratch of that prefix
+-- the groups of a bucket at a position show the aggregation from scratch of that prefix
 pub scratch_at_is : (n : ℕ) (def : ViewDef) (h : History) (s : ℕ) (b : ℤ) → base_position h ≤ s → scratch_at n def h s b ≡ scratch def (prefix h s) b
 scratch_at_is n def h s b l = ap (map (cells_of def.fold)) (groups_at_is n def h s b l) ∙ cells_are_scratch def.fold (rows def.table (prefix h s)) b

@@ -1,10 +1,10 @@
--- Laws of histories: what begins with what, and positions.
+-- Laws of histories: which history begins with which, and positions.
 use Rattle.std.proofs.Common.{◌≡◌, ℕ, ◌+◌, ◌≤◌, true, false, cond, nat_lt, List, [], ◌∷◌, ◌++◌, length, sym, refl, ap, ◌∙◌, arith}
 use Rattle.std.proofs.lemmas.Bool.{lt-ltb, le-ltb, ltb-true, ltb-false, cond-true, cond-false}
 use Rattle.ts_model.specs.declared.events.Event.{Event}
 use Rattle.ts_model.specs.History.{History, start, resumed, ◌▸◌, ◌▸▸◌, position, root, base_position, prefix, events_of, Begins, same, further}
 
--- what begins with a history begins with whatever that begins with
+-- a history that begins with another begins with all that the other begins with
 pub begins_trans : {f g h : History} → Begins f g → Begins g h → Begins f h
 begins_trans p same = p
 begins_trans p (further q) = further (begins_trans p q)
@@ -70,7 +70,7 @@ begins_root start = same
 begins_root (resumed i) = same
 begins_root (h ▸ e) = further (begins_root h)
 
--- a history begins where whatever it begins with begins
+-- a history begins where each history that it begins with begins
 pub root_begins : {g h : History} → Begins g h → root h ≡ root g
 root_begins same = refl
 root_begins (further q) = root_begins q

@@ -1,4 +1,4 @@
--- Calls make allowed events only, and what a call leaves is an allowed history.
+-- Calls create only allowed events, and the history after a call on an allowed one is allowed.
 use Rattle.std.proofs.Common.{◌≡◌, ℕ, suc, Bool, true, false, ◌&&◌, cond, nat_lt, length, ℤ, pos, negsuc, ◌+ℤ◌, ◌-ℤ◌, ◌≤ℤ◌, ◌<ℤ◌, int_le, int_lt, Option, Some, None, refl, ap, ◌∙◌, arith}
 use Rattle.std.specs.Prelude.{is_some, is_none, MatchOption, IfSome, IsTrue}
 use Rattle.std.specs.Option.{ForSome}
@@ -41,7 +41,7 @@ use Rattle.ts_model.proofs.RosterLaws.{is_of_itself}
 use Rattle.ts_model.proofs.MarkLaws.{window_ends}
 use Rattle.ts_schema.proofs.Cases.{le-int_le}
 
--- an event that is made is allowed
+-- an event that is created is allowed
 made_allowed : {A : Type 0} (h : History) (e : Event) (a : A) → sound h e ≡ true → timely_at h e ≡ true → MakesAllowed h (act_of_event h e a)
 made_allowed h e a is_sound is_timely =
     elim (has_room h) as (λ t. has_room h ≡ t → MakesAllowed h (cond t (makes e a) (refuses (refusal history_full h 0)))) [
@@ -49,7 +49,7 @@ made_allowed h e a is_sound is_timely =
       | false ↦ λ _. tt
     ] refl
 
--- a new relation is allowed where its name is free and there is room for it
+-- a new relation is allowed if its name is free and its kind hasn't reached its limit
 relation_allowed : (h : History) (taken : Bool) (many : ℕ) (e : Event) → (taken ≡ false → nat_lt many most_relations ≡ true → MakesAllowed h (act_with_number h e)) → MakesAllowed h (new_relation h taken many e)
 relation_allowed h true many e ok = tt
 relation_allowed h false many e ok =
@@ -75,7 +75,7 @@ starts_from_first w (Some lo) = above (first_of w) (start_from w lo)
     above : (x y : ℤ) → int_le x (int_max x y) ≡ true
     above x y = grind (arith, ints)
 
--- ends of windows are words
+-- ends of windows have 64 bits
 window_start_low : (w : Width) (lo : Option ℤ) → IsWidth w → negsuc 4611687117939015679 ≤ℤ window_start w lo
 window_start_low w lo width =
     let first : int_le (first_of w) (window_start w lo) ≡ true = starts_from_first w lo in
@@ -142,7 +142,7 @@ window_fits n def h lo None ok there time =
     let width = view_width h n def ok there in
     up_to_fits n def h lo (greater (watermark n def h) (last_end def.fold.width (rows def.table h))) there width (window_ends n def h width (is_of_itself def (view_of (roster h) n) there) ok)
 
--- what a call does with a window whose cut is sound is allowed
+-- a call with a window whose cut is sound creates an allowed event
 over_allowed : (n : ℕ) (h : History) (w : Window) → SoundCut n h w → MakesAllowed h (cut_over n h w)
 over_allowed n h (Whole span) e = made_allowed h (Cut n span) (CutMade (suc (position h)) span) e refl
 over_allowed n h NoBucket e = tt
@@ -174,7 +174,7 @@ calls_make_allowed = record {
   finishes = λ cut snap h e. finish_allowed cut snap h (pending h cut) refl e;
 }
 
--- what a call leaves of an allowed history is an allowed history
+-- the history after a call on an allowed history is allowed
 pub allowed_answered : {A : Type 0} (act : Act A) (found : State) (outcome : Outcome A) (new : State) → MakesAllowed found.history act → all_allowed found.history ≡ true → Answered act found outcome new → all_allowed new.history ≡ true
 allowed_answered (refuses r) found (Done a) new m ok w = absurd w
 allowed_answered (refuses r) found (Refused q) new m ok w = ap all_allowed w.1.history ∙ ok

@@ -1,4 +1,5 @@
--- Whether an aggregate shows materialized rows only has no effect on what is stale, or on what was in a bucket.
+-- Whether an aggregate shows materialized rows only has no effect on stale buckets, or on the groups of a
+-- bucket.
 use Rattle.std.proofs.Common.{◌≡◌, ℕ, suc, Bool, ◌&&◌, cond, ℤ, Option, Some, None, refl, ap, ◌∙◌}
 use Rattle.ts_num.specs.Aggregates.{greater}
 use Rattle.ts_bucket.specs.Positions.{later, is_above}

@@ -1,4 +1,4 @@
--- Orders: of values, lists of values and rows; rows stand in order, and keys come once each, in order.
+-- Orders of values, lists of values and rows; rows are in order, and each key occurs once, in order.
 use Rattle.std.proofs.Common.{◌≡◌, ℕ, Bool, true, false, ◌||◌, not, cond, ◌==◌, List, [], ◌∷◌, map, filter, sym, refl, ap, ◌∙◌}
 use Rattle.std.specs.List.{list_all, list_any}
 use Rattle.std.specs.Ordering.{is_gt, is_lt, ordering_reverse, int_cmp, match_ordering}
@@ -25,7 +25,7 @@ use Rattle.ts_schema.proofs.Cases.{or_swapped}
 
 -- ---- the order of rows
 
--- rows that the order doesn't tell apart are the same row
+-- rows that the order finds equal are the same row
 pub row_cmp_same : CmpEqualImpliesEq row_cmp
 row_cmp_same x y e =
     let parts = then_equal (int_cmp x.at y.at) (values_cmp x.vals y.vals) e in
@@ -33,7 +33,7 @@ row_cmp_same x y e =
     let values : x.vals ≡ y.vals = values_cmp_exact x.vals y.vals parts.1 in
     λ i. record { at = times i; vals = values i }
 
--- ---- rows stand in order
+-- ---- rows are in order
 
 list_all-filter : {X : Type 0} (q p : X → Bool) (xs : List X) → list_all q xs ≡ true → list_all q (filter p xs) ≡ true
 list_all-filter q p [] e = refl
@@ -101,7 +101,7 @@ rows_stand_in_order t (h ▸ Commit ops) = in_order-after_ops t ops (rows t h) (
 rows_stand_in_order t (h ▸ Cut v span) = rows_stand_in_order t h
 rows_stand_in_order t (h ▸ Built cut snap) = rows_stand_in_order t h
 
--- ---- keys come once each, in order
+-- ---- each key occurs once, in order
 
 module _ {K : Type 0} (cmp : K → K → Ordering) (total : IsTotalOrder cmp) (alike : CmpEqualImpliesEq cmp) where
   list_all-insert_key : (q : K → Bool) (ks : List K) (k : K) → q k ≡ true → list_all q ks ≡ true → list_all q (insert_key cmp ks k) ≡ true

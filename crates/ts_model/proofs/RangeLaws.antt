@@ -21,7 +21,7 @@ use Rattle.ts_model.specs.Laws.{RangesAreMaximal}
 abbrev pub among : ℤ → List ℤ → Bool
 among c bs = list_any (λ x. int_eq x c) bs
 
--- a span from t on of so many numbers
+-- a span of this many numbers from t on
 abbrev counted : ℤ → ℕ → Span
 counted t n = record { lo = t; hi = t +ℤ pos n }
 
@@ -41,7 +41,7 @@ counted_next t c n apart =
       | false ↦ λ e. let below : c <ℤ t = (let at_most : c ≤ℤ t = grind (arith, ints) in omega (arith, ints)) in grind (arith, ints)
     ] refl
 
--- c is one of the numbers that pass exactly where it is in their span and passes
+-- c is one of the numbers that pass if and only if it is in their span and passes
 pub among-numbers : (p : ℤ → Bool) (t c : ℤ) (n : ℕ) → among c (filter p (numbers_from t n)) ≡ (in_span (counted t n) c && p c)
 unfolding numbers_from
 among-numbers p t c zero = sym (ap (λ b. b && p c) (counted_none t c))
@@ -78,7 +78,7 @@ counted_span span c = by_difference span.lo span.hi c (span.hi -ℤ span.lo) ref
     by_difference lo hi c (pos n) e = let ends : hi ≡ lo +ℤ pos n = omega (arith, ints) in ap (λ z. in_span (record { lo = lo; hi = z }) c) (sym ends)
     by_difference lo hi c (negsuc n) e = let below : hi <ℤ lo = omega (arith, ints) in grind (arith, ints)
 
--- a number is one of the buckets of a span exactly where it is asked for
+-- a number is one of the buckets of a span if and only if it is requested
 pub among-buckets_in : (w : Width) (starts : Span) (c : ℤ) → among c (buckets_in w starts) ≡ is_asked w starts c
 among-buckets_in w starts c =
     among-numbers (λ b. is_bucket w b && int_le (first_of w) b) starts.lo c (count_of (starts.hi -ℤ starts.lo))
@@ -126,7 +126,7 @@ alone w b c width bucket other = holds-is w b c width bucket ∙ ap (int_eq b) (
 one_bucket : (w : Width) (b : ℤ) → IsWidth w → is_bucket w b ≡ true → IsWholeRange w (record { lo = b; hi = b +ℤ w.step })
 one_bucket w b width bucket = let positive = width.positive in record { starts = bucket; ends = is_bucket-next w b width ∙ bucket; some = omega (arith, ints) }
 
--- a test of b, or of others where it passes
+-- a test of b, or of others if it passes
 added : (here among test_c test_b : Bool) → (here ≡ true → test_c ≡ test_b) → test_b ≡ true → (here || (among && test_c)) ≡ ((here || among) && test_c)
 added true among test_c test_b e p = sym (e refl ∙ p)
 added false among test_c test_b e p = refl
@@ -149,7 +149,7 @@ same_test : (test : ℤ → Bool) (b c : ℤ) → int_eq b c ≡ true → test c
 same_test test b c e = sym (ap test ((Decides-int_eq b c).0 e))
 
 module _ (w : Width) (width : IsWidth w) (low b : ℤ) (bs : List ℤ) (test : ℤ → Bool) (at_low : low ≤ℤ b) (bucket : is_bucket w b ≡ true) where
-  -- a bucket that passes, before no range
+  -- a bucket that passes, with no range after it
   with_first : Ranged w (b +ℤ pos 1) bs test [] → test b ≡ true → Ranged w low (b ∷ bs) test (record { lo = b; hi = b +ℤ w.step } ∷ [])
   with_first r passes = record {
     whole = (one_bucket w b width bucket, tt);

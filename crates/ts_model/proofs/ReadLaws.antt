@@ -101,7 +101,7 @@ module _ (w : Width) (width : IsWidth w) (range : Span) (whole : IsWholeRange w 
       (and_from _ _ (in_span-from_ends range b from_range (omega (arith, ints))) (and_from _ _ (is_bucket-bucket_of w t width) from_first))
       (record { before = omega (arith, ints); after = omega (arith, ints); some_a = some_chunk; some_b = omega (arith, ints) })
 
-  -- a chunk meets some bucket of a range exactly where it meets the range
+  -- a chunk meets some bucket of a range if and only if it meets the range
   pub meets_some_bucket : list_any (spans_meet chunk) (map (bucket_span w) (buckets_in w range)) ≡ list_any (spans_meet chunk) (range ∷ [])
   meets_some_bucket =
       let q : ℤ → Bool = λ b. spans_meet chunk (bucket_span w b) in

@@ -1,4 +1,5 @@
--- Laws of refreshes: what was last refreshed stays as it was, nothing stood at or above the watermark, and watermark and threshold never fall.
+-- Laws of refreshes: last refreshes stay, buckets at or above the watermark had no rows, and watermark and
+-- threshold never fall.
 use Rattle.std.proofs.Common.{◌≡◌, ℕ, ◌<◌, ◌≤◌, max, Bool, true, false, ◌&&◌, ◌||◌, cond, nat_lt, nat_le, List, [], ◌∷◌, map, ℤ, ◌+ℤ◌, int_lt, Option, Some, None, ◌⊎◌, inl, inr, ⊎_elim, sym, refl, ap, ◌∙◌, subst, arith}
 use Rattle.std.proofs.lemmas.Bool.{true≢false, or_parts, or_left, and_left, and_right, and_parts, leb-true, lt-ltb, cond-false, cases_Bool, cases_lt}
 use Rattle.std.specs.Prelude.{is_some}
@@ -49,7 +50,7 @@ scratch_at_further n def h e s b l = scratch_at_begins n def s b (further same) 
 
 -- ---- marks and positions
 
--- a bucket is below the greater of two marks exactly where it is below one of them
+-- a bucket is below the greater of two marks if and only if it is below one of them
 pub is_below-greater : (b : ℤ) (x y : Option ℤ) → is_below b (greater x y) ≡ (is_below b x || is_below b y)
 is_below-greater b None y = refl
 is_below-greater b (Some x) None = elim (int_lt b x) as (λ t. t ≡ (t || false)) [ true ↦ refl | false ↦ refl ]
@@ -97,7 +98,7 @@ built_bounds h cut snap e =
     let is_sound = and_parts (finish_fits h cut snap) _ (and_parts (sound h (Built cut snap)) _ e).0 in
     leb-true snap (position h) (and_parts _ (nat_le snap (position h)) is_sound.0).1
 
--- nor before the base
+-- and not before the base
 pub built_from_base : (h : History) (cut snap : ℕ) → consistent h (Built cut snap) ≡ true → base_position h ≤ snap
 built_from_base h cut snap e =
     let is_sound = and_parts (finish_fits h cut snap) _ (and_parts (sound h (Built cut snap)) _ e).0 in

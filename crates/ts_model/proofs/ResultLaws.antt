@@ -1,4 +1,4 @@
--- Laws of the rows of an answer: what a group's result row shows at a place, and with chosen cells.
+-- Laws of the rows of an answer: the cells of a group's result row, and chosen cells.
 use Rattle.std.proofs.Common.{◌≡◌, ℕ, zero, suc, ◌-◌, ◌<◌, ◌≤◌, ◌==◌, true, false, List, [], ◌∷◌, ◌++◌, map, length, get_or, ℤ, Option, None, Some, refl, sym, ap, ◌∙◌, arith}
 use Rattle.std.proofs.lemmas.Bool.{eqb-true}
 use Rattle.std.specs.Option.{is_some}
@@ -24,14 +24,14 @@ behind_keys [] others p l = ap (cell_at others) (let e : p ≡ p - 0 = omega ari
 behind_keys (k ∷ keys) others zero l = absurd (omega arith)
 behind_keys (k ∷ keys) others (suc p) l = behind_keys keys others p (omega arith) ∙ ap (cell_at others) (let e : p - length keys ≡ suc p - suc (length keys) = omega arith in e)
 
--- behind the first cell stand the keys
+-- after the first cell come the keys
 pub value_of_key : (first : Datum) (keys : List (Option ℤ)) (others : List Datum) (place : ℕ) (key : Option ℤ) → 0 < place → place ≤ length keys → cell_at (first ∷ (map shown_or_null keys ++ others)) place ≡ value_of (shown_or_null (get_or keys (place - 1) key))
 value_of_key first keys others zero key some le = absurd (omega arith)
 value_of_key first keys others (suc p) key some le =
     among_keys keys others p key (omega arith)
     ∙ ap (λ n. value_of (shown_or_null (get_or keys n key))) (let e : p ≡ suc p - 1 = omega arith in e)
 
--- and behind them the others
+-- and after them the other cells
 pub value_behind : (first : Datum) (keys : List (Option ℤ)) (others : List Datum) (place : ℕ) → length keys < place → cell_at (first ∷ (map shown_or_null keys ++ others)) place ≡ cell_at others (place - 1 - length keys)
 value_behind first keys others zero more = absurd (omega arith)
 value_behind first keys others (suc p) more =
@@ -70,14 +70,14 @@ cell_behind_keys [] others p l = ap (cell_or_null others) (let e : p ≡ p - 0 =
 cell_behind_keys (k ∷ keys) others zero l = absurd (omega arith)
 cell_behind_keys (k ∷ keys) others (suc p) l = cell_behind_keys keys others p (omega arith) ∙ ap (cell_or_null others) (let e : p - length keys ≡ suc p - suc (length keys) = omega arith in e)
 
--- behind the first cell stand the keys
+-- after the first cell come the keys
 pub cell_of_key : (first : Datum) (keys : List (Option ℤ)) (others : List Datum) (place : ℕ) (key : Option ℤ) → 0 < place → place ≤ length keys → cell_or_null (first ∷ (map shown_or_null keys ++ others)) place ≡ shown_or_null (get_or keys (place - 1) key)
 cell_of_key first keys others zero key some le = absurd (omega arith)
 cell_of_key first keys others (suc p) key some le =
     cell_among_keys keys others p key (omega arith)
     ∙ ap (λ n. shown_or_null (get_or keys n key)) (let e : p ≡ suc p - 1 = omega arith in e)
 
--- and behind them the others
+-- and after them the other cells
 pub cell_behind : (first : Datum) (keys : List (Option ℤ)) (others : List Datum) (place : ℕ) → length keys < place → cell_or_null (first ∷ (map shown_or_null keys ++ others)) place ≡ cell_or_null others (place - 1 - length keys)
 cell_behind first keys others zero more = absurd (omega arith)
 cell_behind first keys others (suc p) more =
@@ -104,7 +104,7 @@ no_part_cell (a ∷ aggs) (p ∷ parts) (suc at) l = no_part_cell aggs parts at 
 
 -- ---- chosen cells
 
--- no value is read where there is no cell
+-- no value is read if there is no cell
 pub value_of_cell : (cells : List Datum) (p : ℕ) → value_of (cell_or_null cells p) ≡ cell_at cells p
 value_of_cell [] p = refl
 value_of_cell (c ∷ cells) zero = refl
@@ -120,7 +120,7 @@ none_chosen cells [] at l = refl
 none_chosen cells (p ∷ places) zero l = absurd (omega arith)
 none_chosen cells (p ∷ places) (suc at) l = none_chosen cells places at (omega arith)
 
--- rows of groups alone, of which all cells are shown, show the chosen ones where only those are
+-- if all cells of groups are shown, choosing cells shows the chosen ones
 groups_choose : (places : List ℕ) (aggs : List Agg) (groups : List Group) → map (group_shown (Some places) aggs) groups ≡ map (chosen_cells places) (map (group_shown None aggs) groups)
 groups_choose places aggs [] = refl
 groups_choose places aggs (g ∷ groups) = ap (λ rows. group_shown (Some places) aggs g ∷ rows) (groups_choose places aggs groups)

@@ -1,4 +1,4 @@
--- Names and kinds are never taken away.
+-- Names and kinds are never removed.
 use Rattle.std.proofs.Common.{◌≡◌, ℕ, zero, suc, ◌+◌, ◌<◌, ◌≤◌, Bool, true, false, not, cond, nat_lt, ◌==◌, length, List, [], ◌∷◌, ◌++◌, Option, Some, None, sym, refl, ap, ◌∙◌, subst, arith}
 use Rattle.std.specs.Prelude.{slice_get, position as place, unwrap_or}
 use Rattle.std.specs.List.{prefix_len, position_or_len}
@@ -23,7 +23,7 @@ slice_get-append [] ys i x e = absurd (cc)
 slice_get-append (z ∷ xs) ys zero x e = e
 slice_get-append (z ∷ xs) ys (suc i) x e = slice_get-append xs ys i x e
 
--- what is at place i after a change at place j is what was there, or that changed
+-- the item at place i after a change at place j is the old one, or the changed one
 pub slice_get-change_at : {X : Type 0} (xs : List X) (j i : ℕ) (f : X → X) (x : X) → slice_get xs i ≡ Some x → (changed : Bool) × (slice_get (change_at xs j f) i ≡ Some (cond changed (f x) x))
 slice_get-change_at [] j i f x e = absurd (cc)
 slice_get-change_at (z ∷ xs) zero zero f x e = let same_item : z ≡ x = cc in (true, ap (λ y. Some (f y)) same_item)
@@ -31,7 +31,7 @@ slice_get-change_at (z ∷ xs) zero (suc i) f x e = (false, e)
 slice_get-change_at (z ∷ xs) (suc j) zero f x e = (false, e)
 slice_get-change_at (z ∷ xs) (suc j) (suc i) f x e = slice_get-change_at xs j i f x e
 
--- a place below the length stays where the list grows and the place doesn't move
+-- a place below the length stays below it if the list grows
 place_stays : (a b m n t : ℕ) → a ≡ b → m ≤ n → cond (nat_lt a m) (Some a) None ≡ Some t → cond (nat_lt b n) (Some b) None ≡ Some t
 place_stays a b m n t e l p =
     elim (nat_lt a m) as (λ x. nat_lt a m ≡ x → cond x (Some a) None ≡ Some t → cond (nat_lt b n) (Some b) None ≡ Some t) [
@@ -170,7 +170,7 @@ of_before def (Some d) now keeps e =
     let P : Option ViewDef → Type 0 = λ o. IsOf def o in
     subst P kept.there e
 
--- what has the table and the grouping of an aggregate after an event had them before it
+-- an aggregate with a table and a grouping after an event had them before it
 pub is_of_before : (def : ViewDef) (h : History) (e : Event) (n : ℕ) → IsOf def (view_of (roster (h ▸ e)) n) → IsOf def (view_of (roster h) n)
 is_of_before def h e n i = of_before def (view_of (roster h) n) (view_of (roster (h ▸ e)) n) ((relations_further (roster h) e).views n) i
 

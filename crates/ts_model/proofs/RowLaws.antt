@@ -1,4 +1,4 @@
--- Laws of rows in order: the order in which rows are put in their places plays no part.
+-- Laws of rows in order: the order in which rows are inserted in their places has no effect.
 use Rattle.std.proofs.Common.{◌≡◌, suc, ◌+◌, Bool, true, false, not, cond, ◌&&◌, List, [], ◌∷◌, ◌++◌, filter, length, sym, refl, ap, ◌∙◌, arith}
 use Rattle.std.specs.List.{list_all}
 use Rattle.std.specs.Ordering.{is_gt, ordering_reverse}
@@ -13,7 +13,7 @@ use Rattle.ts_model.specs.Laws.{InOrder}
 use Rattle.ts_schema.proofs.OrderLaws.{row_cmp_total}
 use Rattle.ts_model.proofs.OrderLaws.{row_cmp_same, in_order-with_rows, at_most_all}
 
--- ---- what the order says of two rows
+-- ---- the order of two rows
 
 above_turned : (a b : Row) → is_gt (row_cmp a b) ≡ true → is_gt (row_cmp b a) ≡ false
 above_turned a b e = ap is_gt (row_cmp_total.antisymm b a) ∙ by_cases (row_cmp a b) e
@@ -23,7 +23,7 @@ above_turned a b e = ap is_gt (row_cmp_total.antisymm b a) ∙ by_cases (row_cmp
     by_cases Equal e = absurd (cc)
     by_cases Greater e = refl
 
--- of two rows one is above the other, or they are the same
+-- one of two rows is above the other, or they are the same
 apart_or_same : (P : Type 0) (a b : Row) → (is_gt (row_cmp a b) ≡ true → is_gt (row_cmp b a) ≡ false → P) → (is_gt (row_cmp a b) ≡ false → is_gt (row_cmp b a) ≡ true → P) → (a ≡ b → P) → P
 apart_or_same P a b above below alike =
     elim (row_cmp a b) as (λ o. row_cmp a b ≡ o → P) [
@@ -70,7 +70,7 @@ swap_both a b x xs e f rest =
     ∙ ap (λ ys. x ∷ ys) rest
     ∙ sym (ap (with_row b) (with_row-past a x xs e) ∙ with_row-past b x (with_row a xs) f)
 
--- two rows are put in their places in either order
+-- two rows are inserted in their places in either order
 pub with_row-swap : (a b : Row) (xs : List Row) → with_row a (with_row b xs) ≡ with_row b (with_row a xs)
 with_row-swap a b [] = two_first a b [] refl refl
 with_row-swap a b (x ∷ xs) = swap_cases a b x xs (with_row-swap a b xs) (is_gt (row_cmp a x)) (is_gt (row_cmp b x)) refl refl
@@ -95,14 +95,14 @@ pub with_rows-swap : (xs ys zs : List Row) → with_rows xs (with_rows ys zs) �
 with_rows-swap [] ys zs = refl
 with_rows-swap (x ∷ xs) ys zs = ap (with_row x) (with_rows-swap xs ys zs) ∙ sym (with_rows-with_row ys x (with_rows xs zs))
 
--- rows in order are the same, in whichever order two lists of them come
+-- sorting two lists of rows results in the same list in either order
 pub in_order-append : (xs ys : List Row) → in_order (xs ++ ys) ≡ with_rows xs (in_order ys)
 in_order-append xs ys = with_rows-append xs ys []
 
 pub in_order-append_swap : (xs ys : List Row) → in_order (xs ++ ys) ≡ in_order (ys ++ xs)
 in_order-append_swap xs ys = in_order-append xs ys ∙ with_rows-swap xs ys [] ∙ sym (in_order-append ys xs)
 
--- rows that come in order are put in their places in the same way
+-- rows that come in order are inserted in their places in the same way
 pub with_rows-placed : (a : Row) (xs ys : List Row) → with_rows (with_row a xs) ys ≡ with_row a (with_rows xs ys)
 with_rows-placed a [] ys = refl
 with_rows-placed a (x ∷ xs) ys =
@@ -115,7 +115,7 @@ pub with_rows-in_order : (xs ys : List Row) → with_rows (in_order xs) ys ≡ w
 with_rows-in_order [] ys = refl
 with_rows-in_order (x ∷ xs) ys = with_rows-placed x (in_order xs) ys ∙ ap (with_row x) (with_rows-in_order xs ys)
 
--- rows that stand in order stay as they are
+-- sorting rows in order doesn't change them
 pub in_order-is : (xs : List Row) → InOrder row_cmp xs → in_order xs ≡ xs
 in_order-is [] o = refl
 in_order-is (x ∷ xs) o = ap (with_row x) (in_order-is xs o.1) ∙ first x xs o.0
@@ -130,9 +130,9 @@ in_order-twice xs = with_rows-in_order xs []
 pub stands_in_order : (xs : List Row) → InOrder row_cmp (in_order xs)
 stands_in_order xs = in_order-with_rows xs [] tt
 
--- ---- what a test selects of rows in order
+-- ---- the rows that a test selects from rows in order
 
--- a row not above the first stands before all, also after some are left out
+-- a row not above the first is before all rows, even after some are left out
 kept_first : (p : Row → Bool) (row : Row) (xs : List Row) → list_all (λ y. not (is_gt (row_cmp row y))) xs ≡ true → with_row row (filter p xs) ≡ row ∷ filter p xs
 kept_first p row [] e = refl
 kept_first p row (x ∷ xs) e =
@@ -164,7 +164,7 @@ filter-with_row_left p row (x ∷ xs) e =
       | false ↦ ap (λ b. cond b (row ∷ filter p (x ∷ xs)) (filter p (x ∷ xs))) e
     ]
 
--- a test selects the same of rows put in order, and of rows before they are put in order
+-- a test selects the same rows before and after sorting
 pub filter-with_rows_kept : (p : Row → Bool) (new xs : List Row) → InOrder row_cmp xs → filter p (with_rows new xs) ≡ with_rows (filter p new) (filter p xs)
 filter-with_rows_kept p [] xs o = refl
 filter-with_rows_kept p (row ∷ new) xs o =
@@ -185,7 +185,7 @@ pub length-with_rows : (new xs : List Row) → length (with_rows new xs) ≡ len
 length-with_rows [] xs = omega arith
 length-with_rows (row ∷ new) xs = length-with_row row (with_rows new xs) ∙ omega (arith, length-with_rows new xs)
 
--- a test of all rows doesn't look at their order
+-- a test of all rows doesn't depend on their order
 all-with_row : (p : Row → Bool) (row : Row) (xs : List Row) → list_all p (with_row row xs) ≡ (p row && list_all p xs)
 all-with_row p row [] = refl
 all-with_row p row (x ∷ xs) =

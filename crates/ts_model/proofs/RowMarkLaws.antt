@@ -1,4 +1,4 @@
--- The watermark is the end of a bucket that had a result row when a finished refresh looked at it.
+-- The watermark is the end of a bucket that had a result row when a finished refresh read it.
 use Rattle.std.proofs.Common.{◌≡◌, ◌≢◌, ◌⊎◌, inl, inr, ⊎_elim, ℕ, Bool, true, false, ◌&&◌, cond, List, [], ◌∷◌, map, ℤ, ◌+ℤ◌, Option, Some, None, refl, sym, ap, ◌∙◌, subst, arith}
 use Rattle.std.specs.Prelude.{IfSome}
 use Rattle.std.specs.BTreeSet.{insert_key}
@@ -64,7 +64,7 @@ record EndsAmong (fold : Fold) (span : Span) (xs : List Row) (m : ℤ) : Type 0 
   ends : bucket +ℤ fold.width.step ≡ m
 
 module _ (fold : Fold) (span : Span) where
-  -- one row more leaves those that pass
+  -- one more row keeps those that pass
   ends_further : (row : Row) (xs : List Row) (m : ℤ) → EndsAmong fold span xs m → EndsAmong fold span (row ∷ xs) m
   ends_further row xs m e = record {
     bucket = e.bucket;
@@ -110,7 +110,7 @@ module _ (fold : Fold) (span : Span) where
 
 -- ---- histories
 
--- what ended a row before an event ended it after the event
+-- an end of a bucket with a row before an event is one after the event
 row_further : (n : ℕ) (def : ViewDef) (h : History) (x : Event) (m : ℤ) → EndsARow n def h m → EndsARow n def (h ▸ x) m
 row_further n def h x m e = record {
   before = e.before;

@@ -1,4 +1,5 @@
--- Ranges that rise apart and hold the same buckets are the same ranges; and what a function gives over all buckets of a span is what it gives over those at which it gives anything.
+-- Ranges that rise apart and hold the same buckets are the same. A function over all buckets of a span returns
+-- what it returns over those buckets for which it returns anything.
 use Rattle.std.proofs.Common.{◌≡◌, Bool, true, false, ◌||◌, List, [], ◌∷◌, ◌++◌, ℤ, pos, ◌+ℤ◌, ◌≤ℤ◌, ◌<ℤ◌, int_lt, sym, refl, ap, ◌∙◌, subst, arith}
 use Rattle.std.specs.List.{AllByRecursion, flat_map}
 use Rattle.std.specs.Ordering.{int_eq}
@@ -29,7 +30,7 @@ apart_rest : (s : Span) (ss : List Span) → RiseApart (s ∷ ss) → RiseApart 
 apart_rest s [] r = tt
 apart_rest s (t ∷ ss) r = r.1
 
--- a number at or below t lies in no range, where the first starts above t
+-- a number at or below t lies in no range, if the first starts above t
 lies_below : (w : Width) (found : List Span) (t c : ℤ) → AllByRecursion (IsWholeRange w) found → RiseApart found → StartsAbove t found → c ≤ℤ t → lies_in found c ≡ false
 lies_below w [] t c whole rising above l = refl
 lies_below w (s ∷ ss) t c whole rising above l =
@@ -38,7 +39,7 @@ lies_below w (s ∷ ss) t c whole rising above l =
     let out : in_span s c ≡ false = grind (arith, ints) in
     or_from _ _ out (lies_below w ss s.hi c whole.1 (apart_rest s ss rising) (apart_next s ss rising) (omega (arith, ints)))
 
--- what lies in ranges lies at or above the start of the first
+-- numbers in ranges are at or above the start of the first
 lies_from : (w : Width) (s : Span) (ss : List Span) (c : ℤ) → AllByRecursion (IsWholeRange w) (s ∷ ss) → RiseApart (s ∷ ss) → lies_in (s ∷ ss) c ≡ true → s.lo ≤ℤ c
 lies_from w s ss c whole rising e =
     elim (int_lt c s.lo) as (λ b. int_lt c s.lo ≡ b → s.lo ≤ℤ c) [
@@ -124,14 +125,14 @@ one_list_of_ranges w starts test a b p q = same_ranges w a b p.whole q.whole p.r
 -- ---- functions over the buckets of a span
 
 module _ {X : Type 0} (w : Width) (f : ℤ → List X) where
-  -- where a function gives nothing, its buckets play no part
+  -- buckets for which a function returns nothing have no effect
   nothing_given : (bs : List ℤ) → ((b : ℤ) → among b bs ≡ true → f b ≡ []) → flat_map f bs ≡ []
   nothing_given [] none = refl
   nothing_given (b ∷ bs) none =
       let here : int_eq b b ≡ true = (Decides-int_eq b b).1 refl in
       ap (λ xs. xs ++ flat_map f bs) (none b (or_left _ _ here)) ∙ nothing_given bs (λ c e. none c (or_right (int_eq b c) _ e))
 
-  -- a number at or below low is none of the buckets above it
+  -- a number at or below `low` isn't one of the buckets above it
   none_below : (low c : ℤ) (bs : List ℤ) → RisingBuckets w low bs → c <ℤ low → among c bs ≡ false
   none_below low c [] r l = refl
   none_below low c (b ∷ bs) r l =
@@ -144,7 +145,7 @@ module _ {X : Type 0} (w : Width) (f : ℤ → List X) where
       by_cases {b} {c} true e apart = absurd (apart ((Decides-int_eq b c).0 e))
       by_cases false e apart = e
 
-  -- a bucket in a rising list is at or above where the list starts
+  -- a bucket in a rising list is at or above the start of the list
   from_low : (low c : ℤ) (bs : List ℤ) → RisingBuckets w low bs → among c bs ≡ true → low ≤ℤ c
   from_low low c bs r e =
       elim (int_lt c low) as (λ x. int_lt c low ≡ x → low ≤ℤ c) [
@@ -187,7 +188,8 @@ module _ {X : Type 0} (w : Width) (f : ℤ → List X) where
       (λ b e. in_tail x b xs (λ p. true≢false (sym e ∙ subst (λ z. among z (y ∷ ys) ≡ false) p not_x)) (within b e))
       (λ b e n. none b (or_right (int_eq x b) _ e) n)
 
-  -- over all buckets a function gives what it gives over some of them, where it gives nothing over the others
+  -- over all buckets a function returns what it returns over some of them, if it returns nothing over the
+  -- others
   pub flat_map_some : (low : ℤ) (all some : List ℤ) → RisingBuckets w low all → RisingBuckets w low some → ((b : ℤ) → among b some ≡ true → among b all ≡ true) → ((b : ℤ) → among b all ≡ true → among b some ≡ false → f b ≡ []) → flat_map f all ≡ flat_map f some
   flat_map_some low [] [] ra rs within none = refl
   flat_map_some low [] (y ∷ ys) ra rs within none = absurd (true≢false (sym (within y (or_left _ _ ((Decides-int_eq y y).1 refl)))))
@@ -198,7 +200,8 @@ module _ {X : Type 0} (w : Width) (f : ℤ → List X) where
         | false ↦ λ e. other_head x y xs ys (λ q. both_ways (int_eq x y) e ((Decides-int_eq x y).1 q)) ra.2 rs.1 rs.2 within none (λ r i n. flat_map_some (x +ℤ pos 1) xs (y ∷ ys) ra.2 r i n)
       ] refl
 
--- the same over the buckets of a span: it is enough to go over rising buckets that are asked for and hold each at which the function gives something
+-- the same over the buckets of a span: it is enough to visit rising requested buckets that include each one for
+-- which the function returns something
 pub flat_map-buckets_in : {X : Type 0} (w : Width) (f : ℤ → List X) (starts : Span) (some : List ℤ) → RisingBuckets w starts.lo some → ((b : ℤ) → among b some ≡ true → is_asked w starts b ≡ true) → ((b : ℤ) → is_asked w starts b ≡ true → among b some ≡ false → f b ≡ []) → flat_map f (buckets_in w starts) ≡ flat_map f some
 flat_map-buckets_in w f starts some r within none =
     flat_map_some w f starts.lo (buckets_in w starts) some (rising-buckets_in w starts) r (λ b e. among-buckets_in w starts b ∙ within b e) (λ b e n. none b (sym (among-buckets_in w starts b) ∙ e) n)

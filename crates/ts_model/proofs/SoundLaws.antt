@@ -1,4 +1,4 @@
--- The roster of a consistent history is sound: all that it holds is there and in range.
+-- The roster of a consistent history is sound: all that it names exists and is in range.
 use Rattle.std.proofs.Common.{◌≡◌, ℕ, zero, suc, ◌+◌, ◌<◌, ◌≤◌, Bool, true, ◌&&◌, nat_lt, nat_le, ◌==◌, List, [], ◌∷◌, ◌++◌, length, length-append, pos, int_lt, int_le, Option, Some, None, ◌⊎◌, inl, inr, ⊎_elim, sym, refl, ap, ◌∙◌, subst, arith}
 use Rattle.std.specs.Prelude.{slice_get, unwrap_or}
 use Rattle.std.proofs.lemmas.Bool.{true≢false, and_parts, and_from, ltb-true}
@@ -38,7 +38,7 @@ pub width_from : (w : Width) → IsWidth w → is_width w ≡ true
 width_from w width =
     and_from _ _ (and_from _ _ (and_from _ _ (lt-int_lt (pos 0) w.step width.positive) (le-int_le w.step max_step width.bounded)) (le-int_le (pos 0) w.shift width.from_zero)) (lt-int_lt w.shift w.step width.below_step)
 
--- ---- what stands in a list that grew at its end, or had one item changed
+-- ---- the items of a list that grew at its end, or in which one item changed
 
 pub get_pushed : {X : Type 0} (xs : List X) (y : X) (i : ℕ) (x : X) → slice_get (xs ++ (y ∷ [])) i ≡ Some x → (slice_get xs i ≡ Some x) ⊎ (y ≡ x)
 get_pushed [] y zero x e = inr (cc)
@@ -46,7 +46,7 @@ get_pushed [] y (suc i) x e = absurd (cc)
 get_pushed (z ∷ xs) y zero x e = inl e
 get_pushed (z ∷ xs) y (suc i) x e = get_pushed xs y i x e
 
--- what is at a place of a changed list is what was there, or that changed, and then it is the place of the change
+-- the item at a place of a changed list is the old one, or the changed one at the place of the change
 pub data Stood {X : Type 0} (xs : List X) (j i : ℕ) (f : X → X) (x : X) : Type 0 where
   as_before : slice_get xs i ≡ Some x → Stood xs j i f x
   changed : (was : X) → slice_get xs i ≡ Some was → j ≡ i → x ≡ f was → Stood xs j i f x

@@ -33,7 +33,7 @@ use Rattle.ts_model.proofs.HistoryLaws.{prefix_prefix}
 use Rattle.ts_model.proofs.GroupLaws.{cells_are_scratch}
 use Rattle.ts_model.proofs.RowLaws.{filter-with_row_left}
 
--- ---- what a test selects, where all rows that move fail it
+-- ---- what a test selects, if all rows that move fail it
 
 pub list_any-append : {X : Type 0} (p : X → Bool) (xs ys : List X) → list_any p (xs ++ ys) ≡ (list_any p xs || list_any p ys)
 list_any-append p [] ys = refl
@@ -122,7 +122,7 @@ untouched_rows n def (resumed i) b s e = refl
 untouched_rows n def (h ▸ Commit ops) b s e = untouched_commit n def h ops b s e (λ f. untouched_rows n def h b s f)
 untouched_rows n def (h ▸ x) b s e = either_way (λ g. bucket_rows def.fold b (rows def.table g)) (nat_lt (position h) s) (h ▸ x) (prefix h s) (untouched_rows n def h b s e)
 
--- what stood in a bucket that wasn't touched after a position are the groups of its rows
+-- what was in a bucket that wasn't touched after a position are the groups of its rows
 pub stood_untouched : (n : ℕ) (def : ViewDef) (g : History) (s : ℕ) (b : ℤ) → touched n def g b s ≡ false → groups_at_last n def g s b ≡ groups_in def.fold (rows def.table g) b
 stood_untouched n def start s b e = refl
 stood_untouched n def (resumed i) s b e =
@@ -132,7 +132,7 @@ stood_untouched n def (resumed i) s b e =
     ] e
 stood_untouched n def (g ▸ x) s b e = refl
 
--- what wasn't touched wasn't touched earlier
+-- a bucket that wasn't touched wasn't touched earlier
 pub touched_prefix : (n : ℕ) (def : ViewDef) (h : History) (b : ℤ) (s p : ℕ) → touched n def h b s ≡ false → touched n def (prefix h p) b s ≡ false
 touched_prefix n def start b s p e = e
 touched_prefix n def (resumed i) b s p e = e

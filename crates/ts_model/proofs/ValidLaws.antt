@@ -64,7 +64,7 @@ valid_is i ok =
 
 -- ---- what is kept of an aggregate
 
--- whatever holds of nothing kept, and of what is kept of each aggregate, holds of what is kept at a place
+-- what is true of nothing kept, and of what is kept of each aggregate, is true of what is kept at a place
 kept_at : (P : Option ViewDef → SavedView → Type 0) (p : ℕ) (rows_of : ℕ → List Row) (defs : List ViewDef) (vs : List SavedView) (n : ℕ) → P None nothing_saved → ((def : ViewDef) (v : SavedView) → view_kept p def (rows_of def.table) v ≡ true → P (Some def) v) → views_kept p rows_of defs vs ≡ true → P (slice_get defs n) (unwrap_or (slice_get vs n) nothing_saved)
 kept_at P p rows_of [] [] n none some e = none
 kept_at P p rows_of [] (v ∷ vs) n none some e = absurd (true≢false (sym e))
@@ -183,7 +183,7 @@ no_rows fold v (row ∷ rows) b width bucket last clean above e =
     all_of true true true m a b c d = absurd (true≢false c)
     all_of true true false true a b c d = absurd (true≢false d)
 
--- what is kept of an aggregate with this table and this grouping, where it is there
+-- what is kept of an aggregate with this table and this grouping, if it exists
 pub record KeptFacts (def : ViewDef) (i : Image) (v : SavedView) : Type 0 where
   pub lasts : (b : ℤ) (s : ℕ) → pos_in v.lasts b ≡ Some s → LastsAt def i.pos v.lasts b s
   pub marked : IfSome v.mark (IsMark def.fold.width)
@@ -271,9 +271,9 @@ numbers_upto r p (w ∷ ws) e =
 pub waiting_upto : (i : Image) → valid i ≡ true → AllByRecursion (λ (w : WaitingRefresh). w.cut ≤ i.pos) i.waiting
 waiting_upto i ok = numbers_upto (image_roster i) i.pos i.waiting (and_parts (list_all (λ (w : WaitingRefresh). is_number i.pos w.cut && span_fits w.span (view_of (image_roster i) w.view)) i.waiting) _ (valid_is i ok).waiting).0
 
--- ---- what became of a refresh, by an image
+-- ---- the outcome of a refresh, by an image
 
--- a span that it tells is one among those that wait, of a number up to its position
+-- a span that it states is one of a waiting refresh, with a number up to its position
 pub span_within : (i : Image) (n k : ℕ) (span : Span) → span_of_cut n (resumed i) k ≡ Some span → (k ≤ i.pos) × (span_among n i.waiting k ≡ Some span)
 span_within i n k span e =
     elim (nat_le k i.pos) as (λ t. nat_le k i.pos ≡ t → cond t (span_among n i.waiting k) None ≡ Some span → (k ≤ i.pos) × (span_among n i.waiting k ≡ Some span)) [
@@ -281,7 +281,7 @@ span_within i n k span e =
       | false ↦ λ _ f. absurd (cc)
     ] refl e
 
--- and it tells each of them
+-- and it states each of them
 pub span_told : (i : Image) (n k : ℕ) → k ≤ i.pos → span_of_cut n (resumed i) k ≡ span_among n i.waiting k
 span_told i n k l = cond-true (nat_le k i.pos) (span_among n i.waiting k) None (le-leb k i.pos l)
 
@@ -293,7 +293,7 @@ known_among i k q known e =
       | false ↦ λ f. absurd (true≢false (sym known ∙ sym (ap is_known f)))
     ] e
 
--- ---- an aggregate that isn't there
+-- ---- a missing aggregate
 
 pub absent_kept : (n : ℕ) (i : Image) → valid i ≡ true → view_of (image_roster i) n ≡ None → saved_view n i ≡ nothing_saved
 absent_kept n i ok none = kept_of n i (λ o v. o ≡ None → v ≡ nothing_saved) ok (λ _. refl) (λ def v kept e. absurd (cc)) none

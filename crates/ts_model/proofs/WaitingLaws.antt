@@ -1,4 +1,4 @@
--- The refreshes that wait are, for each number, what pending says of it.
+-- For each number, the waiting refreshes are what pending says of it.
 use Rattle.std.proofs.Common.{◌≡◌, ℕ, suc, ◌≤◌, ◌<◌, Bool, true, false, ◌&&◌, not, cond, nat_lt, nat_le, ◌==◌, List, [], ◌∷◌, ◌++◌, map, filter, Some, None, sym, refl, ap, ◌∙◌, subst, arith}
 use Rattle.std.specs.Prelude.{is_some}
 use Rattle.std.specs.List.{list_all, AllByRecursion}
@@ -101,7 +101,7 @@ none_after p k (r ∷ rs) l u =
     apart : (c k : ℕ) → c < k → (c == k) ≡ false
     apart c k l = grind (arith, nat_tests)
 
--- a cut that is no other refresh's
+-- a cut with a number that no other refresh has
 same_over : (h : History) (v : ℕ) (span : Span) (k : ℕ) → (k == suc (position h)) ≡ false → (p : Pending) → waiting_as (h ▸ Cut v span) k p ≡ waiting_as h k p
 same_over h v span k other (Waiting n) = ap (λ t. waiting_over k n (cond (t && v == n) (Some span) (span_of_cut n h k))) other
 same_over h v span k other (Finished f) = refl
@@ -172,7 +172,7 @@ after_built h cut snap k before =
       | false ↦ λ other. kept k cut (waiting h) other ∙ before ∙ sym (same_finish h cut snap k (pending h k))
     ] refl
 
--- an event that is no cut
+-- an event other than a cut
 same_spans : (g h : History) (k : ℕ) → ((n : ℕ) → span_of_cut n g k ≡ span_of_cut n h k) → (p : Pending) → waiting_as h k p ≡ waiting_as g k p
 same_spans g h k e (Waiting n) = ap (waiting_over k n) (sym (e n))
 same_spans g h k e (Finished f) = refl
@@ -282,7 +282,7 @@ finish_spanned h k f (Waiting n) = refl
 finish_spanned h k f (Finished g) = refl
 finish_spanned h k f Unknown = refl
 
--- an event that is no cut
+-- an event other than a cut
 still_spanned : (g h : History) (k : ℕ) → ((n : ℕ) → span_of_cut n g k ≡ span_of_cut n h k) → (p : Pending) → has_span g k p ≡ has_span h k p
 still_spanned g h k e (Waiting n) = ap is_some (e n)
 still_spanned g h k e (Finished f) = refl

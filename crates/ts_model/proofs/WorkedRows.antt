@@ -1,4 +1,5 @@
--- Worked rows: small histories, with every cell, stale range, window and watermark that they show, computed on the definitions.
+-- Worked examples: small histories, and every cell, stale range, window and watermark of their answers,
+-- computed from the definitions.
 use Rattle.std.proofs.Common.{◌≡◌, ℕ, Bool, true, false, List, [], ◌∷◌, ℤ, pos, negsuc, Option, Some, None, refl}
 use Rattle.std.specs.Prelude.{codes}
 use Rattle.std.specs.List.{flat_map}
@@ -189,7 +190,7 @@ crossed_again_answer : answer (Aggregate 0 (span 100 200)) (crossed ▸ Cut 0 (s
 unfolding numbers_from
 crossed_again_answer = refl
 
--- ---- two refreshes of the same buckets: the one with the later snapshot stands, though it finishes first
+-- ---- two refreshes of the same buckets: the one with the later snapshot wins, though it finishes first
 
 abbrev overlapping : History
 overlapping = base ▸ inserted_rows (row 120 1 7 ∷ []) ▸ Cut 0 (span 100 200) ▸ inserted_rows (row 121 1 1 ∷ []) ▸ Cut 0 (span 100 200) ▸ Built 7 7 ▸ Built 5 5
@@ -248,7 +249,7 @@ drop_effect = refl
 drop_again_effect : commit_result (Delete 0 (record { col = 0; cmp = Lt; num = pos 200 } ∷ []) ∷ []) dropped ≡ record { pos = 8; inserted = 0; removed = 0 }
 drop_again_effect = refl
 
--- the aggregate keeps what was refreshed, and names it stale
+-- the aggregate keeps what was refreshed, and reports it stale
 dropped_answer : answer (Aggregate 0 (span 0 300)) dropped ≡ record { rows = cells 50 1 5 ∷ cells 150 1 6 ∷ cells 220 1 7 ∷ []; stale = span 50 160 ∷ [] }
 unfolding numbers_from
 dropped_answer = refl

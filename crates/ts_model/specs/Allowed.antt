@@ -18,7 +18,7 @@ all_allowed start = true
 all_allowed (resumed i) = valid i
 all_allowed (h ▸ e) = all_allowed h && allowed h e
 
--- an event is consistent with a history: it could come next, were histories without end
+-- an event is consistent with a history: it could come next if histories had no end
 abbrev pub consistent : History → Event → Bool
 consistent h e = sound h e && timely_at h e
 

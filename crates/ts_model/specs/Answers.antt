@@ -45,13 +45,13 @@ numbers_in span = numbers_from span.lo (count_of (span.hi -ℤ span.lo))
 abbrev pub buckets_in : Width → Span → List ℤ
 buckets_in w starts = filter (λ b. is_bucket w b && int_le (first_of w) b) (numbers_in starts)
 
--- what the last refresh of a bucket has left: its aggregation at that refresh's snapshot, or no row
+-- what the last refresh of a bucket stored: its aggregation at that refresh's snapshot, or no row
 abbrev pub left_by : ℕ → ViewDef → History → ℤ → Option ℕ → List (List Datum)
 left_by n def h b None = []
 left_by n def h b (Some s) = scratch_at n def h s b
 
--- what an aggregate shows of a bucket: if it is stale, what its last refresh has left; otherwise the aggregation from
--- scratch, but nothing at or above the watermark if it shows materialized rows only
+-- what an aggregate shows of a bucket: if it is stale, what its last refresh stored; otherwise the aggregation
+-- from scratch. It shows nothing at or above the watermark if it shows materialized rows only
 abbrev pub shown : ℕ → ViewDef → History → ℤ → List (List Datum)
 shown n def h b =
     cond (stale n def h b) (left_by n def h b (last n h b))
@@ -64,7 +64,7 @@ with_bucket w b [] = record { lo = b; hi = b +ℤ w.step } ∷ []
 with_bucket w b (s ∷ ss) =
     cond (int_eq (b +ℤ w.step) s.lo) (record { lo = b; hi = s.hi } ∷ ss) (record { lo = b; hi = b +ℤ w.step } ∷ s ∷ ss)
 
--- the buckets that pass a test, as ranges: buckets that follow one another are in one range
+-- the buckets that pass a test, as ranges: adjacent buckets are in one range
 abbrev pub ranges : Width → (ℤ → Bool) → List ℤ → List Span
 ranges w test [] = []
 ranges w test (b ∷ bs) = cond (test b) (with_bucket w b (ranges w test bs)) (ranges w test bs)
@@ -81,7 +81,7 @@ answer_of_view n h starts (Some def) = record {
   stale = ranges def.fold.width (stale n def h) (buckets_in def.fold.width starts);
 }
 
--- a row with all its columns in declared order, where the time column is at this place
+-- a row with all its columns in declared order, if the time column is at this place
 abbrev pub all_columns : ℕ → Row → List Datum
 all_columns at row = map shown_or_null (insert row.vals at (Some row.at))
 
@@ -96,7 +96,7 @@ answer (Rows t tests) h = record { rows = passing_rows (rows t h) tests (hyper_o
 answer (Buckets t fold) h = record { rows = fold_rows fold (rows t h); stale = [] }
 answer (Aggregate n starts) h = answer_of_view n h starts (view_of (roster h) n)
 
--- a history with a queue of operations as one commit on top, where there are any
+-- a history with a queue of operations as one commit on top, if there are any
 abbrev pub with_queue : List Op → History → History
 with_queue [] h = h
 with_queue (op ∷ ops) h = h ▸ Commit (op ∷ ops)
@@ -109,7 +109,7 @@ columns_are_there n fold =
     list_all (λ k. nat_lt k n) fold.keys && list_all (λ agg. nat_lt agg.col n) fold.aggs
     && list_all (λ t. nat_lt t.col n) fold.tests
 
--- the hypertable or the aggregate of a query is there, and so are the columns that it names
+-- the hypertable or the aggregate of a query exists, and so do the columns that it names
 abbrev pub can_ask : Roster → Query → Bool
 can_ask r (Rows t tests) =
     of_table (λ def hyper. list_all (λ test. nat_lt test.col (length def.cols)) tests) (table_of r t)

@@ -1,7 +1,7 @@
--- The bytes that an event takes in a journal: 8 for a time, a bound, a number or a position; 4 for the number of a
--- table, of an aggregate or of a column, and for a column's place; 1 for a kind, a flag, a function or a comparison,
--- and before each value, to tell NULL. Before a list stands its count: in 4 bytes that of tests, rows or operations, in
--- 1 any other, as the length of a name.
+-- The bytes that an event takes in a journal. A time, a bound, a number or a position takes 8. The number of a
+-- table, an aggregate or a column takes 4, and so does a column's place. A kind, a flag, a function or a
+-- comparison takes 1, and so does the mark of NULL before each value. The count before a list takes 4 for
+-- tests, rows or operations, and 1 otherwise, such as for the length of a name.
 use Rattle.std.specs.Prelude.{ℕ, ◌+◌, ◌*◌, List, length, sum_by, ℤ, Option, Some, None}
 use Rattle.ts_schema.specs.declared.rows.Row.{Row}
 use Rattle.ts_model.specs.declared.events.Event.{Event}

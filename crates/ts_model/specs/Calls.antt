@@ -28,7 +28,7 @@ use Rattle.ts_model.specs.Pending.{pending}
 use Rattle.ts_model.specs.Windows.{window}
 use Rattle.ts_model.specs.States.{State, Found, Keeps, Makes, Fails, stands_still}
 
--- what a call does at a history: it is refused, returns something, or makes one event and returns something
+-- what a call does at a history: it is refused, returns something, or creates one event and returns something
 pub data Act (A : Type 0) : Type 0 where
   refuses : Refusal → Act A
   returns : A → Act A
@@ -40,8 +40,8 @@ pub data Act (A : Type 0) : Type 0 where
 abbrev pub refusal : ℕ → History → ℕ → Refusal
 refusal code h mark = record { code = code; pos = position h; mark = mark }
 
--- an event is made, with what is said of it, unless the history is at its end. Each call makes its event through this
--- word
+-- an event is created, with what is said of it, unless the history is at its end. Each call creates its event
+-- with this definition
 abbrev pub act_of_event : {A : Type 0} → History → Event → A → Act A
 act_of_event h e a = cond (has_room h) (makes e a) (refuses (refusal history_full h 0))
 
@@ -49,7 +49,7 @@ act_of_event h e a = cond (has_room h) (makes e a) (refuses (refusal history_ful
 abbrev pub act_with_number : History → Event → Act ℕ
 act_with_number h e = act_of_event h e (suc (position h))
 
--- a relation is made unless its name is taken, or there are as many of its kind as there may be
+-- a relation is created unless its name is taken or its kind has reached its limit
 abbrev pub new_relation : History → Bool → ℕ → Event → Act ℕ
 new_relation h taken many e =
     cond taken (refuses (refusal name_taken h 0))
@@ -61,7 +61,7 @@ making_table def h = new_relation h (is_taken (roster h) def.name) (length (rost
 abbrev pub making_view : ViewDef → History → Act ℕ
 making_view def h = new_relation h (is_taken (roster h) def.name) (length (roster h).views) (View def)
 
--- a table is made a hypertable unless it is one
+-- a table becomes a hypertable unless it is one
 abbrev pub making_hyper : ℕ → HyperInfo → History → Act ℕ
 making_hyper t hyper h =
     cond (is_some (hyper_of (roster h) t)) (refuses (refusal name_taken h 0)) (act_with_number h (Hyper t hyper))
@@ -80,7 +80,8 @@ commit_result ops h = record {
 abbrev pub act_of_commit : List Op → History → Act Committed
 act_of_commit ops h = act_of_event h (Commit ops) (commit_result ops h)
 
--- a refresh is cut over the whole buckets of its window; without one it is refused, or there is nothing to do
+-- a refresh is cut over the whole buckets of its window; without a whole bucket it is refused, or there is
+-- nothing to do
 abbrev pub cut_over : ℕ → History → Window → Act CutDone
 cut_over n h (Whole span) = act_of_event h (Cut n span) (CutMade (suc (position h)) span)
 cut_over n h NoBucket = refuses (refusal no_bucket h 0)
@@ -93,7 +94,7 @@ cut_of_view n lo hi h (Some def) = cut_over n h (window n def h lo hi)
 abbrev pub act_of_cut : ℕ → Option ℤ → Option ℤ → History → Act CutDone
 act_of_cut n lo hi h = cut_of_view n lo hi h (view_of (roster h) n)
 
--- a refresh is finished where it waits; else it is refused, with its finish where there was one
+-- a refresh is finished if it waits; otherwise it is refused, with its finish if there was one
 abbrev pub finish_of : ℕ → ℕ → History → Pending → Act ℕ
 finish_of cut snap h (Waiting n) = act_with_number h (Built cut snap)
 finish_of cut snap h (Finished f) = refuses (refusal no_refresh h f)
@@ -104,8 +105,8 @@ act_of_finish cut snap h = finish_of cut snap h (pending h cut)
 
 -- ---- what a call answers and leaves
 
--- what a call that does this at the history that it found answers, and the state that it leaves. An event is refused as
--- E24 exactly if the store has stopped
+-- what a call that does this at the history that it found answers, and the state that it leaves. An event is
+-- refused as E24 if and only if the store has stopped
 abbrev pub Answered : {A : Type 0} → Act A → State → Outcome A → State → Type 0
 Answered (refuses r) found (Done a) new = ⊥
 Answered (refuses r) found (Refused q) new = (q ≡ r) × Keeps found new
@@ -121,7 +122,7 @@ Answered (makes e a) found (Refused q) new =
 Answered (makes e a) found DiskFault new = Fails e found new
 Answered (makes e a) found NoMemory new = Keeps found new
 
--- a call that does this at whatever history it finds
+-- a call that does this at any history that it finds
 pub record Called {A : Type 0} (alone : Bool) (old : State) (act : History → Act A) (outcome : Outcome A)
     (new : State) : Type 0 where
   pub found : State
@@ -132,7 +133,7 @@ pub record Called {A : Type 0} (alone : Bool) (old : State) (act : History → A
 abbrev pub Snapped : {Shot E : Type 0} → (Shot → History → Type 0) → Result Shot E → History → Type 0
 Snapped stands result h = IsTrue (all_allowed h) × IfOk result (λ shot. stands shot h)
 
--- a call that looks at whatever history it finds, and changes nothing. What it tells is a fact of that history
+-- a call that reads any history that it finds, and changes nothing. What it reports is a fact of that history
 pub record Looked (alone : Bool) (old : State) (Tells : History → Type 0) (new : State) : Type 0 where
   pub found : State
   pub finds : Found alone old found

@@ -6,7 +6,7 @@ use Rattle.partial_agg.specs.declared.groups.Group.{Group}
 use Rattle.ts_model.specs.declared.views.Agg.{Agg}
 use Rattle.ts_model.specs.Groups.{cells_by}
 
--- the cell of a row at a place, and NULL where there is none
+-- the cell of a row at a place, and NULL if there is none
 abbrev pub cell_or_null : List Datum → ℕ → Datum
 cell_or_null cells place = slice_index_or cells place Null
 

@@ -59,7 +59,7 @@ cells_by aggs group = Int group.start ∷ (map shown_or_null group.keys ++ shown
 abbrev pub cells_of : Fold → Group → List Datum
 cells_of fold group = cells_by fold.aggs group
 
--- ---- what rows have to have
+-- ---- what rows must have
 
 -- a row has a time, and the columns that a fold reads
 pub record RowFits (fold : Fold) (row : Row) : Type 0 where
@@ -71,16 +71,16 @@ pub record RowFits (fold : Fold) (row : Row) : Type 0 where
 abbrev pub RowsFit : Fold → List Row → Type 0
 RowsFit fold rows = AllByRecursion (RowFits fold) rows
 
--- ---- what stood in a bucket
+-- ---- what was in a bucket
 
--- what stood in a bucket at position s, as groups, where a history was last at that position or begins above it. Below
--- an image, it is what the image has saved of a dirty bucket, and in another what stands there
+-- the groups of a bucket at position s, if a history was last at that position or begins above it. Below an
+-- image, these are the saved groups of a dirty bucket, and the present groups of any other
 abbrev pub groups_at_last : ℕ → ViewDef → History → ℕ → ℤ → List Group
 groups_at_last n def (resumed i) s b =
     cond (nat_lt s i.pos && is_dirty n i b) (saved_groups n i b) (groups_in def.fold (rows def.table (resumed i)) b)
 groups_at_last n def h s b = groups_in def.fold (rows def.table h) b
 
--- what stood in a bucket at position s of a history
+-- what was in a bucket at position s of a history
 abbrev pub groups_at : ℕ → ViewDef → History → ℕ → ℤ → List Group
 groups_at n def h s b = groups_at_last n def (prefix h s) s b
 

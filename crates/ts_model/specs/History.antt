@@ -1,8 +1,8 @@
 -- Histories: what happened, event by event.
 --
--- Letters, here and in all that speaks of histories: h is a history, and g another; p is a position, s that of a
--- snapshot, k the number of an event or of a refresh; n is the number of an aggregate, t of a table (or a time); b is
--- the start of a bucket; e is an event, i an image.
+-- Letters in all definitions about histories: h and g are histories. p is a position, s that of a snapshot, and
+-- k the number of an event or of a refresh. n is the number of an aggregate, and t that of a table (or a time).
+-- b is the start of a bucket, e an event, and i an image.
 use Rattle.std.specs.Prelude.{ℕ, zero, suc, cond, nat_lt, ◌==◌, List, [], ◌∷◌, ◌++◌, Option, Some, None}
 use Rattle.ts_model.specs.declared.events.Event.{Event}
 use Rattle.ts_model.specs.declared.images.Image.{Image}
@@ -47,7 +47,7 @@ abbrev pub ◌▸▸◌ : History → List Event → History
 h ▸▸ [] = h
 h ▸▸ (e ∷ es) = (h ▸ e) ▸▸ es
 
--- a history begins with itself, and with whatever it began with before its last event
+-- a history begins with itself, and with all that it began with before its last event
 pub data Begins (old : History) : History → Type 0 where
   same : Begins old old
   further : {h : History} {e : Event} → Begins old h → Begins old (h ▸ e)

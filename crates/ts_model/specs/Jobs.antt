@@ -1,4 +1,4 @@
--- Jobs: what is made for a refresh at its snapshot, and when it fits a history.
+-- Jobs: the groups computed for a refresh at its snapshot, and when a job fits a history.
 use Rattle.std.specs.Prelude.{◌≡◌, ℕ, ◌≤◌, Bool, true, false, ◌&&◌, List, filter, ℤ, int_lt, int_le, Option, Some}
 use Rattle.std.specs.List.{list_all}
 use Rattle.ts_bucket.specs.Bucket.{bucket_of, is_bucket}
@@ -29,7 +29,7 @@ is_part_of w whole part =
     is_bucket w part.lo && is_bucket w part.hi && int_le whole.lo part.lo && int_lt part.lo part.hi
     && int_le part.hi whole.hi
 
--- the rows that a job is made of: those of its spans at its snapshot
+-- the rows of a job: those of its spans at its snapshot
 abbrev pub job_rows : ViewDef → History → ℕ → List Span → List Row
 job_rows def h snap spans = rows_of_spans def.fold spans (rows_at def.table h snap)
 
@@ -48,7 +48,7 @@ pub record Fits (n : ℕ) (def : ViewDef) (h : History) (cut snap : ℕ) (span :
   pub groups_are : groups ≡ groups_of def.fold (job_rows def h snap spans)
   -- its top is the greatest end of a bucket with a group
   pub top_is : top ≡ last_end def.fold.width (job_rows def h snap spans)
-  -- each other bucket of the span is covered by a finished refresh, and no commit touched it between that one's
-  -- snapshot and this
+  -- each other bucket of the span is covered by a finished refresh, and no commit touched it between that
+  -- refresh's snapshot and this one
   pub others : (b : ℤ) → is_bucket def.fold.width b ≡ true → in_span span b ≡ true → lies_in spans b ≡ false
       → (r : ℕ) × (r ≤ snap) × (was_refreshed n h b r ≡ true) × (is_above r (last_touch_at n def h snap b) ≡ false)

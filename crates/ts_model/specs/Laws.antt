@@ -105,30 +105,30 @@ abbrev pub KeepsHyper : Option Hyper → Option Hyper → Type 0
 KeepsHyper None now = Unit {0}
 KeepsHyper (Some hyper) now = now ≡ Some hyper
 
--- a table is still there, with its definition, and a hypertable is still the same hypertable
+-- a table still exists, with its definition, and a hypertable is still the same hypertable
 pub record KeepsTable (was : TableInfo) (found : Option TableInfo) : Type 0 where
   pub info : TableInfo
   pub there : found ≡ Some info
   pub def : info.def ≡ was.def
   pub hyper : KeepsHyper was.hyper info.hyper
 
--- an aggregate is still there, and nothing of it but its mode has changed
+-- an aggregate still exists, and only its mode may have changed
 pub record KeepsView (was : ViewDef) (found : Option ViewDef) : Type 0 where
   pub only : Bool
   pub there : found ≡ Some (set_only only was)
 
--- no table, no aggregate, no name and no kind is taken away
+-- no table, aggregate, name or kind is removed
 pub record KeepsRelations (old new : Roster) : Type 0 where
   pub tables : (t : ℕ) (info : TableInfo) → table_of old t ≡ Some info → KeepsTable info (table_of new t)
   pub views : (n : ℕ) (def : ViewDef) → view_of old n ≡ Some def → KeepsView def (view_of new n)
   pub table_names : (name : List ℕ) (t : ℕ) → table_named old name ≡ Some t → table_named new name ≡ Some t
   pub view_names : (name : List ℕ) (n : ℕ) → view_named old name ≡ Some n → view_named new name ≡ Some n
 
--- names and kinds are never taken away
+-- names and kinds are never removed
 abbrev pub RelationsStay : Type 0
 RelationsStay = (g h : History) → Begins g h → KeepsRelations (roster g) (roster h)
 
--- what makes a table a hypertable fits its columns, where it is one
+-- what makes a table a hypertable fits its columns, if it is one
 abbrev pub is_hyper_sound : TableInfo → Option Hyper → Bool
 is_hyper_sound info None = true
 is_hyper_sound info (Some hyper) = hyper_fits hyper (Some info)
@@ -137,7 +137,7 @@ is_hyper_sound info (Some hyper) = hyper_fits hyper (Some info)
 abbrev pub is_table_sound : TableInfo → Bool
 is_table_sound info = sound_in no_relations (Table info.def) && is_hyper_sound info info.hyper
 
--- all that a roster holds is there and in range, and there are no more tables and aggregates than there may be
+-- all that a roster names exists and is in range, and the numbers of tables and aggregates keep their limits
 pub record IsSoundRoster (r : Roster) : Type 0 where
   pub tables : (t : ℕ) (info : TableInfo) → table_of r t ≡ Some info → is_table_sound info ≡ true
   pub views : (n : ℕ) (def : ViewDef) → view_of r n ≡ Some def → sound_in r (View def) ≡ true
@@ -158,8 +158,8 @@ WidthsAreSound =
 abbrev pub fits_table : Roster → ℕ → Row → Bool
 fits_table r t row = of_table (λ def hyper. row_fits def hyper row) (table_of r t)
 
--- each row that was ever inserted into a table of a consistent history fits the table, and so does each that it has at
--- a position
+-- each row that was ever inserted into a table of a consistent history fits the table, and so does each of its
+-- rows at a position
 pub record RowsFitTables : Type 0 where
   pub inserted : (t : ℕ) (h : History) → all_consistent h ≡ true → list_all (fits_table (roster h) t) (rows_inserted t h) ≡ true
   pub rows :
@@ -171,7 +171,7 @@ pub record RowsAreTimes : Type 0 where
   pub rows :
       (t : ℕ) (h : History) (s : ℕ) → all_consistent h ≡ true → list_all (λ row. is_time row.at) (rows_at t h s) ≡ true
 
--- and the columns of each fold that may be asked of the table, which the fold of each of its aggregates may
+-- and the columns of each fold that may be asked of the table; the fold of each of its aggregates may be asked
 pub record RowsHaveColumns : Type 0 where
   pub inserted : (t : ℕ) (fold : Fold) (h : History) → all_consistent h ≡ true → can_ask (roster h) (Buckets t fold) ≡ true
       → RowsFit fold (rows_inserted t h)
@@ -188,7 +188,7 @@ pub record MarksAreEnds : Type 0 where
   pub ends : (n : ℕ) (def : ViewDef) (h : History) → all_consistent h ≡ true → view_of (roster h) n ≡ Some def
       → IfSome (greater (watermark n def h) (last_end def.fold.width (rows def.table h))) (IsMark def.fold.width)
 
--- an event whose parts are there and in range stays so as a history grows
+-- an event whose parts exist and are in range stays so as a history grows
 abbrev pub SoundStays : Type 0
 SoundStays = (g h : History) (e : Event) → Begins g h → sound g e ≡ true → sound h e ≡ true
 
@@ -196,7 +196,7 @@ SoundStays = (g h : History) (e : Event) → Begins g h → sound g e ≡ true �
 abbrev pub AnswersStay : Type 0
 AnswersStay = (query : Query) (g h : History) → Begins g h → answer query (prefix h (position g)) ≡ answer query g
 
--- a job that fits a history fits every history that begins with it, and its groups are made of the same rows
+-- a job that fits a history fits every history that begins with it, and its groups are those of the same rows
 abbrev pub FitsStays : Type 0
 FitsStays =
     (n : ℕ) (def : ViewDef) (g h : History) (cut snap : ℕ) (span : Span) (spans : List Span) (groups : List Group)
@@ -210,13 +210,13 @@ MakesAllowed h (refuses r) = Unit {0}
 MakesAllowed h (returns a) = Unit {0}
 MakesAllowed h (makes e a) = allowed h e ≡ true
 
--- the cut of the whole buckets of a window is sound, also where the history is at its end
+-- the cut of the whole buckets of a window is sound, even if the history is at its end
 abbrev pub SoundCut : ℕ → History → Window → Type 0
 SoundCut n h (Whole span) = sound h (Cut n span) ≡ true
 SoundCut n h NoBucket = Unit {0}
 SoundCut n h Nothing = Unit {0}
 
--- each call makes allowed events only, where what it is given is sound
+-- each call creates only allowed events, if its arguments are sound
 pub record CallsMakeAllowed : Type 0 where
   pub tables : (def : TableDef) (h : History) → sound h (Table def) ≡ true → MakesAllowed h (making_table def h)
   pub hypers :
@@ -251,15 +251,15 @@ Rises cmp (x ∷ xs) = (list_all (λ y. is_lt (cmp x y)) xs ≡ true) × Rises c
 -- these are the keys that occur, each once, in order
 pub record IsOnce {K : Type 0} (cmp : K → K → Ordering) (keys found : List K) : Type 0 where
   pub rising : Rises cmp found
-  -- whatever test some key passes, some found key passes, and the other way round
+  -- some key passes a test if and only if some found key does
   pub occurring : (test : K → Bool) → list_any test found ≡ list_any test keys
 
--- the rows of a table stand in row order, each as often as it is there
+-- the rows of a table are in row order, each as often as it occurs
 abbrev pub RowsStandInOrder : Type 0
 RowsStandInOrder = (t : ℕ) (h : History) → InOrder row_cmp (rows t h)
 
--- the result rows of a bucket come one for each list of keys that occurs, in order, and the buckets of a query once
--- each, in order
+-- a bucket has one result row for each list of keys that occurs, in order, and a query has each bucket once, in
+-- order
 pub record ResultsComeInOrder : Type 0 where
   pub keys : (fold : Fold) (group : List Row) → IsOnce values_cmp (map (keys_of fold.keys) group) (key_lists fold group)
   pub buckets : (fold : Fold) (rows : List Row)
@@ -276,7 +276,7 @@ SumsFit =
     (vs : List ℤ) → AllByRecursion IsWord vs → length vs < 2 ^ 62
     → (neg_ℤ (pos (2 ^ 125)) ≤ℤ sum_of vs) × (sum_of vs ≤ℤ pos (2 ^ 125))
 
--- rows put in their places come in as often as they are given, and none is lost: as many pass each test
+-- rows inserted in their places are there as often as they are given, and none is lost: as many pass each test
 abbrev pub InsertsKeepAll : Type 0
 InsertsKeepAll =
     (test : Row → Bool) (new rows : List Row)

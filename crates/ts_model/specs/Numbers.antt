@@ -1,7 +1,7 @@
 -- The numbers of refusals, as replies print them: 7 is E07.
 use Rattle.std.specs.Prelude.{ℕ}
 
--- an event isn't allowed next, and no call makes such a one; no reply prints it
+-- an event isn't allowed next; no call creates one like it, and no reply prints this number
 abbrev pub no_number : ℕ
 no_number = 0
 
@@ -9,7 +9,7 @@ no_number = 0
 abbrev pub line_long : ℕ
 line_long = 1
 
--- a byte of 128 or more stands before the comment of a line
+-- a byte of 128 or more is before the comment of a line
 abbrev pub not_ascii : ℕ
 not_ascii = 2
 
@@ -33,7 +33,7 @@ no_relation = 6
 abbrev pub name_taken : ℕ
 name_taken = 7
 
--- no column of the relation has the name, or it isn't the column that is wanted
+-- no column of the relation has the name, or it isn't the required column
 abbrev pub no_column : ℕ
 no_column = 8
 
@@ -41,19 +41,19 @@ no_column = 8
 abbrev pub bad_time : ℕ
 bad_time = 9
 
--- a number isn't one of 64 bits
+-- a number doesn't fit 64 bits
 abbrev pub bad_number : ℕ
 bad_number = 10
 
--- a row has another count of values than columns are listed
+-- a row doesn't have one value per listed column
 abbrev pub value_count : ℕ
 value_count = 11
 
--- NULL in the time column or in a NOT NULL column, or the column list of an INSERT leaves such a column out
+-- NULL in the time column or in a NOT NULL column, or the column list of an INSERT omits such a column
 abbrev pub null_value : ℕ
 null_value = 12
 
--- the relation is there and isn't a hypertable
+-- the relation exists and isn't a hypertable
 abbrev pub not_hypertable : ℕ
 not_hypertable = 13
 
@@ -66,11 +66,11 @@ bad_width = 14
 abbrev pub no_bucket : ℕ
 no_bucket = 15
 
--- the statement may not stand in a write block
+-- the statement may not be in a write block
 abbrev pub in_write_block : ℕ
 in_write_block = 16
 
--- the statement may not stand in a read block
+-- the statement may not be in a read block
 abbrev pub in_read_block : ℕ
 in_read_block = 17
 
@@ -86,11 +86,11 @@ no_refresh = 19
 abbrev pub no_snapshot : ℕ
 no_snapshot = 20
 
--- there are as many as there may be
+-- the limit is reached
 abbrev pub too_many : ℕ
 too_many = 21
 
--- the relation is there and isn't an aggregate
+-- the relation exists and isn't an aggregate
 abbrev pub not_aggregate : ℕ
 not_aggregate = 22
 

@@ -1,4 +1,4 @@
--- Pending refreshes: what became of each refresh, and which wait.
+-- Pending refreshes: the outcome of each refresh, and which refreshes wait.
 use Rattle.std.specs.Prelude.{ℕ, suc, Bool, true, false, not, cond, nat_le, ◌==◌, List, [], ◌∷◌, ◌++◌, filter}
 use Rattle.ts_model.specs.declared.events.Event.TheVariants.{Cut, Built}
 use Rattle.ts_model.specs.declared.refreshes.Pending.{Pending}
@@ -12,8 +12,8 @@ abbrev pub finished_by : ℕ → Pending → Pending
 finished_by k (Waiting n) = Finished k
 finished_by k p = p
 
--- what became of refresh number k: it waits from its cut until a Built names it. An image tells it of numbers up to
--- its position
+-- the outcome of refresh number k: it waits from its cut until a Built names it. For numbers up to its
+-- position, an image states it
 abbrev pub pending : History → ℕ → Pending
 pending start k = Unknown
 pending (resumed i) k = cond (nat_le k i.pos) (pending_among i.waiting i.done k) Unknown

@@ -15,7 +15,7 @@ pub record PositionsCount : Type 0 where
   pub counted : (h : History) → position h ≡ base_position h + length (events_of h)
   pub kept : (g h : History) → Begins g h → root h ≡ root g
 
--- what is at a position of a history is what the history with that position has
+-- the state at a position of a history is that of the history's prefix with that position
 pub record AtPositions : Type 0 where
   pub rows : (t : ℕ) (h : History) (s : ℕ) → rows_at t h s ≡ rows t (prefix h s)
   pub groups : (n : ℕ) (def : ViewDef) (h : History) (s : ℕ) (b : ℤ) → base_position h ≤ s

@@ -1,4 +1,4 @@
--- Reads: how many stored rows an answer or a snapshot of a refresh looks at.
+-- Reads: how many stored rows an answer or a snapshot of a refresh reads.
 use Rattle.std.specs.Prelude.{ℕ, Bool, ◌&&◌, cond, not, List, [], ◌∷◌, ◌++◌, map, length, filter, count_by, sum_by, ℤ, int_le, int_lt, Option, Some, None}
 use Rattle.std.specs.List.{list_any}
 use Rattle.std.specs.Int.{int_min, int_max}
@@ -32,7 +32,7 @@ rows_inserted t (h ▸ e) = rows_inserted t h
 abbrev pub spans_meet : Span → Span → Bool
 spans_meet a b = int_lt a.lo b.hi && int_lt b.lo a.hi && int_lt a.lo a.hi && int_lt b.lo b.hi
 
--- what a span has between two bounds
+-- the part of a span between two bounds
 abbrev pub clip : ℤ → ℤ → Span → Span
 clip low high span = record { lo = int_max low span.lo; hi = int_min high span.hi }
 
@@ -45,7 +45,7 @@ chunk_within low high interval row =
 abbrev pub rows_near : ℤ → List Row → List Span → ℕ
 rows_near interval stored spans = count_by (λ row. list_any (spans_meet (chunk_of interval row.at)) spans) stored
 
--- the same for a table, which has chunks where it is a hypertable
+-- the same for a table, which has chunks if it is a hypertable
 abbrev pub rows_near_in : Option HyperInfo → List Row → List Span → ℕ
 rows_near_in None stored spans = 0
 rows_near_in (Some hyper) stored spans = rows_near hyper.interval stored spans

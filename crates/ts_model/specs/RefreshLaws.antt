@@ -42,8 +42,8 @@ pub record LastsAreLast : Type 0 where
   pub refreshed : (n : ℕ) (h : History) (b : ℤ) (s : ℕ) → last n h b ≡ Some s → was_refreshed n h b s ≡ true
   pub latest : (n : ℕ) (h : History) (b : ℤ) (r : ℕ) → was_refreshed n h b r ≡ true → is_before r (last n h b) ≡ false
 
--- the refresh that waits with a number, where one does: its aggregate is what pending says, and its span that of its
--- cut
+-- the waiting refresh with a number, if there is one: its aggregate is what pending says, and its span that of
+-- its cut
 abbrev pub waiting_over : ℕ → ℕ → Option Span → List WaitingRefresh
 waiting_over k n None = []
 waiting_over k n (Some span) = record { cut = k; view = n; span = span } ∷ []
@@ -59,8 +59,8 @@ has_span h k (Waiting n) = is_some (span_of_cut n h k)
 has_span h k (Finished f) = true
 has_span h k Unknown = true
 
--- the refreshes that wait are, for each number, what pending says of it, they come in rising order of their cuts, and
--- each has a span
+-- for each number, the waiting refreshes are what pending says of it; they are in rising order of their cuts,
+-- and each has a span
 pub record WaitingIsPending : Type 0 where
   pub exact : (h : History) (k : ℕ) → all_consistent h ≡ true
       → filter (λ r. r.cut == k) (waiting h) ≡ waiting_as h k (pending h k)
@@ -75,8 +75,8 @@ FinishesMark =
     → all_consistent h ≡ true → view_of (roster h) n ≡ Some def → Fits n def h cut snap span spans groups top
     → watermark n def (h ▸ Built cut snap) ≡ greater (watermark n def h) top
 
--- m is the end of a bucket that a finished refresh covers and that had a result row at its snapshot: before its finish
--- stood this history
+-- m is the end of a bucket that a finished refresh covers and that had a result row at its snapshot; this is
+-- the history before its finish
 pub record EndsARow (n : ℕ) (def : ViewDef) (h : History) (m : ℤ) : Type 0 where
   pub before : History
   pub cut : ℕ
@@ -95,7 +95,8 @@ MarksEndRows =
     (n : ℕ) (def : ViewDef) (h : History) → all_consistent h ≡ true → view_of (roster h) n ≡ Some def
     → IfSome (watermark n def h) (λ m. (watermark n def (root h) ≡ Some m) ⊎ EndsARow n def h m)
 
--- whether an aggregate shows materialized rows only has no effect on what is stale, or on what was in a bucket
+-- whether an aggregate shows materialized rows only has no effect on stale buckets, or on the groups of a
+-- bucket
 pub record ModePlaysNoPart : Type 0 where
   pub marks :
       (n : ℕ) (def : ViewDef) (only : Bool) (h : History) → watermark n (set_only only def) h ≡ watermark n def h

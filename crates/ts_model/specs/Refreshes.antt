@@ -1,5 +1,5 @@
--- Refreshes of an aggregate: what was last refreshed, what commits touched since, how far the watermark has come, and
--- what is stale.
+-- Refreshes of an aggregate: what was last refreshed, what commits touched since, the watermark, and what is
+-- stale.
 use Rattle.std.specs.Prelude.{ℕ, suc, Bool, true, false, ◌&&◌, ◌||◌, cond, nat_le, ◌==◌, List, [], ◌∷◌, ℤ, ◌+ℤ◌, Option, Some, None}
 use Rattle.std.specs.List.{list_any}
 use Rattle.ts_num.specs.Aggregates.{greater}
@@ -26,7 +26,7 @@ use Rattle.ts_model.specs.Roster.{roster, view_of}
 use Rattle.ts_model.specs.Rows.{rows, rows_at}
 use Rattle.ts_model.specs.Effect.{hull_of_ops}
 
--- the span of event k, where it is a cut of aggregate n. An image tells it of the refreshes that wait
+-- the span of event k, if it is a cut of aggregate n. For waiting refreshes, an image states it
 abbrev pub span_of_cut : ℕ → History → ℕ → Option Span
 span_of_cut n start k = None
 span_of_cut n (resumed i) k = cond (nat_le k i.pos) (span_among n i.waiting k) None
@@ -52,8 +52,8 @@ is_pos r (Some p) = p == r
 abbrev pub waits_over : ℕ → ℤ → ℕ → List WaitingRefresh → Bool
 waits_over n b s rs = list_any (λ r. r.view == n && in_span r.span b && nat_le r.cut s) rs
 
--- a bucket was cut: it lies in the span of a cut of aggregate n whose number is at most s. Where an image has a last
--- refresh, it was cut at or before that one
+-- a bucket was cut: it lies in the span of a cut of aggregate n whose number is at most s. If an image has a
+-- last refresh, it was cut at or before that one
 abbrev pub was_cut : ℕ → History → ℤ → ℕ → Bool
 was_cut n start b s = false
 was_cut n (resumed i) b s = is_by s (saved_last n i b) || waits_over n b s i.waiting
@@ -83,8 +83,8 @@ is_met w b (Some hull) = meets w b hull
 abbrev pub touches : ViewDef → List Op → History → ℤ → Bool
 touches def ops h b = is_met def.fold.width b (hull_of_ops def.table ops (rows def.table h))
 
--- the last touch of a bucket: the greatest number of a commit that touches it. A bucket that an image names dirty
--- counts as touched at the image's position
+-- the last touch of a bucket: the greatest number of a commit that touches it. A bucket that is dirty in an
+-- image counts as touched at the image's position
 abbrev pub last_touch : ℕ → ViewDef → History → ℤ → Option ℕ
 last_touch n def start b = None
 last_touch n def (resumed i) b = cond (is_dirty n i b) (Some i.pos) None
@@ -112,7 +112,7 @@ top_in fold span (row ∷ rows) =
 abbrev pub top_at : ViewDef → History → ℕ → Span → Option ℤ
 top_at def h s span = top_in def.fold span (rows_at def.table h s)
 
--- that end, where there is a span
+-- that end, if there is a span
 abbrev pub top_of : ViewDef → History → ℕ → Option Span → Option ℤ
 top_of def h s None = None
 top_of def h s (Some span) = top_at def h s span
@@ -133,7 +133,7 @@ is_invalid n def h b (Some s) = touched n def h b s
 abbrev pub invalid : ℕ → ViewDef → History → ℤ → Bool
 invalid n def h b = is_invalid n def h b (last n h b)
 
--- a bucket is stale where it is below the watermark and has no last refresh or was touched after it
+-- a bucket is stale if it is below the watermark and has no last refresh or was touched after it
 abbrev pub stale : ℕ → ViewDef → History → ℤ → Bool
 stale n def h b = is_below b (watermark n def h) && invalid n def h b
 
@@ -153,8 +153,8 @@ abbrev pub waiting_end : ℕ → Roster → List WaitingRefresh → Option ℤ
 waiting_end t r [] = None
 waiting_end t r (w ∷ ws) = greater (cond (is_over t (view_of r w.view)) (Some w.span.hi) None) (waiting_end t r ws)
 
--- the threshold of a table: the greatest end of a cut's span of an aggregate over it. By an image, it is that of all
--- that was last refreshed and of all that waits
+-- the threshold of a table: the greatest end of a cut's span of an aggregate over it. In an image, it is the
+-- greatest end of all that was last refreshed and of all waiting refreshes
 abbrev pub threshold : ℕ → History → Option ℤ
 threshold t start = None
 threshold t (resumed i) = greater (lasts_end t (roster (resumed i)).views i.views) (waiting_end t (roster (resumed i)) i.waiting)

@@ -8,11 +8,11 @@ use Rattle.ts_model.specs.declared.results.ResultRow.TheVariants.{Cells, Chosen,
 use Rattle.ts_model.specs.Chosen.{chosen_cells}
 use Rattle.ts_model.specs.Groups.{cells_by}
 
--- the cells of the result row of a group, of which its keys and its parts are at hand
+-- the cells of the result row of a group with these keys and parts
 abbrev pub group_cells : GroupRow → List Datum
 group_cells row = cells_by row.aggs.now (record { start = row.start; keys = row.keys.now; parts = row.parts.now })
 
--- the cells of a row: those that are made, or what its group shows, or those of it that are chosen
+-- the cells of a row: those that are stored, or those that its group shows, or the chosen ones of these
 abbrev pub row_cells : ResultRow → List Datum
 row_cells (Cells cells) = cells.now
 row_cells (Group row) = group_cells row

@@ -1,4 +1,4 @@
--- The roster of a history: the tables and aggregates that it has made.
+-- The roster of a history: the tables and aggregates that it has created.
 use Rattle.std.specs.Prelude.{◌≡◌, ℕ, zero, suc, Bool, false, ◌||◌, List, [], ◌∷◌, ◌++◌, Option, Some, None, is_some, unwrap_or, slice_get, position as place, nat_eq, option_and_then}
 use Rattle.std.specs.Cmp.Lexicographic.{pointwise}
 use Rattle.ts_model.specs.declared.events.Event.{Event}
@@ -14,7 +14,7 @@ use Rattle.ts_model.specs.History.{History, start, resumed, ◌▸◌}
 abbrev pub no_relations : Roster
 no_relations = record { tables = []; views = [] }
 
--- the list with its item at place i changed, where there is one
+-- the list with its item at place i changed, if there is one
 abbrev pub change_at : {X : Type 0} → List X → ℕ → (X → X) → List X
 change_at [] i f = []
 change_at (x ∷ xs) zero f = f x ∷ xs
@@ -28,7 +28,7 @@ made_hyper hyper info = record info { hyper = Some (unwrap_or info.hyper hyper) 
 abbrev pub set_only : Bool → ViewDef → ViewDef
 set_only only def = record def { only = only }
 
--- the roster after one more event: a new table or aggregate comes last, and nothing is taken away
+-- the roster after one more event: a new table or aggregate comes last, and nothing is removed
 abbrev pub roster_after : Roster → Event → Roster
 roster_after r (Table def) = record r { tables = r.tables ++ (record { def = def; hyper = None } ∷ []) }
 roster_after r (Hyper t hyper) = record r { tables = change_at r.tables t (made_hyper hyper) }
@@ -51,11 +51,11 @@ roster (h ▸ e) = roster_after (roster h) e
 abbrev pub table_of : Roster → ℕ → Option TableInfo
 table_of r t = slice_get r.tables t
 
--- what makes table number t a hypertable, where it is one
+-- what makes table number t a hypertable, if it is one
 abbrev pub hyper_of : Roster → ℕ → Option HyperInfo
 hyper_of r t = option_and_then (λ info. info.hyper) (table_of r t)
 
--- the test holds of a table, where it is a hypertable
+-- the test is true of a table, if it is a hypertable
 abbrev pub of_hyper : (TableDef → HyperInfo → Bool) → TableDef → Option HyperInfo → Bool
 of_hyper test def None = false
 of_hyper test def (Some hyper) = test def hyper
@@ -68,7 +68,7 @@ of_table test (Some info) = of_hyper test info.def info.hyper
 abbrev pub view_of : Roster → ℕ → Option ViewDef
 view_of r n = slice_get r.views n
 
--- an aggregate of which nothing but the mode may have changed, where it is there
+-- this aggregate, if it exists, in which only the mode may have changed
 abbrev pub IsOf : ViewDef → Option ViewDef → Type 0
 IsOf def None = Unit {0}
 IsOf def (Some found) = (found.table ≡ def.table) × (found.fold ≡ def.fold)

@@ -24,7 +24,7 @@ with_rows (x ∷ xs) rows = with_row x (with_rows xs rows)
 abbrev pub in_order : List Row → List Row
 in_order rows = with_rows rows []
 
--- the rows of table t after an operation: an insert puts its rows in, a delete keeps the rows that fail some test
+-- the rows of table t after an operation: an insert adds its rows, a delete keeps the rows that fail some test
 abbrev pub after_op : ℕ → Op → List Row → List Row
 after_op t (Insert u new) rows = cond (u == t) (with_rows new rows) rows
 after_op t (Delete u tests) rows = cond (u == t) (filter (λ row. not (passes_all row tests)) rows) rows

@@ -42,12 +42,12 @@ appended_over t (e ∷ es) = appended_over t es
 
 -- ---- refreshes
 
--- the span of refresh number k, where it is one of these and of aggregate n
+-- the span of refresh number k, if it is one of these and of aggregate n
 abbrev pub span_among : ℕ → List WaitingRefresh → ℕ → Option Span
 span_among n [] k = None
 span_among n (r ∷ rs) k = cond (k == r.cut && r.view == n) (Some r.span) (span_among n rs k)
 
--- what became of refresh number k, by those that were finished
+-- the outcome of refresh number k, by those that were finished
 abbrev pub finished_among : List FinishedRefresh → ℕ → Pending
 finished_among [] k = Unknown
 finished_among (f ∷ fs) k = cond (k == f.cut) (Finished f.built) (finished_among fs k)
@@ -91,7 +91,7 @@ group_of g = record { start = g.start; keys = g.keys; parts = map summary_of g.p
 abbrev pub groups_among : List SavedGroup → ℤ → List Group
 groups_among gs b = map group_of (filter (λ g. int_eq g.start b) gs)
 
--- what the last refresh of a dirty bucket has left
+-- what the last refresh of a dirty bucket stored
 abbrev pub saved_groups : ℕ → Image → ℤ → List Group
 saved_groups n i b = groups_among (saved_view n i).groups b
 

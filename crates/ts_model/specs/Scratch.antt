@@ -1,4 +1,4 @@
--- The aggregation from scratch: the result rows of a bucket, from nothing but the rows.
+-- The aggregation from scratch: the result rows of a bucket, from the rows only.
 use Rattle.std.specs.Prelude.{ℕ, ◌&&◌, List, [], ◌∷◌, map, filter, flat_map, ℤ, Option, ◌++◌}
 use Rattle.std.specs.Ordering.{is_eq, int_cmp}
 use Rattle.std.specs.declared.cmp.Ordering.{Ordering}

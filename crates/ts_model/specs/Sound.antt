@@ -1,4 +1,5 @@
--- Sound events: what an event names is there, and all that it holds is in range. This stays true as a history grows.
+-- Sound events: what an event names exists, and all that it holds is in range. This stays true as a history
+-- grows.
 use Rattle.std.specs.Prelude.{ℕ, suc, ◌+◌, Bool, true, false, ◌&&◌, ◌||◌, not, nat_lt, nat_le, ◌==◌, List, [], ◌∷◌, map, length, remove, ℤ, pos, int_lt, int_le, Option, Some, None, is_some}
 use Rattle.std.specs.List.{list_all, list_any}
 use Rattle.std.specs.Ordering.{int_eq}
@@ -47,7 +48,7 @@ is_null_test IsNull = true
 is_null_test NotNull = true
 is_null_test cmp = false
 
--- a test on one of the first n columns with a number of 64 bits, which is 0 where the test is on NULL
+-- a test on one of the first n columns with a number of 64 bits, which is 0 if the test is on NULL
 abbrev pub test_fits : ℕ → Test → Bool
 test_fits n t = nat_lt t.col n && is_word t.num && (not (is_null_test t.cmp) || int_eq t.num (pos 0))
 
@@ -64,7 +65,7 @@ abbrev pub fold_fits : ℕ → Fold → Bool
 fold_fits n fold =
     list_all (λ k. nat_lt k n) fold.keys && list_all (agg_fits n) fold.aggs && list_all (test_fits n) fold.tests
 
--- how many columns an aggregate puts out: the bucket, the keys and the aggregates
+-- how many columns an aggregate outputs: the bucket, the keys and the aggregates
 abbrev pub output_count : Fold → ℕ
 output_count fold = suc (length fold.keys + length fold.aggs)
 
@@ -99,7 +100,7 @@ op_fits r (Delete t tests) = of_table (λ def hyper. list_all (test_fits (length
 abbrev pub columns_fit : List Column → Bool
 columns_fit cols = nat_lt 0 (length cols) && nat_le (length cols) most_columns && are_names (map (λ c. c.name) cols)
 
--- an interval from 1 to 2 ^ 50, and a time column that is there
+-- an interval from 1 to 2 ^ 50, and an existing time column
 abbrev pub hyper_fits : HyperInfo → Option TableInfo → Bool
 hyper_fits hyper None = false
 hyper_fits hyper (Some info) =

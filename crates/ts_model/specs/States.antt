@@ -1,4 +1,4 @@
--- The state of a store: what contracts see of it, and how it goes from one state to the next.
+-- The state of a store: what contracts see of it, and how one state follows another.
 use Rattle.std.specs.Prelude.{◌≡◌, ℕ, suc, ◌≤◌, Bool, cond, List, [], ◌∷◌, ◌++◌, Option, Some, None, is_some, IsTrue}
 use Rattle.ts_schema.specs.Faults.{Rose}
 use Rattle.ts_model.specs.declared.events.Event.{Event}
@@ -10,7 +10,7 @@ pub record Origin : Type 0 where
   pub faults : ℕ
   -- the history that it was opened with
   pub opening : History
-  -- the moment of the start, which has the meaning that the store gives to it
+  -- the moment of the start; the store defines its meaning
   pub moment : ℕ
 
 pub record State : Type 0 where
@@ -20,7 +20,7 @@ pub record State : Type 0 where
   pub failed : Option Event
   -- the count of faults
   pub faults : ℕ
-  -- the numbers of the events that calls of this value made, in order
+  -- the numbers of the events that calls of this value created, in order
   pub made : List ℕ
   pub origin : Origin
 
@@ -31,8 +31,8 @@ stands_still s = is_some s.failed
 abbrev pub stop_of : State → Option ℕ
 stop_of s = cond (stands_still s) (Some (position s.history)) None
 
--- what a call finds, if a state was seen before: others may have continued meanwhile, unless the store is alone or had
--- stopped
+-- what a call finds, if a state was seen before: others may have added events meanwhile, unless the store is
+-- alone or had stopped
 pub record Found (alone : Bool) (old found : State) : Type 0 where
   pub alone_found : IsTrue alone → found ≡ old
   pub begins : Begins old.history found.history

@@ -1,4 +1,4 @@
--- Valid images: what an image must be, by itself, to begin a history.
+-- Valid images: the conditions for an image to begin a history.
 use Rattle.std.specs.Prelude.{ℕ, zero, suc, ◌*◌, ◌-◌, ◌^◌, Bool, true, false, ◌&&◌, ◌||◌, not, cond, nat_lt, nat_le, ◌==◌, List, [], ◌∷◌, map, length, ℤ, pos, neg_ℤ, ◌-ℤ◌, int_lt, int_le, Option, Some, None, is_some, is_none}
 use Rattle.std.specs.List.{list_all, list_any}
 use Rattle.std.specs.Ordering.{is_gt, is_lt, nat_cmp}
@@ -44,7 +44,7 @@ all_stand cmp (x ∷ xs) = list_all (λ y. not (is_gt (cmp x y))) xs && all_stan
 
 -- ---- the roster and the rows
 
--- an event may come after a roster, whatever its bytes
+-- an event may come after a roster, not counting its bytes
 abbrev pub may_follow : Roster → Event → Bool
 may_follow r e = sound_in r e && timely_in r e
 
@@ -92,7 +92,7 @@ abbrev pub dirty_fits : ViewDef → List SavedLast → List Span → Bool
 dirty_fits def ls ss =
     list_all (λ s. span_fits s (Some def) && has_lasts def.fold.width ls s) ss && spans_rise ss
 
--- there is a least or a greatest value exactly if there are values
+-- there is a least or a greatest value if and only if there are values
 abbrev pub is_told : ℕ → Option ℤ → Bool
 is_told zero o = is_none o
 is_told (suc n) o = is_some o
@@ -117,7 +117,7 @@ abbrev pub mark_fits : Width → Option ℤ → Bool
 mark_fits w None = true
 mark_fits w (Some m) = is_bucket w m && int_lt min_time m && int_le (m -ℤ w.step) max_time
 
--- a row is below the mark, where it passes every test and is of a bucket with a last refresh that isn't dirty
+-- a row is below the mark, if it passes every test and is of a bucket with a last refresh that isn't dirty
 abbrev pub row_marked : Fold → SavedView → Row → Bool
 row_marked fold v row =
     not (passes_all row fold.tests && is_some (pos_in v.lasts (bucket_of fold.width row.at))
@@ -161,8 +161,9 @@ done_fits p ws fs =
 abbrev pub image_roster : Image → Roster
 image_roster i = roster_over no_relations i.roster
 
--- an image is valid: its position isn't after the last one; its tables and aggregates can be made in this order; and
--- its rows, what is kept of each aggregate, the refreshes that wait and the finished ones fit them and one another
+-- an image is valid: its position isn't after the last one; its tables and aggregates can be created in this
+-- order; its rows, what is kept of each aggregate, and the waiting and finished refreshes fit them and one
+-- another
 abbrev pub valid : Image → Bool
 valid i =
     nat_le i.pos last_position && make_relations no_relations i.roster && hold_rows (image_roster i) 0 i.rows

@@ -6,16 +6,17 @@ use crate::tables::{Hyper, TableDef};
 use crate::views::ViewDef;
 use ts_schema::{NoMemory, Seq};
 
-/// A store of a history. Others may change it too between two calls, unless it is alone.
+/// A store of a history. Others may change it between two calls, unless it is alone.
 ///
-/// Contracts see one record, its state: the history that it has seen; the event at which its disk failed, if
-/// it did, so that it has stopped; a count of faults; the numbers of the events that calls of this value
-/// appended; and how it was opened. Each call finds a history that begins with the one seen, and appends at
-/// most one event. Beside the state there is what its owner knows it by, which no call changes.
+/// Contracts see one record, its state. It has the history seen, a count of faults, and how the store was
+/// opened. It also has the numbers of the events that calls of this value appended. If its disk failed, it also
+/// has the event at which this happened, and the store has stopped. Each call finds a history that begins with
+/// the one seen, and appends at most one event. Besides the state there is an identity given by its owner,
+/// which no call changes.
 ///
-/// A call that appends an event returns the event's number, possibly with more. The refusals named at a
-/// call come first. Then a call that would append an event is refused as `E30` if the history is at its end,
-/// and then as `E24` if the store has stopped. A refused call changes nothing.
+/// A call that appends an event returns the event's number, possibly with more. The refusals named at a call
+/// come first. Next, a call that would append an event is refused as `E30` if the history is at its end. Last,
+/// it is refused as `E24` if the store has stopped. A refused call changes nothing.
 pub trait Backend {
     ghost use Rattle.std.specs.Prelude.{◌≡◌, ℕ, Bool, IsTrue, IsSome};
     ghost use Rattle.std.specs.Option.{ForSome};
@@ -34,12 +35,12 @@ pub trait Backend {
 
     ghost alone: { Bool };
 
-    // What its owner knows it by.
+    // The identity given by its owner.
     ghost Kin: { Type 0 };
 
     ghost kin: { Self → Self.Kin };
 
-    /// A snapshot of the present history, which is an allowed one.
+    /// A snapshot of the present history, which is allowed.
     fn snap(&mut self) -> Result<Self::Shot, NoMemory>
         ensures looked { Looked alone (state self.old) (Snapped Self.Shot.stands result) (state self.new) }
         ensures kin { kin self.new ≡ kin self.old };
@@ -69,7 +70,7 @@ pub trait Backend {
         ensures called { Called alone (state self.old) (setting_mode view only) result (state self.new) }
         ensures kin { kin self.new ≡ kin self.old };
 
-    /// Lets operations take effect, in order.
+    /// Applies operations, in order, as one commit.
     fn commit(&mut self, ops: Seq<Op>) -> Outcome<Committed>
         requires { IsTrue (sound (state self.old).history (Commit ops)) }
         ensures called { Called alone (state self.old) (act_of_commit ops) result (state self.new) }
@@ -87,15 +88,15 @@ pub trait Backend {
         ensures called { Called alone (state self.old) (act_of_cut view lo hi) result (state self.new) }
         ensures kin { kin self.new ≡ kin self.old };
 
-    /// Finishes the refresh that the job was created for. It is refused as `E19` if it is finished already.
-    /// The job is given up, whatever the outcome.
+    /// Finishes the refresh that the job was created for. It is refused as `E19` if it is finished already. The
+    /// job is consumed, whatever the outcome.
     fn finish(&mut self, job: <Self::Shot as Shown>::Job) -> Outcome<u64>
         requires { Self.Shot.fits job (state self.old).history }
         ensures called { Called alone (state self.old)
             (act_of_finish (Self.Shot.cut_of job) (Self.Shot.snap_of job)) result (state self.new) }
         ensures kin { kin self.new ≡ kin self.old };
 
-    /// The position at which the history seen ends.
+    /// The position of the history seen.
     fn position(&self) -> u64
         ensures { result ≡ position (state self.now).history };
 

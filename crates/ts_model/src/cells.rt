@@ -1,4 +1,4 @@
-//! What a group shows: its result row, made or read cell by cell.
+//! The result row of a group, built or read cell by cell.
 ghost use Rattle.std.specs.Prelude.{◌≡◌, ◌++◌, map, IfOk};
 ghost use Rattle.ts_num.specs.Aggregates.{shown_or_null};
 ghost use Rattle.partial_agg.specs.Summaries.{value_of};
@@ -11,16 +11,16 @@ use partial_agg::{Group, Partial};
 use ts_num::Datum;
 use ts_schema::NoMemory;
 
-/// The result row of a group, none of whose cells is made. Where its keys and its partial aggregates stand is looked up
-/// once, for all of its cells. Contracts see the cells as `group_cells`: at 0 the start of the bucket, then the keys,
-/// and then what is aggregated.
+/// The result row of a group, without stored cells. Its keys and its partial aggregates are looked up once, for
+/// all of its cells. Contracts see the cells as `group_cells`: at 0 the start of the bucket, then the keys, and
+/// then the aggregates.
 #[derive(Clone, Copy, Debug)]
 pub struct GroupRow<'a> {
     /// The start of the bucket.
     pub start: i64,
     /// The values of the columns that rows are grouped by; NULL is `None`.
     pub keys: &'a [Option<i64>],
-    /// What is shown of the partial aggregates, one after another.
+    /// What is shown of the partial aggregates, in order.
     pub aggs: &'a [Agg],
     /// The partial aggregates.
     pub parts: &'a [Partial],
@@ -60,7 +60,7 @@ impl<'a> GroupRow<'a> {
         Ok(())
     }
 
-    /// The cell at a place, and NULL where there is none.
+    /// The cell at a place, and NULL if there is none.
     #[inline]
     #[tactic(auto, using(crate::proofs::ResultLaws::cell_of_key, crate::proofs::ResultLaws::cell_behind))]
     pub fn cell(&self, place: usize) -> Datum
@@ -90,7 +90,7 @@ impl<'a> GroupRow<'a> {
         part_value(self.aggs, self.parts, place - 1 - self.keys.len())
     }
 
-    /// The value of the cell at a place among those at these places.
+    /// The value of the chosen cell at a place, by the places of the chosen cells.
     #[inline]
     #[tactic(auto, using(crate::proofs::ResultLaws::value_chosen, crate::proofs::ResultLaws::none_chosen))]
     pub(crate) fn chosen_value(&self, places: &[u32], at: usize) -> Option<i128>
@@ -138,7 +138,7 @@ fn put_parts(aggs: &[Agg], parts: &[Partial], cells: &mut Vec<Datum>) -> Result<
     Ok(())
 }
 
-/// What the aggregate at a place shows of its part, and NULL where there is none.
+/// What the aggregate at a place shows of its part, and NULL if there is none.
 #[inline]
 #[tactic(auto, using(crate::proofs::ResultLaws::cell_of_part, crate::proofs::ResultLaws::no_agg_cell, crate::proofs::ResultLaws::no_part_cell))]
 fn part_cell(aggs: &[Agg], parts: &[Partial], at: usize) -> Datum
@@ -153,7 +153,7 @@ fn part_cell(aggs: &[Agg], parts: &[Partial], at: usize) -> Datum
     }
 }
 
-/// The value of the cell at a place of a row whose cells are made.
+/// The value of the cell at a place of a row with stored cells.
 #[inline(always)]
 pub(crate) fn cell_value(cells: &[Datum], place: usize) -> Option<i128>
     ensures { result ≡ cell_at cells.now place }
@@ -164,7 +164,7 @@ pub(crate) fn cell_value(cells: &[Datum], place: usize) -> Option<i128>
     }
 }
 
-/// A number, where it isn't missing.
+/// A number, if it isn't missing.
 #[inline(always)]
 fn number(value: Option<i64>) -> Option<i128>
     ensures { result ≡ value_of (shown_or_null value) }

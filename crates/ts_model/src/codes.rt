@@ -3,13 +3,13 @@ ghost use Rattle.std.specs.Prelude.{◌≡◌};
 ghost use Rattle.ts_model.specs.Numbers.{no_number, line_long, not_ascii, no_session, no_token, syntax, no_relation, name_taken, no_column, bad_time, bad_number, value_count, null_value, not_hypertable, bad_width, no_bucket, in_write_block, in_read_block, no_block, no_refresh, no_snapshot, too_many, not_aggregate, too_many_sessions, stopped, image_long, bad_policy, too_many_policies, bad_rollup, bad_unit, history_full};
 ghost use Rattle.ts_model.specs.declared.codes.TheConstants as codes;
 
-/// An event isn't allowed next, and no call makes such a one. No reply prints this number.
+/// An event isn't allowed next. No call creates one like it, and no reply prints this number.
 pub const NO_NUMBER: u8 = 0;
 
 /// `E01`: a line has over 65,536 bytes.
 pub const LINE_LONG: u8 = 1;
 
-/// `E02`: a byte of 128 or more stands before the comment.
+/// `E02`: a byte of 128 or more is before the comment.
 pub const NOT_ASCII: u8 = 2;
 
 /// `E03`: a line has no session.
@@ -27,22 +27,22 @@ pub const NO_RELATION: u8 = 6;
 /// `E07`: a relation, a column or an output has the name, or the table is a hypertable.
 pub const NAME_TAKEN: u8 = 7;
 
-/// `E08`: no column has the name, or it isn't the column that is wanted.
+/// `E08`: no column has the name, or it isn't the required column.
 pub const NO_COLUMN: u8 = 8;
 
 /// `E09`: a time or a bound lies outside the range of times.
 pub const BAD_TIME: u8 = 9;
 
-/// `E10`: a number isn't one of 64 bits.
+/// `E10`: a number doesn't fit 64 bits.
 pub const BAD_NUMBER: u8 = 10;
 
-/// `E11`: a row has another count of values than columns are listed.
+/// `E11`: a row doesn't have one value per listed column.
 pub const VALUE_COUNT: u8 = 11;
 
-/// `E12`: NULL in the time column or in a NOT NULL column, or the column list of an INSERT leaves such a column out.
+/// `E12`: NULL in the time column or in a NOT NULL column, or the column list of an INSERT omits such a column.
 pub const NULL_VALUE: u8 = 12;
 
-/// `E13`: the relation is there and isn't a hypertable.
+/// `E13`: the relation exists and isn't a hypertable.
 pub const NOT_HYPERTABLE: u8 = 13;
 
 /// `E14`: a width, an offset or an interval is out of its range, or the buckets of an aggregate don't lie whole in
@@ -52,10 +52,10 @@ pub const BAD_WIDTH: u8 = 14;
 /// `E15`: a window with a given end holds no whole bucket.
 pub const NO_BUCKET: u8 = 15;
 
-/// `E16`: the statement may not stand in a write block.
+/// `E16`: the statement may not be in a write block.
 pub const IN_WRITE_BLOCK: u8 = 16;
 
-/// `E17`: the statement may not stand in a read block.
+/// `E17`: the statement may not be in a read block.
 pub const IN_READ_BLOCK: u8 = 17;
 
 /// `E18`: there is no block to end.
@@ -67,10 +67,10 @@ pub const NO_REFRESH: u8 = 19;
 /// `E20`: the session holds no snapshot for the refresh.
 pub const NO_SNAPSHOT: u8 = 20;
 
-/// `E21`: there are as many as there may be.
+/// `E21`: the limit is reached.
 pub const TOO_MANY: u8 = 21;
 
-/// `E22`: the relation is there and isn't an aggregate.
+/// `E22`: the relation exists and isn't an aggregate.
 pub const NOT_AGGREGATE: u8 = 22;
 
 /// `E23`: the session would be the 65th.
@@ -98,7 +98,7 @@ pub const BAD_UNIT: u8 = 29;
 /// `E30`: the call would append an event, and the history is at its end.
 pub const HISTORY_FULL: u8 = 30;
 
-/// States that these numbers are those of the definitions. It does nothing.
+/// States that these numbers are those of the definitions. Does nothing.
 pub fn numbers_law()
     ensures no_number { codes.NO_NUMBER ≡ no_number }
     ensures line_long { codes.LINE_LONG ≡ line_long }

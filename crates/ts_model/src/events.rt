@@ -11,18 +11,18 @@ use ts_schema::{NoMemory, Row, Seq, SharedSlice, Test};
 pub enum Op {
     /// Appends these rows to a hypertable.
     Insert { table: u32, rows: SharedSlice<Row> },
-    /// Takes the rows that pass every test from a hypertable.
+    /// Removes the rows that pass every test from a hypertable.
     Delete { table: u32, tests: Seq<Test> },
 }
 
 /// One step of a history.
 #[derive(Drop, Debug, Clone, PartialEq, Eq)]
 pub enum Event {
-    /// A table was made.
+    /// A table was created.
     Table(TableDef),
-    /// A table was made a hypertable.
+    /// A table became a hypertable.
     Hyper { table: u32, hyper: Hyper },
-    /// An aggregate was made.
+    /// An aggregate was created.
     View(ViewDef),
     /// An aggregate was set to show materialized rows only, or to show new rows too.
     Mode { view: u32, only: bool },
@@ -35,7 +35,7 @@ pub enum Event {
 }
 
 impl Op {
-    /// The same operation again.
+    /// A copy of the operation.
     pub fn copy(&self) -> Result<Op, NoMemory>
         ensures same { IfOk result (λ copy. copy ≡ self.now) }
     {
@@ -53,7 +53,7 @@ impl Op {
 }
 
 impl Event {
-    /// The same event again.
+    /// A copy of the event.
     pub fn copy(&self) -> Result<Event, NoMemory>
         ensures same { IfOk result (λ copy. copy ≡ self.now) }
     {

@@ -1,4 +1,4 @@
-//! Places at which a test may hold a worker.
+//! Worker hooks: places at which a test may hold a worker.
 
 /// Calls by which a worker reports its progress. They return nothing.
 pub trait Gate {

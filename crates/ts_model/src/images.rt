@@ -1,4 +1,4 @@
-//! Checkpoint images: what a later start of a history begins with, instead of its events so far.
+//! Checkpoint images: a later start begins with one instead of the events up to it.
 ghost use Rattle.std.specs.Prelude.{◌≡◌, IfOk};
 
 use crate::events::Event;
@@ -6,12 +6,12 @@ use crate::refreshes::Waiting;
 use ts_bucket::Span;
 use ts_schema::{NoMemory, Seq};
 
-/// What is kept of a column of the rows of a group.
+/// The totals of a column of the rows of a group.
 #[derive(Clone, Copy, Debug, PartialEq, Eq)]
 pub struct Sums {
-    /// How many rows there are.
+    /// The number of rows.
     pub count: u64,
-    /// How many values aren't NULL.
+    /// The number of values that aren't NULL.
     pub values: u64,
     /// The sum of these.
     pub sum: i128,
@@ -21,14 +21,14 @@ pub struct Sums {
     pub most: Option<i64>,
 }
 
-/// A group that a last refresh has left in a bucket.
+/// A group that the last refresh of a bucket stored.
 #[derive(Drop, Debug, Clone, PartialEq, Eq)]
 pub struct SavedGroup {
     /// The start of the bucket.
     pub start: i64,
     /// The keys.
     pub keys: Seq<Option<i64>>,
-    /// What is kept for each aggregate function, in order.
+    /// The totals for each aggregate function, in order.
     pub parts: Seq<Sums>,
 }
 
@@ -41,14 +41,14 @@ pub struct SavedLast {
     pub pos: u64,
 }
 
-/// What is kept of an aggregate.
+/// The saved parts of an aggregate.
 #[derive(Drop, Debug, Clone, PartialEq, Eq)]
 pub struct SavedView {
     /// The last refreshes, in rising order of their buckets.
     pub lasts: Seq<SavedLast>,
     /// The buckets that were touched after their last refresh.
     pub dirty: Seq<Span>,
-    /// What the last refresh of each of these buckets has left.
+    /// The groups that the last refresh of each of these buckets stored.
     pub groups: Seq<SavedGroup>,
     /// The watermark.
     pub mark: Option<i64>,
@@ -63,25 +63,25 @@ pub struct Finished {
     pub built: u64,
 }
 
-/// A history without its events: what a later start begins with.
+/// A history without its events, with which a later start begins.
 #[derive(Drop, Debug, Clone, PartialEq, Eq)]
 pub struct Image {
     /// The position.
     pub pos: u64,
-    /// The events that make the tables, and then the aggregates.
+    /// The events that create the tables, and then the aggregates.
     pub roster: Seq<Event>,
     /// One commit for each table with rows.
     pub rows: Seq<Event>,
-    /// What is kept of each aggregate.
+    /// The saved parts of each aggregate.
     pub views: Seq<SavedView>,
-    /// The refreshes that wait, in rising order of their cuts.
+    /// The waiting refreshes, in rising order of their cuts.
     pub waiting: Seq<Waiting>,
     /// The refreshes that were finished, in rising order of their cuts.
     pub done: Seq<Finished>,
 }
 
 impl SavedGroup {
-    /// The same group again.
+    /// A copy of the group.
     pub fn copy(&self) -> Result<SavedGroup, NoMemory>
         ensures same { IfOk result (λ copy. copy ≡ self.now) }
     {
@@ -94,7 +94,7 @@ impl SavedGroup {
 }
 
 impl SavedView {
-    /// The same again.
+    /// A copy of it.
     pub fn copy(&self) -> Result<SavedView, NoMemory>
         ensures same { IfOk result (λ copy. copy ≡ self.now) }
     {
@@ -108,7 +108,7 @@ impl SavedView {
 }
 
 impl Image {
-    /// The same image again.
+    /// A copy of the image.
     pub fn copy(&self) -> Result<Image, NoMemory>
         ensures same { IfOk result (λ copy. copy ≡ self.now) }
     {

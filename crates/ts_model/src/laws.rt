@@ -1,4 +1,4 @@
-//! Laws of the definitions. Each is the clause of a function that does nothing.
+//! Laws of the definitions. Each law is the clause of a function that does nothing.
 ghost use Rattle.std.specs.Prelude.{◌≡◌};
 ghost use Rattle.ts_model.specs.Laws.{AnswersStay, CallsMakeAllowed, ChunksAreWithin, ClippingKeepsNear, CountsFit, FitsStays, InsertsKeepAll, MarksAreEnds, NothingAboveWatermark, RangesAreMaximal, RelationsStay, ResultsComeInOrder, RostersAreSound, RowsAreTimes, RowsFitTables, RowsHaveColumns, RowsStandInOrder, SoundStays, SpansKeepGroups, SumsFit, ThresholdNeverFalls, UntouchedBetween, UntouchedKeeps, UntouchedKeepsGroups, UntouchedKeepsRows, WatermarkNeverFalls, WidthsAreSound};
 ghost use Rattle.ts_model.specs.Limits.{bytes_limit, most_columns, most_relations};
@@ -25,27 +25,27 @@ pub fn nothing_stood_above_the_watermark()
     ensures { NothingAboveWatermark }
 {}
 
-/// What is below the watermark of an aggregate stays below it as the history grows.
+/// A number below the watermark of an aggregate stays below it as the history grows.
 pub fn watermarks_never_fall()
     ensures { WatermarkNeverFalls }
 {}
 
-/// What is below the threshold of a table stays below it as the history grows.
+/// A number below the threshold of a table stays below it as the history grows.
 pub fn thresholds_never_fall()
     ensures { ThresholdNeverFalls }
 {}
 
-/// No table, no aggregate, no name and no kind is taken away as a history grows.
+/// No table, aggregate, name or kind is removed as a history grows.
 pub fn names_and_kinds_stay()
     ensures { RelationsStay }
 {}
 
-/// An event whose parts are there and in range stays so as a history grows.
+/// An event whose parts exist and are in range stays so as a history grows.
 pub fn sound_events_stay_sound()
     ensures { SoundStays }
 {}
 
-/// Each call of a store makes allowed events only, where what it is given is sound.
+/// Each call of a store creates only allowed events, if its arguments are sound.
 pub fn calls_make_allowed_events()
     ensures { CallsMakeAllowed }
 {}
@@ -60,18 +60,19 @@ pub fn answers_of_snapshots_stay()
     ensures { AnswersStay }
 {}
 
-/// The ranges of an answer's stale list are maximal, rise and don't touch, and hold exactly the buckets
-/// that are asked for and stale.
+/// The ranges of an answer's stale list are maximal, rise and don't touch, and hold exactly the buckets that
+/// are requested and stale.
 pub fn stale_ranges_are_maximal()
     ensures { RangesAreMaximal }
 {}
 
-/// The rows of a table stand in row order.
+/// The rows of a table are in row order.
 pub fn rows_stand_in_order()
     ensures { RowsStandInOrder }
 {}
 
-/// Result rows come one for each list of keys that occurs, in order, and buckets once each, in order.
+/// A bucket has one result row for each list of keys that occurs, in order, and an answer has each bucket once,
+/// in order.
 pub fn results_come_in_order()
     ensures { ResultsComeInOrder }
 {}
@@ -81,7 +82,7 @@ pub fn sums_fit()
     ensures { SumsFit }
 {}
 
-/// The numbers that events keep to.
+/// The limits of events.
 pub fn limits()
     ensures relations { most_relations ≡ 64 }
     ensures columns { most_columns ≡ 16 }
@@ -93,12 +94,12 @@ pub fn positions_count_events()
     ensures { PositionsCount }
 {}
 
-/// What is at a position of a history is what the history with that position has.
+/// The state at a position of a history is that of the history's prefix with that position.
 pub fn positions_have_their_prefix()
     ensures { AtPositions }
 {}
 
-/// All that the roster of a consistent history holds is there and in range.
+/// All that the roster of a consistent history names exists and is in range.
 pub fn rosters_are_sound()
     ensures { RostersAreSound }
 {}
@@ -108,8 +109,8 @@ pub fn widths_are_sound()
     ensures { WidthsAreSound }
 {}
 
-/// Each row that was ever inserted into a table of a consistent history fits the table, and so does each that
-/// it has at a position.
+/// Each row that was ever inserted into a table of a consistent history fits the table. So does each of its
+/// rows at a position.
 pub fn rows_fit_their_tables()
     ensures { RowsFitTables }
 {}
@@ -144,13 +145,13 @@ pub fn last_refreshes_are_last()
     ensures { LastsAreLast }
 {}
 
-/// The refreshes that wait are, for each number, what pending says of it.
+/// For each number, the waiting refreshes are what pending says of it.
 pub fn waiting_refreshes_are_pending()
     ensures { WaitingIsPending }
 {}
 
-/// A watermark is the one with which the history begins, or the end of a bucket that a finished refresh covers
-/// and that had a result row at its snapshot: not the end of a window.
+/// A watermark is the one with which the history begins, or the end of a bucket. A finished refresh covers that
+/// bucket, and it had a result row at that refresh's snapshot. So a watermark isn't simply the end of a window.
 pub fn watermarks_end_rows()
     ensures { MarksEndRows }
 {}
@@ -160,13 +161,13 @@ pub fn finishes_raise_the_watermark()
     ensures { FinishesMark }
 {}
 
-/// Whether an aggregate shows materialized rows only has no effect on what is stale, or on what was in a
+/// Whether an aggregate shows materialized rows only has no effect on stale buckets, or on the groups of a
 /// bucket.
 pub fn modes_play_no_part()
     ensures { ModePlaysNoPart }
 {}
 
-/// Rows put in their places come in as often as they are given, and none is lost.
+/// Rows inserted in their places are there as often as they are given, and none is lost.
 pub fn inserts_keep_all_rows()
     ensures { InsertsKeepAll }
 {}

@@ -1,6 +1,6 @@
-//! What `tsctl` promises: tables, aggregates, events and histories; queries and their answers by
-//! folding rows; refreshes, staleness and windows; and the traits that every store and snapshot meets.
-//! The definitions are in `specs/`, one idea a module.
+//! The model of `tsctl`: tables, aggregates, events and histories; queries and their answers; refreshes,
+//! staleness and windows; and the traits of stores and snapshots. The definitions are in `specs/`, one topic
+//! per module.
 #![tactic(auto)]
 
 mod backends;

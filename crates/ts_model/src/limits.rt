@@ -19,7 +19,7 @@ pub const MOST_INTERVAL: i64 = 1_125_899_906_842_624;
 /// No event comes after this position.
 pub const LAST_POSITION: u64 = 4_611_686_018_427_387_904;
 
-/// States that these limits are those of the definitions. It does nothing.
+/// States that these limits are those of the definitions. Does nothing.
 pub fn limits_law()
     ensures relations { limits.MOST_RELATIONS ≡ most_relations }
     ensures columns { limits.MOST_COLUMNS ≡ most_columns }

@@ -1,27 +1,27 @@
-//! What calls of a store answer.
+//! What calls of a store return.
 use ts_bucket::Span;
 
 /// Why a statement was refused.
 #[derive(Clone, Copy, Debug, PartialEq, Eq)]
 pub struct Refusal {
-    /// The number of the refusal, as 7 for `E07`.
+    /// The number of the refusal, such as 7 for `E07`.
     pub code: u8,
-    /// The position looked at.
+    /// The read position.
     pub pos: u64,
     /// The place, count or finish that the reply prints, or 0.
     pub mark: u64,
 }
 
-/// What a call that may make an event answers.
+/// The result of a call that may append an event.
 #[derive(Drop, Debug, PartialEq, Eq)]
 pub enum Outcome<T> {
-    /// It did what it is for.
+    /// The call succeeded.
     Done(T),
     /// It was refused, and nothing changed.
     Refused(Refusal),
     /// The disk failed, and the store is stopped from now on.
     DiskFault,
-    /// There was no memory, and nothing changed.
+    /// It ran out of memory, and nothing changed.
     NoMemory,
 }
 
@@ -30,9 +30,9 @@ pub enum Outcome<T> {
 pub struct Committed {
     /// The number of its event.
     pub pos: u64,
-    /// How many rows it inserted, over all tables.
+    /// The number of rows that it inserted, over all tables.
     pub inserted: u64,
-    /// How many rows it removed, over all tables.
+    /// The number of rows that it removed, over all tables.
     pub removed: u64,
 }
 

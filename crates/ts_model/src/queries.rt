@@ -17,19 +17,19 @@ pub enum Query {
     Aggregate { view: u32, starts: Span },
 }
 
-/// What a query shows. Rows of a hypertable come by time and then by their other columns, those of groups by bucket
-/// and then by their keys, and NULL comes last. The stale ranges are as long as can be and leave their ends out; they
-/// rise and don't touch. A query over a hypertable has none.
+/// What a query shows. Rows of a hypertable are ordered by time and then by their other columns. Rows of groups
+/// are ordered by bucket and then by their keys. NULL comes last. The stale ranges are maximal, rise and don't
+/// touch, and don't include their ends. A query over a hypertable has none.
 #[derive(Drop, Debug)]
 pub struct Answer {
     /// Its rows, in order.
     pub rows: ResultRows,
-    /// The stale buckets among those asked for, as ranges.
+    /// The stale buckets among those requested, as ranges.
     pub stale: Seq<Span>,
 }
 
 impl Query {
-    /// The same query again.
+    /// A copy of the query.
     pub fn copy(&self) -> Result<Query, NoMemory>
         ensures same { IfOk result (λ copy. copy ≡ self.now) }
     {

@@ -1,7 +1,7 @@
-//! What is known of refreshes.
+//! The states of refreshes.
 use ts_bucket::Span;
 
-/// What became of the refresh with a number.
+/// The outcome of the refresh with a number.
 #[derive(Clone, Copy, Debug, PartialEq, Eq)]
 pub enum Pending {
     /// It was cut, of the aggregate with this number, and isn't finished.

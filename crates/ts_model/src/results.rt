@@ -15,22 +15,22 @@ use std::marker::Model;
 use ts_num::Datum;
 use ts_schema::{NoMemory, Seq};
 
-/// The rows of an answer, as lists of cells: rows whose cells are made, and behind them those of groups,
-/// whose cells are made as they are read. So an answer of many groups takes no memory for its cells, nor
-/// for groups that a store keeps, which it shares. Nor does it where only some of their cells are shown.
+/// The rows of an answer, as lists of cells: rows with stored cells, and then those of groups. The cells of
+/// groups are computed when they are read. So an answer of many groups takes no memory for its cells, even if
+/// only some of them are shown. It shares groups that a store keeps.
 #[derive(Drop, Debug)]
 pub struct ResultRows {
-    /// Rows whose cells are made.
+    /// Rows with stored cells.
     cells: CellRows<Datum>,
     /// What the groups show.
     aggs: Seq<Agg>,
-    /// Which cells of a group's row are shown, by their places, where not all are.
+    /// Which cells of a group's row are shown, by their places, if not all are.
     places: Option<Seq<u32>>,
     /// Groups that a store keeps.
     kept: Slice<Group>,
-    /// Groups behind them.
+    /// Groups after them.
     live: Seq<Group>,
-    /// How many rows there are.
+    /// The number of rows.
     len: usize,
 }
 
@@ -47,14 +47,14 @@ impl Model for ResultRows {
 }
 
 impl ResultRows {
-    /// No row. It takes no memory.
+    /// No rows. It takes no memory.
     pub fn none(alloc: Global) -> ResultRows
         ensures rows { result ≡ [] }
     {
         ResultRows::of_cells(alloc, CellRows::new(alloc))
     }
 
-    /// Rows whose cells are made. It takes no memory.
+    /// The answer of rows with stored cells. It takes no memory.
     pub fn of_cells(alloc: Global, cells: CellRows<Datum>) -> ResultRows
         ensures rows { result ≡ cells }
     {
@@ -90,9 +90,9 @@ impl ResultRows {
         }
     }
 
-    /// The same rows with the cells at these places, in the order of the places: 0 is the start of the bucket,
-    /// then come the keys, and then what is aggregated. Where there is no cell it is NULL. It takes no memory
-    /// and looks at no row. As an error the rows themselves, where their cells are made or chosen already.
+    /// The same rows with the cells at these places, in the order of the places. Place 0 is the start of the
+    /// bucket, then come the keys, and then the aggregates. A missing cell is NULL. It takes no memory and
+    /// reads no row. Fails with the rows themselves, if their cells are stored or chosen already.
     pub fn choose(self, places: Seq<u32>) -> Result<ResultRows, ResultRows>
         ensures chosen { IfOk result (λ rows. rows ≡ map (chosen_cells places) self) }
         ensures same { IfErr result (λ rows. rows ≡ self) }
@@ -110,7 +110,7 @@ impl ResultRows {
         })
     }
 
-    /// How many rows there are.
+    /// The number of rows.
     pub fn len(&self) -> usize
         ensures len { result ≡ length self.now }
     {
@@ -124,7 +124,7 @@ impl ResultRows {
         self.len() == 0
     }
 
-    /// The rows, one after another.
+    /// The rows, in order.
     pub fn iter(&self) -> ResultIter<'_>
         ensures rows { result ≡ self.now }
     {
@@ -167,8 +167,8 @@ impl<'a> ResultRow<'a> {
         }
     }
 
-    /// The value of the cell at a place: the whole number that it shows, and none for NULL, for a mean and
-    /// where there is no cell.
+    /// The value of the cell at a place: the whole number that it shows. `None` for NULL, for a mean and for a
+    /// missing cell.
     #[inline(always)]
     pub fn value_at(&self, place: usize) -> Option<i128>
         ensures value { result ≡ cell_at (row_cells self.now) place }
@@ -196,7 +196,7 @@ fn group_row<'a>(aggs: &'a [Agg], places: &'a Option<Seq<u32>>, group: &'a Group
     }
 }
 
-/// The rows of an answer that are left. Contracts see them as lists of cells.
+/// The remaining rows of an answer. Contracts see them as lists of cells.
 #[derive(Drop)]
 pub struct ResultIter<'a> {
     cells: cell_rows::Iter<'a, Datum>,

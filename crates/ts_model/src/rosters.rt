@@ -1,12 +1,11 @@
-//! The tables and aggregates that there are.
+//! The tables and aggregates.
 ghost use Rattle.std.specs.Prelude.{◌≡◌, IfOk};
 
 use crate::tables::TableInfo;
 use crate::views::ViewDef;
 use ts_schema::{NoMemory, Seq};
 
-/// The tables and aggregates that there are. Both are numbered from 0 in the order in which they were
-/// made.
+/// The tables and aggregates. Both are numbered from 0 in the order of their creation.
 #[derive(Drop, Debug, Clone, PartialEq, Eq)]
 pub struct Roster {
     /// The tables.
@@ -16,7 +15,7 @@ pub struct Roster {
 }
 
 impl Roster {
-    /// The same roster again.
+    /// A copy of the roster.
     pub fn copy(&self) -> Result<Roster, NoMemory>
         ensures same { IfOk result (λ copy. copy ≡ self.now) }
     {

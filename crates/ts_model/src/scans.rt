@@ -17,8 +17,8 @@ pub trait RowsAt {
 
     ghost interval: { Self → ℕ → ℤ };
 
-    /// The visible rows of a table in a span, in any order. It counts one step for each stored row in
-    /// the chunks that meet the span, whether it is visible or not.
+    /// The visible rows of a table in a span, in any order. Counts one step for each stored row in the chunks
+    /// that meet the span, visible or not.
     fn scan<L>(&self, table: u32, span: Span, steps: &mut Steps<L>) -> Result<Seq<Row>, NoMemory>
         ensures rows { IfOk result (λ found. in_order found
             ≡ in_order (filter (λ row. in_span span row.at) (visible self.now table))) }

@@ -6,8 +6,8 @@ use crate::rosters::Roster;
 use std::thread::Threads;
 use ts_schema::{NoMemory, Seq, Steps};
 
-/// A snapshot of a history. It need not store one: `stands` relates what it holds to the histories that it
-/// represents, and each of its promises is for every such history.
+/// A snapshot of a history. It need not store one: `stands` relates its contents to the histories that it
+/// represents, and each clause is true for every such history.
 pub trait Shown {
     ghost use Rattle.std.specs.Prelude.{◌≡◌, ℕ, IsTrue, IfOk};
     ghost use Rattle.std.specs.Thread.{IsSync};

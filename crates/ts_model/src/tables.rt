@@ -3,7 +3,7 @@ ghost use Rattle.std.specs.Prelude.{◌≡◌, IfOk};
 
 use ts_schema::{Column, Name, NoMemory, Seq};
 
-/// A table as it was made.
+/// The definition of a table.
 #[derive(Drop, Debug, Clone, PartialEq, Eq)]
 pub struct TableDef {
     /// Its name, which no other relation has.
@@ -21,17 +21,17 @@ pub struct Hyper {
     pub interval: i64,
 }
 
-/// What is known of a table.
+/// A table, and whether it is a hypertable.
 #[derive(Drop, Debug, Clone, PartialEq, Eq)]
 pub struct TableInfo {
-    /// How it was made.
+    /// Its definition.
     pub def: TableDef,
-    /// What makes it a hypertable, where it is one.
+    /// What makes it a hypertable, if it is one.
     pub hyper: Option<Hyper>,
 }
 
 impl TableDef {
-    /// The same definition again.
+    /// A copy of the definition.
     pub fn copy(&self) -> Result<TableDef, NoMemory>
         ensures same { IfOk result (λ copy. copy ≡ self.now) }
     {
@@ -43,7 +43,7 @@ impl TableDef {
 }
 
 impl TableInfo {
-    /// The same again.
+    /// A copy of it.
     pub fn copy(&self) -> Result<TableInfo, NoMemory>
         ensures same { IfOk result (λ copy. copy ≡ self.now) }
     {

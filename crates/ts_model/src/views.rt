@@ -23,7 +23,7 @@ pub struct Fold {
     pub keys: Seq<u32>,
     /// The aggregates, in order.
     pub aggs: Seq<Agg>,
-    /// The tests that a row has to pass.
+    /// The tests that a row must pass.
     pub tests: Seq<Test>,
 }
 
@@ -43,7 +43,7 @@ pub struct ViewDef {
 }
 
 impl Fold {
-    /// The same grouping again.
+    /// A copy of the grouping.
     pub fn copy(&self) -> Result<Fold, NoMemory>
         ensures same { IfOk result (λ copy. copy ≡ self.now) }
     {
@@ -57,7 +57,7 @@ impl Fold {
 }
 
 impl ViewDef {
-    /// The same definition again.
+    /// A copy of the definition.
     pub fn copy(&self) -> Result<ViewDef, NoMemory>
         ensures same { IfOk result (λ copy. copy ≡ self.now) }
     {

@@ -50,7 +50,7 @@ with_sign z below = sym (itoa.minus_first z below)
 
 pub ruleset signs = (without_sign, with_sign)
 
--- what is put behind what was put
+-- appending to what was appended
 pub put_behind : (old middle new first last whole : List ℕ) → middle ≡ old ++ first → new ≡ middle ++ last → whole ≡ first ++ last → new ≡ old ++ whole
 put_behind old middle new first last whole once twice parts =
     twice ∙ ap (λ text. text ++ last) once ∙ append_assoc old first last ∙ ap (λ text. old ++ text) (sym parts)

@@ -27,7 +27,7 @@ negated-mul : (k m : ℕ) → neg_ℤ (pos k) *ℤ pos m ≡ neg_ℤ (pos (k * m
 negated-mul zero m = rw (zero-mul m) refl
 negated-mul (suc k) m = refl
 
--- (a / g) * d is a * (d / g), where g divides both
+-- (a / g) * d is a * (d / g), if g divides both
 cross : (a d g : ℕ) → g ∣ a → g ∣ d → a / g * d ≡ a * (d / g)
 cross a d g p q =
     ap (λ m. a / g * m) (sym (mul-div_cancel' g q)) ∙ sym (mul_assoc (a / g) g (d / g)) ∙ ap (λ m. m * (d / g)) (div-mul_cancel g p)

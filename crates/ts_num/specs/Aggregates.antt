@@ -29,22 +29,22 @@ greater None b = b
 greater (Some x) None = Some x
 greater (Some x) (Some y) = Some (int_max x y)
 
--- the least number of a list, None where it is empty
+-- the least number of a list, None if it is empty
 abbrev pub least_of : List ℤ → Option ℤ
 least_of [] = None
 least_of (v ∷ vs) = lesser (Some v) (least_of vs)
 
--- the greatest number of a list, None where it is empty
+-- the greatest number of a list, None if it is empty
 abbrev pub greatest_of : List ℤ → Option ℤ
 greatest_of [] = None
 greatest_of (v ∷ vs) = greater (Some v) (greatest_of vs)
 
--- the datum, or NULL where there are no values
+-- the datum, or NULL if there are no values
 abbrev pub unless_empty : List ℤ → Datum → Datum
 unless_empty [] shown = Null
 unless_empty (v ∷ vs) shown = shown
 
--- the number, or NULL where it is missing
+-- the number, or NULL if it is missing
 abbrev pub shown_or_null : Option ℤ → Datum
 shown_or_null None = Null
 shown_or_null (Some v) = Int v

@@ -1,4 +1,4 @@
--- The digits of a number, with zeros in front where it has fewer.
+-- The digits of a number, with zeros in front if it has fewer.
 use Rattle.std.specs.Prelude.{ℕ, ◌+◌, ◌/◌, ◌%◌, List, [], ◌∷◌, ◌++◌}
 
 -- of one below a hundred

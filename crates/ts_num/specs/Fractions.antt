@@ -14,7 +14,7 @@ pub record IsLowest (n : ℤ) (d : ℕ) (f : Frac) : Type 0 where
 abbrev pub divides_both : ℕ → ℕ → ℕ → Bool
 divides_both k a b = (a % k == 0) && (b % k == 0)
 
--- the greatest number up to k that divides both a and b, or 0 where there is none
+-- the greatest number up to k that divides both a and b, or 0 if there is none
 unfoldable pub greatest_common : ℕ → ℕ → ℕ → ℕ
 greatest_common zero a b = zero
 greatest_common (suc k) a b = cond (divides_both (suc k) a b) (suc k) (greatest_common k a b)

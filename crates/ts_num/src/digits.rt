@@ -1,4 +1,4 @@
-//! The decimal digits of a number, appended to a vector that has room for them.
+//! Appends the decimal digits of a number to a vector with enough room.
 ghost use Rattle.std.specs.Prelude.{◌≡◌, ◌+◌, ◌<◌, ◌≤◌, [], ◌∷◌, ◌++◌, decimal, vec_capacity, vec_len};
 ghost use Rattle.ts_num.specs.Digits.{eight_digits, four_digits, two_digits};
 
@@ -6,7 +6,7 @@ ghost use Rattle.ts_num.specs.Digits.{eight_digits, four_digits, two_digits};
 static PAIRS: [u8; 200] =
     *b"00010203040506070809101112131415161718192021222324252627282930313233343536373839404142434445464748495051525354555657585960616263646566676869707172737475767778798081828384858687888990919293949596979899";
 
-/// A number of 64 bits has at most so many digits.
+/// The greatest number of decimal digits of a 64-bit number.
 pub(crate) const MOST_DIGITS: usize = 20;
 
 /// The least number of nine digits.

@@ -2,7 +2,7 @@
 ghost use Rattle.std.specs.Prelude.{◌≡◌};
 ghost use Rattle.ts_num.specs.Aggregates.{greater};
 
-/// The greater of two numbers. Where one is missing, it is the other.
+/// The greater of two numbers. If one is missing, it is the other.
 pub fn greater(a: Option<i64>, b: Option<i64>) -> Option<i64>
     ensures value { result ≡ greater a b }
 {

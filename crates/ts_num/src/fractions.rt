@@ -24,8 +24,8 @@ pub fn lowest(sum: i128, count: u64) -> Frac
     }
 }
 
-/// The greatest number that divides both, by Euclid's steps. The first is taken apart, since after
-/// it both numbers have 64 bits.
+/// The greatest common divisor, by Euclid's algorithm. The first step is separate, since after it both numbers
+/// have 64 bits.
 fn common_divisor(a: u128, b: u64) -> u64
     requires { 0 < b }
     ensures { IsGcd a b result }
@@ -46,8 +46,8 @@ fn common_divisor_of_words(a: u64, b: u64) -> u64
     greater
 }
 
-/// States that `lowest_terms` of a number over a positive count is the one fraction in lowest terms
-/// that equals their quotient. It does nothing.
+/// States that `lowest_terms` of a number over a positive count is the one fraction in lowest terms that equals
+/// their quotient. Does nothing.
 pub fn lowest_terms_law()
     ensures { LowestTermsLaw }
 {}

@@ -12,8 +12,8 @@ use ts_schema::NoMemory;
 /// The greatest number of 64 bits.
 const MOST_WORD: u128 = u64::MAX as u128;
 
-/// Appends the decimal text of a number, with `-` before a negative one. Where memory runs out,
-/// `out` is as before.
+/// Appends the decimal text of a number, with `-` before a negative one. If memory runs out, `out` is as
+/// before.
 #[inline]
 #[tactic(auto, using(crate::proofs::DigitLaws::signs))]
 pub fn put_int(n: i128, out: &mut Vec<u8>) -> Result<(), NoMemory>
@@ -69,8 +69,7 @@ fn put_wide(sign: &[u8], size: u128, out: &mut Vec<u8>) -> Result<(), NoMemory>
     Ok(())
 }
 
-/// Appends the text of a value: `null`, a number, or a ratio as `n/d`. Where memory runs out, `out`
-/// is as before.
+/// Appends the text of a value: `null`, a number, or a ratio as `n/d`. If memory runs out, `out` is as before.
 pub fn put_datum(d: &Datum, out: &mut Vec<u8>) -> Result<(), NoMemory>
     ensures appended { OnOk result (out.new.items ≡ out.old.items ++ datum_text d.now) }
     ensures kept { OnErr result (out.new.items ≡ out.old.items) }
@@ -90,7 +89,7 @@ fn put_null(out: &mut Vec<u8>) -> Result<(), NoMemory>
     Ok(())
 }
 
-/// Appends a ratio whole or not at all, since it makes room for all of it first.
+/// Appends a whole ratio or nothing, since it makes room for all of it first.
 #[inline(never)]
 fn put_ratio(ratio: Frac, out: &mut Vec<u8>) -> Result<(), NoMemory>
     ensures appended { OnOk result (out.new.items ≡ out.old.items ++ ratio_text ratio) }

@@ -9,13 +9,13 @@ pub enum Fun {
     CountAll,
     /// The number of values that aren't NULL.
     Count,
-    /// The sum of the values, NULL where there are none.
+    /// The sum of the values, NULL if there are none.
     Sum,
-    /// The least value, NULL where there are none.
+    /// The least value, NULL if there are none.
     Min,
-    /// The greatest value, NULL where there are none.
+    /// The greatest value, NULL if there are none.
     Max,
-    /// The mean of the values as a ratio in lowest terms, NULL where there are none.
+    /// The mean of the values as a ratio in lowest terms, NULL if there are none.
     Avg,
 }
 

@@ -1,4 +1,5 @@
--- Going by the answers of a test, comparisons of whole numbers, and lists of which something holds of each item.
+-- Case analysis on the answer of a test, comparisons of whole numbers, and lists of whose items something is
+-- true.
 use Rattle.std.proofs.Common.{◌≡◌, refl, sym, ap, ◌∙◌, ℕ, ◌+◌, Bool, true, false, cond, ◌&&◌, ◌||◌, ◌++◌, filter, List, [], ◌∷◌, Option, Some, None, arith, ℤ, ◌≤ℤ◌, ◌<ℤ◌}
 use Rattle.std.proofs.lemmas.Bool.{and_parts, eq-eqb}
 use Rattle.std.proofs.lemmas.Int.{ints}
@@ -12,14 +13,14 @@ pub by_test : {G : Type 0} (t : Bool) → (t ≡ true → G) → (t ≡ false �
 by_test true pass fail = pass refl
 by_test false pass fail = fail refl
 
--- each of two tests passes where both do
+-- if both tests pass, each of them does
 pub and_first : (x y : Bool) → (x && y) ≡ true → x ≡ true
 and_first x y e = (and_parts x y e).0
 
 pub and_second : (x y : Bool) → (x && y) ≡ true → y ≡ true
 and_second x y e = (and_parts x y e).1
 
--- two tests are one where each passes if the other does
+-- two tests are equal if each passes when the other does
 pub same_test : (x y : Bool) → (x ≡ true → y ≡ true) → (y ≡ true → x ≡ true) → x ≡ y
 same_test true y to back = sym (to refl)
 same_test false true to back = back refl
@@ -30,7 +31,7 @@ pub or_swapped : (x y z : Bool) → (x || (y || z)) ≡ (y || (x || z))
 or_swapped true y z = sym (or-true y)
 or_swapped false y z = refl
 
--- what isn't there is none
+-- what is missing is none
 pub none_there : {X : Type 0} (o : Option X) → is_some o ≡ false → o ≡ None
 none_there None e = refl
 none_there (Some x) e = absurd (cc e)
@@ -54,7 +55,7 @@ lt-int_lt a b e = grind (arith, ints)
 
 -- ---- lists
 
--- what holds of each item gives what follows from it
+-- a property of each item, and a consequence of it
 pub all_weaker : {X : Type 0} (P Q : X → Type 0) → ((x : X) → P x → Q x) → (xs : List X) → AllByRecursion P xs → AllByRecursion Q xs
 all_weaker P Q h [] a = tt
 all_weaker P Q h (x ∷ xs) a = (h x a.0, all_weaker P Q h xs a.1)

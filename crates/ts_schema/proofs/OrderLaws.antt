@@ -1,4 +1,5 @@
--- Laws of the orders of values, of lists of values and of rows: they are total, and the first two tell all apart.
+-- Laws of the orders of values, of lists of values and of rows. They are total, and the first two find only
+-- equal values equal.
 use Rattle.std.proofs.Common.{◌≡◌, [], ◌∷◌, Option, None, Some, ℤ, refl, ap}
 use Rattle.std.specs.Cmp.{IsTotalOrder}
 use Rattle.std.specs.Cmp.Lexicographic.{slice_cmp}
@@ -39,7 +40,7 @@ values_cmp_total = lists_total value_cmp_total
 pub row_cmp_total : IsTotalOrder row_cmp
 row_cmp_total = then_total (on_total (λ r. r.at) int_cmp_total) (on_total (λ r. r.vals) values_cmp_total)
 
--- two orders one after the other answer equal where both do
+-- if one order after the other answers equal, both do
 pub then_equal : (a b : Ordering) → ordering_then a b ≡ Equal → (a ≡ Equal) × (b ≡ Equal)
 then_equal Less b e = cc
 then_equal Equal b e = (refl, e)

@@ -2,7 +2,7 @@
 use Rattle.std.proofs.Common.{◌≡◌, refl, ap, ◌∙◌, ℕ, zero, suc, ◌+◌, ◌-◌, ◌≤◌, List, [], ◌∷◌, length, take, drop, arith, min}
 use Rattle.std.proofs.lemmas.List.{drop-take, length-take}
 
--- items dropped twice are dropped at once
+-- dropping items twice is dropping them in one step
 pub drop_twice : {X : Type 0} (f a : ℕ) (xs : List X) → drop a (drop f xs) ≡ drop (f + a) xs
 drop_twice zero a xs = let e : 0 + a ≡ a = omega arith in rw e refl
 drop_twice (suc f) zero [] = let e : suc f + 0 ≡ suc f = omega arith in rw e refl
@@ -16,7 +16,7 @@ take_less (suc m) zero xs p = let no : ⊥ = omega (arith, p) in elim no [ ]
 take_less (suc m) (suc n) [] p = refl
 take_less (suc m) (suc n) (x ∷ xs) p = ap (λ ys. x ∷ ys) (take_less m n xs (omega (arith, p)))
 
--- the first n items are n at most
+-- the first n items are at most n
 pub no_longer : {X : Type 0} (n : ℕ) (xs : List X) → length (take n xs) ≤ n
 no_longer n xs = let e : length (take n xs) ≡ min n (length xs) = length-take n xs in omega (arith, e)
 

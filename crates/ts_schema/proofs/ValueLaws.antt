@@ -1,4 +1,5 @@
--- Values whose marks of NULL stand apart from the numbers: how many there are, one more of them, and one of them; and two lists item by item.
+-- Values whose marks of NULL are separate from the numbers: their number, one more value, and one value at a
+-- place. Also two lists compared item by item.
 use Rattle.std.proofs.Common.{◌≡◌, refl, sym, ap, ap₂, ◌∙◌, ℕ, zero, suc, ◌+◌, ◌-◌, ◌≤◌, ◌<◌, ℤ, Bool, true, false, List, [], ◌∷◌, ◌++◌, Some, None, Result, Ok, Err, length, take, drop, get_or, replicate, min, arith, length-append}
 use Rattle.std.proofs.lemmas.List.{get_or-take, get_or-drop, length-take, length-replicate, take_all}
 use Rattle.std.specs.Prelude.{OnErr}
@@ -14,14 +15,14 @@ length_marked (m ∷ marks) [] = refl
 length_marked [] (n ∷ numbers) = ap suc (length_marked [] numbers)
 length_marked (m ∷ marks) (n ∷ numbers) = ap suc (length_marked marks numbers)
 
--- a number at the end, behind all marks
+-- a number at the end, after all marks
 pub number_pushed : (marks : List Bool) (numbers : List ℤ) (n : ℤ) → length marks ≤ length numbers → marked_values marks (numbers ++ n ∷ []) ≡ marked_values marks numbers ++ Some n ∷ []
 number_pushed [] [] n few = refl
 number_pushed (m ∷ marks) [] n few = absurd (omega (arith, few))
 number_pushed [] (k ∷ numbers) n few = ap (λ vs. Some k ∷ vs) (number_pushed [] numbers n (omega arith))
 number_pushed (m ∷ marks) (k ∷ numbers) n few = ap (λ vs. unless_marked m k ∷ vs) (number_pushed marks numbers n (omega (arith, few)))
 
--- NULL at the end, where each number has a mark
+-- NULL at the end, if each number has a mark
 pub null_pushed : (marks : List Bool) (numbers : List ℤ) (n : ℤ) → length marks ≡ length numbers → marked_values (marks ++ true ∷ []) (numbers ++ n ∷ []) ≡ marked_values marks numbers ++ None ∷ []
 null_pushed [] [] n same = refl
 null_pushed (m ∷ marks) [] n same = absurd (omega (arith, same))
@@ -54,7 +55,7 @@ marked_at (m ∷ marks) (k ∷ numbers) (suc i) n within = marked_at marks numbe
 pub part_at : {X : Type 0} (f n i : ℕ) (xs : List X) (d : X) → i < n → get_or (take n (drop f xs)) i d ≡ get_or xs (f + i) d
 part_at f n i xs d within = get_or-take n (drop f xs) i d within ∙ get_or-drop f xs i d
 
--- ---- what a call that puts NULL at the end does
+-- ---- what a call that appends NULL does
 
 module _ (marks filled : List Bool) (numbers : List ℤ) (n k : ℕ) (count : n ≡ length numbers) (had : k ≡ length marks) (is : filled ≡ take n marks ++ replicate (n - k) false) where
   as_filled : filled ≡ take (length numbers) marks ++ replicate (length numbers - length marks) false
@@ -81,7 +82,7 @@ pub after_error : {T E P : Type 0} (r : Result T E) → P → OnErr r P
 after_error (Ok x) p = tt
 after_error (Err e) p = p
 
--- ---- where one of two lists has ended, the longer one is greater
+-- ---- if one of two lists has ended, the longer one is greater
 
 cmp_less : (x y : ℕ) → x < y → Less ≡ nat_cmp x y
 cmp_less x y below = grind arith

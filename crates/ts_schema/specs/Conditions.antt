@@ -8,7 +8,7 @@ use Rattle.ts_schema.specs.declared.conditions.Cmp.{Cmp}
 use Rattle.ts_schema.specs.declared.conditions.Cmp.TheVariants.{Eq, Ne, Lt, Le, Gt, Ge, IsNull, NotNull}
 use Rattle.ts_schema.specs.declared.conditions.Test.{Test}
 
--- whether a comparison of a value with a number is true; with NULL none is but IS NULL
+-- whether a comparison of a value with a number is true; for NULL only IS NULL is true
 abbrev pub compares : Cmp → Option ℤ → ℤ → Bool
 compares IsNull None n = true
 compares IsNull (Some v) n = false

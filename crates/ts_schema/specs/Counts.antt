@@ -12,7 +12,6 @@ raised_by m n = min (n + m) (2 ^ 64 - 1)
 abbrev pub RaisedUpTo : ℕ → ℕ → ℕ → Type 0
 RaisedUpTo m old new = (old ≤ new) × (new ≤ raised_by m old)
 
--- what a call that looks at m things one by one does to a count: it rises by m where the call succeeds, and by at
--- most m where it fails
+-- how a call that checks m things raises a count: by m if it succeeds, and by at most m if it fails
 abbrev pub Ticks : {T E : Type 0} → Result T E → ℕ → ℕ → ℕ → Type 0
 Ticks result m old new = MatchResult result (λ _. new ≡ raised_by m old) (λ _. RaisedUpTo m old new)

@@ -15,6 +15,6 @@ abbrev pub is_name : List ℕ → Bool
 is_name [] = false
 is_name (b ∷ bs) = nat_le (length (b ∷ bs)) 63 && is_head b && list_all is_tail bs
 
--- what is read as a name: the text itself where it is one, and nothing exactly where it isn't
+-- the result of reading a name: the text itself if it is a name, otherwise nothing
 abbrev pub IsNameOf : List ℕ → Option (List ℕ) → Type 0
 IsNameOf text read = MatchOption read (is_name text ≡ false) (λ name. (name ≡ text) × IsTrue (is_name name))

@@ -4,7 +4,7 @@ use crate::names::Name;
 /// A column of whole numbers.
 #[derive(Drop, Debug, Clone, PartialEq, Eq)]
 pub struct Column {
-    /// Its name, which is its own within its table.
+    /// Its name, which no other column of its table has.
     pub name: Name,
     /// Whether it is NOT NULL.
     pub must: bool,

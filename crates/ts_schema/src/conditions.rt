@@ -25,7 +25,7 @@ pub struct Test {
     pub col: u32,
     /// The comparison.
     pub cmp: Cmp,
-    /// The number to compare with; it plays no part where the test is on NULL.
+    /// The number to compare with; it has no effect if the test is on NULL.
     pub num: i64,
 }
 

@@ -1,5 +1,5 @@
-//! The vocabulary of every layer: lists, names, columns, rows, tests on rows, a count of steps, and
-//! the answer when memory runs out.
+//! The vocabulary of every layer: lists, names, columns, rows, tests on rows, a count of steps, and the error
+//! when memory runs out.
 #![tactic(auto)]
 
 mod columns;

@@ -1,8 +1,7 @@
-//! The one answer when memory runs out.
+//! The error of all crates when memory runs out.
 use std::alloc::{AllocError, AllocFailed};
 
-/// A growth was refused. Whatever the call was lent is as before the call, unless the call says
-/// otherwise.
+/// An allocation failed. Everything lent to the call is as before the call, unless the call says otherwise.
 #[derive(Clone, Copy, Debug, PartialEq, Eq)]
 pub struct NoMemory;
 

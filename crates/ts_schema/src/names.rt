@@ -29,7 +29,7 @@ impl Model for Name {
 }
 
 impl Name {
-    /// The name that this text is, and `None` exactly where the text is no name in lower case.
+    /// Returns the name with this text, or `None` if the text isn't a name in lower case.
     pub fn read(alloc: Global, text: &[u8]) -> Result<Option<Name>, NoMemory>
         ensures read { IfOk result (IsNameOf text.now) }
     {
@@ -49,7 +49,7 @@ impl Name {
         self.bytes.as_slice()
     }
 
-    /// The same name again.
+    /// A copy of the name.
     pub fn copy(&self) -> Result<Name, NoMemory>
         ensures same { IfOk result (λ copy. copy ≡ self.now) }
     {
@@ -110,14 +110,14 @@ fn is_head_byte(byte: u8) -> bool
     matches!(byte, b'a'..=b'z' | b'_')
 }
 
-/// Whether a name may go on with these bytes.
+/// Whether a name may continue with these bytes.
 fn are_tail_bytes(bytes: &[u8]) -> bool
     ensures { result ≡ list_all is_tail bytes.now }
 {
     bytes.iter().all(|b| is_tail_byte(*b))
 }
 
-/// Whether a name may go on with this byte.
+/// Whether a name may continue with this byte.
 fn is_tail_byte(byte: u8) -> bool
     ensures { result ≡ is_tail byte }
 {

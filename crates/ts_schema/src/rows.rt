@@ -27,7 +27,7 @@ pub fn field(row: &Row, col: u32) -> Option<i64>
     }
 }
 
-/// The value at a place, counted from 0; NULL where there is none.
+/// The value at a place, counted from 0; NULL if there is none.
 #[inline(always)]
 fn value_or_null(vals: &Values, i: usize) -> Option<i64>
     ensures { result ≡ slice_index_or vals.now i None }

@@ -5,7 +5,7 @@ use crate::memory::NoMemory;
 use std::alloc::Global;
 use std::marker::Model;
 
-/// A list of items. It keeps the allocator that it was made with.
+/// A list of items. It keeps the allocator that it was created with.
 #[derive(Drop, Debug)]
 pub struct Seq<T> {
     items: Vec<T>,
@@ -43,7 +43,7 @@ impl<T> Seq<T> {
         self.items
     }
 
-    /// How many items there are.
+    /// The number of items.
     #[inline(always)]
     pub fn len(&self) -> usize
         ensures len { result ≡ length self.now }
@@ -86,7 +86,7 @@ impl<T> Seq<T> {
         self.items[i] = item;
     }
 
-    /// Puts an item at the end.
+    /// Appends an item.
     pub fn push(&mut self, item: T) -> Result<(), NoMemory>
     where
         T: Drop,
@@ -99,7 +99,7 @@ impl<T> Seq<T> {
 }
 
 impl<T: Clone> Seq<T> {
-    /// The same list again, where a clone of an item equals the item.
+    /// A copy of the list, if a clone of an item equals the item.
     pub fn copy(&self) -> Result<Seq<T>, NoMemory>
         requires faithful { (x y : T) → T.is_clone x y → x ≡ y }
         ensures same { IfOk result (λ copy. copy ≡ self.now) }

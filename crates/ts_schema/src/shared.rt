@@ -8,8 +8,8 @@ use std::alloc::{AllocError, Global};
 use std::marker::Model;
 use std::sync::Arc;
 
-/// Items that never change: a part of a block, which copies and other parts share. A copy of it takes no
-/// memory but the count of the block's sharers. Contracts see it as the list of its items.
+/// Items that never change: a part of a block, which copies and other parts share. A copy takes no memory
+/// except one more count of the block's sharers. Contracts see it as the list of its items.
 #[derive(Drop, Debug)]
 pub struct SharedSlice<T> {
     block: Arc<Seq<T>>,
@@ -66,7 +66,7 @@ impl<T: Drop> SharedSlice<T> {
         SharedSlice::part(&self.block, first + from, first + to)
     }
 
-    /// How many items there are.
+    /// The number of items.
     #[inline]
     pub fn len(&self) -> usize
         ensures len { result ≡ length self.now }
@@ -82,7 +82,7 @@ impl<T: Drop> SharedSlice<T> {
         &self.block.items()[self.from as usize..self.to as usize]
     }
 
-    /// The same items again.
+    /// A copy of the items.
     pub fn copy(&self) -> Result<SharedSlice<T>, NoMemory>
         ensures same { IfOk result (λ copy. copy ≡ self.now) }
     {
@@ -94,7 +94,7 @@ impl<T: Drop> SharedSlice<T> {
     }
 }
 
-/// A place in a block, where 32 bits hold it.
+/// Returns a place in a block as 32 bits, or fails as out of memory if it doesn't fit.
 #[inline]
 pub(crate) fn place(i: usize) -> Result<u32, NoMemory>
     ensures place { IfOk result (λ place. place ≡ i) }

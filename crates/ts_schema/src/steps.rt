@@ -4,8 +4,8 @@ ghost use Rattle.ts_schema.specs.Counts.{one_more};
 
 use std::marker::Model;
 
-/// A count of steps. Making one takes a value of `L`, so code that is generic in `L` can't make one itself, and
-/// counts on the one that it is lent. Contracts see it as the number.
+/// A count of steps. Creating one takes a value of `L`. So code that is generic in `L` can't create one and
+/// must count on the one that it is lent. Contracts see it as the number.
 #[derive(Drop)]
 pub struct Steps<L> {
     name: L,
@@ -28,8 +28,8 @@ impl<L> Steps<L> {
         Steps { name, count: 0 }
     }
 
-    /// The count. To read it tells that it has 64 bits, so calls that hand steps on begin with `let _so_far = ..`,
-    /// whose value they don't need.
+    /// The count. Reading it tells the prover that it has 64 bits. So calls that pass steps on begin with `let
+    /// _so_far = ..` and ignore the value.
     pub fn count(&self) -> u64
         ensures count { result ≡ self.now }
     {

@@ -1,4 +1,4 @@
-//! The values of rows, whose marks of NULL stand apart from the numbers. Contracts see them as a plain list.
+//! The values of rows, whose marks of NULL are separate from the numbers. Contracts see them as a plain list.
 ghost use Rattle.std.specs.Prelude.{◌≡◌, ◌==◌, ◌-◌, ◌≤◌, ◌<◌, ◌^◌, [], ◌∷◌, ◌++◌, None, Some, false, length, take, drop, slice_index_or, IfOk, OnErr};
 ghost use Rattle.std.specs.Arc.{arc_value};
 ghost use Rattle.std.specs.Ordering.{int_eq};
@@ -12,13 +12,13 @@ use std::alloc::{AllocError, Global};
 use std::marker::Model;
 use std::sync::Arc;
 
-/// Values one after another, where NULL is `None`. One takes 8 bytes, and those up to the last NULL a byte more
-/// each: nearly no table has a NULL. Contracts see the list of them.
+/// Values in order, where NULL is `None`. A value takes 8 bytes. Those up to the last NULL take one more byte
+/// each. Few tables have a NULL. Contracts see the list of values.
 #[derive(Drop, Debug)]
 pub struct ValueBlock {
-    /// The numbers, with 0 in the place of a NULL.
+    /// The numbers, with 0 for each NULL.
     numbers: Vec<i64>,
-    /// For each place up to the last NULL whether NULL stands there.
+    /// Whether each value is NULL, up to the last NULL.
     nulls: Vec<bool>,
 }
 
@@ -34,7 +34,7 @@ impl Model for ValueBlock {
 }
 
 impl ValueBlock {
-    /// No value. It takes no memory.
+    /// No values. It takes no memory.
     pub fn new(alloc: Global) -> ValueBlock
         ensures items { result ≡ [] }
     {
@@ -44,7 +44,7 @@ impl ValueBlock {
         }
     }
 
-    /// No value, with room for so many.
+    /// No values, with room for `room` of them.
     pub fn with_capacity(alloc: Global, room: usize) -> Result<ValueBlock, NoMemory>
         ensures items { IfOk result (λ block. block ≡ []) }
     {
@@ -54,7 +54,7 @@ impl ValueBlock {
         })
     }
 
-    /// How many values there are.
+    /// The number of values.
     #[inline(always)]
     pub fn len(&self) -> usize
         ensures len { result ≡ length self.now }
@@ -78,7 +78,7 @@ impl ValueBlock {
         value_at(self.numbers.as_slice(), self.nulls.as_slice(), i)
     }
 
-    /// Puts a value at the end.
+    /// Appends a value.
     #[inline(always)]
     pub fn push(&mut self, value: Option<i64>) -> Result<(), NoMemory>
         ensures pushed { IfOk result (λ _. self.new ≡ self.old ++ value ∷ []) }
@@ -90,7 +90,7 @@ impl ValueBlock {
         }
     }
 
-    /// Puts a number at the end.
+    /// Appends a number.
     #[inline(always)]
     fn push_number(&mut self, number: i64) -> Result<(), NoMemory>
         ensures pushed { IfOk result (λ _. self.new ≡ self.old ++ Some number ∷ []) }
@@ -100,7 +100,7 @@ impl ValueBlock {
         Ok(())
     }
 
-    /// Puts NULL at the end. Marks are made up to its place.
+    /// Appends NULL. Adds marks up to its place.
     fn push_null(&mut self) -> Result<(), NoMemory>
         ensures pushed { IfOk result (λ _. self.new ≡ self.old ++ None ∷ []) }
         ensures kept { OnErr result (self.new ≡ self.old) }
@@ -130,7 +130,7 @@ fn is_marked(nulls: &[bool], i: usize) -> bool
     if i < nulls.len() { nulls[i] } else { false }
 }
 
-/// A number, or NULL where it is marked.
+/// A number, or NULL if it is marked.
 #[inline(always)]
 fn unless_marked(null: bool, number: i64) -> Option<i64>
     ensures { result ≡ unless_marked null number }
@@ -138,8 +138,8 @@ fn unless_marked(null: bool, number: i64) -> Option<i64>
     if null { None } else { Some(number) }
 }
 
-/// Values that never change: a part of a block, which copies and other parts share. A copy of it takes no
-/// memory but the count of the block's sharers. Contracts see it as the list of its values.
+/// Values that never change: a part of a block, which copies and other parts share. A copy takes no memory
+/// except one more count of the block's sharers. Contracts see it as the list of its values.
 #[derive(Drop, Debug)]
 pub struct Values {
     block: Arc<ValueBlock>,
@@ -187,7 +187,7 @@ impl Values {
         })
     }
 
-    /// How many values there are.
+    /// The number of values.
     #[inline(always)]
     pub fn len(&self) -> usize
         ensures len { result ≡ length self.now }
@@ -211,7 +211,7 @@ impl Values {
         self.block.get(self.from as usize + i)
     }
 
-    /// The same values again.
+    /// A copy of the values.
     pub fn copy(&self) -> Result<Values, NoMemory>
         ensures same { IfOk result (λ copy. copy ≡ self.now) }
     {

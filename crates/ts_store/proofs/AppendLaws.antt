@@ -1,4 +1,4 @@
--- A payload that is put behind a journal after its header.
+-- A payload that is appended to a journal after its header.
 use Rattle.std.proofs.Common.{◌≡◌, ℕ, Bool, true, sym, ◌∙◌, subst}
 use Rattle.ts_schema.specs.Faults.{Rose}
 use Rattle.txn_journal.specs.Calls.{Ends, IsCounted, IfDone, IfStopped}
@@ -11,7 +11,7 @@ use Rattle.ts_store.specs.Arming.{armed_after}
 ready_apart : Ready ≡ Still → ⊥
 ready_apart is = cc is
 
--- after a header that is there, an answer is that of the payload alone
+-- after an existing header, the result is that of the payload only
 pub ends_on : (answer : Append) (before mid now : JournalState) → Ends Done before mid → Ends answer mid now → Ends answer before now
 ends_on Done before mid now first second = (first.0, second.1)
 ends_on DiskFault before mid now first second = (first.0, second.1)
@@ -27,7 +27,7 @@ stopped_on Done before mid now P Q first second stopped = tt
 stopped_on DiskFault before mid now P Q first second stopped = tt
 stopped_on Stopped before mid now P Q first second stopped = absurd (ready_apart (sym first.1 ∙ second.0))
 
--- after a call that armed a store it is armed
+-- a store is armed after a call that armed it
 pub armed_done : (answer : Append) (before now : Bool) → now ≡ armed_after before answer → IfDone answer (now ≡ true)
 armed_done Done before now is = is
 armed_done DiskFault before now is = tt

@@ -1,4 +1,4 @@
--- What the calls of a store do to its state.
+-- The effect of a store's calls on its state.
 use Rattle.std.proofs.Common.{◌≡◌, ℕ, suc, ◌≤◌, true, List, [], ◌∷◌, ◌++◌, Option, Some, None, refl, sym, ◌∙◌, ap, subst}
 use Rattle.std.specs.Prelude.{IsTrue, is_some}
 use Rattle.std.proofs.lemmas.Bool.{le-ltb, cond-false, cond-true}
@@ -36,7 +36,7 @@ finds_itself s counted fell = record {
   fell = fell;
 }
 
--- the number of one event more
+-- the number after one more event
 number_push : (p : ℕ) (h : History) (e : Event) → p ≤ position h → numbers_above p (h ▸ e) ≡ numbers_above p h ++ (suc (position h) ∷ [])
 number_push p h e le = cond-false _ [] (numbers_above p h ++ (suc (position h) ∷ [])) (le-ltb (position h) p le)
 
@@ -125,13 +125,13 @@ module _ {D : Type 0} (bytes : D → Option (List ℕ)) (may_leave : D → List 
   pub does_without_memory : {A : Type 0} (act : History → Act A) (old new : StoreValue D) → Kept old → Same faults old new → StoreDoes faults moment act old NoMemory new
   does_without_memory act old new kept is = does_of act old new NoMemory kept (kept_by_any (act (history_seen old)) (state old) (state new) (keeps_state old new is))
 
-  -- a call said something, or was refused, and nothing changed
+  -- a call returned something, or was refused, and nothing changed
   pub does_say : {A : Type 0} (act : History → Act A) (old new : StoreValue D) (a b : A) → Kept old → act (history_seen old) ≡ returns a → b ≡ a → Same faults old new → StoreDoes faults moment act old (Done b) new
   does_say act old new a b kept is told same_state = does_by act (returns a) old new (Done b) kept is (told, keeps_state old new same_state)
 
   pub does_refuse : {A : Type 0} (act : History → Act A) (old new : StoreValue D) (r q : Refusal) → Kept old → act (history_seen old) ≡ refuses r → q ≡ r → Same faults old new → StoreDoes faults moment act old (Refused q) new
   does_refuse act old new r q kept is told same_state = does_by act (refuses r) old new (Refused q) kept is (told, keeps_state old new same_state)
 
-  -- what is looked at where nothing changed
+  -- what is read if nothing changed
   pub looks : (Tells : History → Type 0) (old new : StoreValue D) → Kept old → Same faults old new → Tells (history_seen old) → Looked true (state old) Tells (state new)
   looks Tells old new kept is told = record { found = state old; finds = finds_itself (state old) kept.counted kept.fell; keeps = keeps_state old new is; tells = told }

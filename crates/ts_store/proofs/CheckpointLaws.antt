@@ -1,4 +1,4 @@
--- What a checkpoint leaves on the disk.
+-- The effect of a checkpoint on the disk.
 use Rattle.std.proofs.Common.{◌≡◌, ◌⊎◌, inl, inr, ⊎_elim, ℕ, ◌≤◌, true, false, List, ◌∷◌, [], Option, None, IsSomeAnd, refl, sym, ◌∙◌, ap, subst}
 use Rattle.ts_disk.specs.CrashImage.{LeavesOnly}
 use Rattle.ts_disk.proofs.Told.{some_also}
@@ -22,9 +22,9 @@ use Rattle.ts_store.specs.declared.checkpoints.CheckEnd.TheVariants.{Done, Nothi
 use Rattle.ts_store.specs.Stands.{IsSound, content_of, payloads_of}
 use Rattle.ts_store.proofs.HistoryLaws.{no_event_is_base, sound_resumed}
 
--- ---- a base behind a journal
+-- ---- a base after a journal
 
--- with a base nothing else counts
+-- with a base only the base counts
 base_alone : (version : Version) (content : Content) (frame c : List ℕ) → version ≡ Two → is_base Two frame ≡ true → content_of_version_2 content ≡ content
     → WithOrWithout version (content_of_version_2 content) frame c → StandsForOne content (based_on frame) c
 base_alone version content frame c two base stays (inl stands) = inl (subst (StandsFor c) stays stands)
@@ -44,7 +44,7 @@ base_run moment left_since old mid new version content frame two base stays firs
     (λ c either. raised_alone content frame c stays either)
     (λ c either. base_alone version content frame c two base stays either)
 
--- ---- the image of a history behind its journal
+-- ---- the image of a history after its journal
 
 no_bases : (h : History) → has_base Two (payloads_of h) ≡ false
 no_bases start = refl
@@ -65,7 +65,7 @@ saved_stands : (h : History) (frame : List ℕ) → IsSound h → IsImageOf h fr
 saved_stands h frame sound image c (inl stands) = inl (record { holds = stands; sound = sound })
 saved_stands h frame sound image c (inr stands) = inr (image_stands h frame c image stands)
 
--- what holds where the store went on holds where something may have been written
+-- a property after the store continued is also true if something may have been written
 pub written_from : (P : Type 0) (end : CheckEnd) (past : Past) (failed : Option Event) (most : ℕ) → EndsAs end past failed most → (failed ≡ None → IfWritten end P) → IfWritten end P
 written_from P (Done p n) past failed most ends there = there ends.0.0
 written_from P (Nothing p) past failed most ends there = tt
@@ -74,7 +74,7 @@ written_from P DiskFault past failed most ends there = there ends.0
 written_from P (Stopped p) past failed most ends there = tt
 written_from P NoMemory past failed most ends there = tt
 
--- what reads give stays where nothing was written
+-- the content of reads stays if nothing was written
 pub untouched_shows : {D : Type 0} (bytes : D → Option (List ℕ)) (end : CheckEnd) (old new : D) (P : List ℕ → Type 0) → IfUntouched end (new ≡ old) → IsSomeAnd (bytes old) P → IfUntouched end (IsSomeAnd (bytes new) P)
 untouched_shows bytes (Done p n) old new P same_disk shown = tt
 untouched_shows bytes (Nothing p) old new P same_disk shown = subst (λ disk. IsSomeAnd (bytes disk) P) (sym same_disk) shown

@@ -1,4 +1,5 @@
--- A store and its snapshots may cross threads where its disk may: the parts of an engine one by one, since one search through all of them has no end.
+-- A store and its snapshots may cross threads if its disk may. The parts of an engine are proved one by one,
+-- since one search through all of them doesn't end.
 use Rattle.std.proofs.Crossing
 use Rattle.chunk_catalog.proofs.segment_trees.SegmentTree.TheLaws.TheKnot as PileKnot
 use Rattle.chunk_catalog.proofs.trees.Tree.TheLaws.TheKnot as TreeKnot

@@ -9,7 +9,7 @@ use Rattle.event_codec.specs.Spelling as spelling
 use Rattle.event_codec.proofs.BytesCounted.{bytes_counted}
 use Rattle.txn_journal.specs.Frames.{Fits, body}
 
--- a count that is capped at the greatest number of its type is exact if it is small
+-- a count capped at the greatest number of its type is exact if it is small
 pub small_count : (n told : ℕ) → told ≡ min n (2 ^ 64 - 1) → n < 2 ^ 32 → told ≡ n
 small_count n told is few = is ∙ min-eq_left (let le : n ≤ 2 ^ 64 - 1 = omega arith in le)
 

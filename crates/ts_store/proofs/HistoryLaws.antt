@@ -39,23 +39,23 @@ sound_begins b sound = record { allowed = allowed_begins b sound.allowed; formed
 pub sound_start : IsSound start
 sound_start = record { allowed = refl; formed = tt }
 
--- one event more
+-- one more event
 pub sound_push : (h : History) (e : Event) → IsSound h → IsTrue (allowed h e) → IsFormed e → IsSound (h ▸ e)
 sound_push h e sound fits formed = record { allowed = and_from (all_allowed h) (allowed h e) sound.allowed fits; formed = (sound.formed, formed) }
 
 -- ---- the bytes of events
 
--- two events with the same bytes are one
+-- two events with the same bytes are the same
 pub spelled_once : (d e : Event) → IsFormed d → IsFormed e → spelling.event d ≡ spelling.event e → d ≡ e
 spelled_once d e fd fe is = sym (no_prefix e d [] fe fd (is ∙ sym (append-nil (spelling.event e)))).0
 
--- two valid images with the same bytes are one
+-- two valid images with the same bytes are the same
 pub image_spelled_once : (i j : Image) → IsFormedImage i → IsFormedImage j → valid i ≡ true → valid j ≡ true → images.image i ≡ images.image j → i ≡ j
 image_spelled_once i j fi fj vi vj is =
     ap (λ (x : Image × Roster). x.0)
     (same_value (i, image_roster i) (j, image_roster j) [] [] (sym (image_again i (readable i fi vi)) ∙ ap whole_image is ∙ image_again j (readable j fj vj)))
 
--- two sound histories of the same base and the same bytes of events are one
+-- two sound histories with the same base and the same bytes of events are the same
 pub content_once : (g h : History) → IsSound g → IsSound h → base_of g ≡ base_of h → payloads_of g ≡ payloads_of h → g ≡ h
 content_once start start sg sh base is = refl
 content_once start (resumed j) sg sh base is = absurd (cc base)
@@ -84,11 +84,11 @@ base_is_image (h ▸ e) payload sound is none = base_is_image h payload (sound_b
 pub sound_resumed : (i : Image) → IsFormedImage i → valid i ≡ true → IsSound (resumed i)
 sound_resumed i formed is = record { allowed = is; formed = formed }
 
--- a payload is the bytes of one event, so where that one may not come next, no other may
+-- a payload is the bytes of one event, so if that event may not come next, no other may
 pub no_other : (h : History) (e : Event) → IsFormed e → (allowed h e ≡ true → ⊥) → IsNoEvent h (spelling.event e)
 no_other h e formed refused d next = refused (subst (λ (x : Event). allowed h x ≡ true) (sym (spelled_once e d formed next.formed next.spelled)) next.fits)
 
--- ---- what counts of the bytes of events
+-- ---- the content of the bytes of events
 
 -- no event is a base
 pub no_event_is_base : (version : Version) (e : Event) → is_base version (spelling.event e) ≡ false
@@ -101,6 +101,6 @@ no_event_is_base Two (Commit ops) = refl
 no_event_is_base Two (Cut view span) = refl
 no_event_is_base Two (Built cut snap) = refl
 
--- a payload that isn't one counts beside the others
+-- a payload that isn't a base counts along with the others
 pub event_counts : (version : Version) (h : History) (e : Event) → with_payload version (content_of h) (spelling.event e) ≡ content_of (h ▸ e)
 event_counts version h e = next_counts version (content_of h) (spelling.event e) (no_event_is_base version e)

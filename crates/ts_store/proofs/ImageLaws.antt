@@ -47,7 +47,7 @@ between_on opening opened seen now failed c is goes b = record {
   upto = inl (⊎_elim (λ before. begins_trans before goes) (λ whole. subst (λ (h : History). Begins h now) (sym whole) goes) b.upto);
 }
 
--- an image of what was there before a call, or of the last event with it
+-- an image of the history before a call, or of that history with the last event
 pub between_either : (opening before seen : History) (failed : Option Event) (c : List ℕ) → Begins opening before → Begins before seen → StandsForEither before (latest seen failed) c → IsBetween opening seen failed c
 between_either opening before seen failed c from goes (inl stands) = record { history = before; stands = stands; from = from; upto = inl goes }
 between_either opening before seen failed c from goes (inr stands) = record {
@@ -58,10 +58,10 @@ between_either opening before seen failed c from goes (inr stands) = record {
 }
 
 module _ {D : Type 0} (bytes : D → Option (List ℕ)) (may_leave : D → List ℕ → Type 0) (moment : D → ℕ) (left_since : D → ℕ → List ℕ → Type 0) where
-  -- images that begin with a history go on doing so
+  -- images that begin with a history still do
   pub begin_on : (old new : D) (P : List ℕ → Type 0) (t : ℕ) (h : History) → LeavesOnly moment left_since old new P → ((c : List ℕ) → P c → StandsForMore h c) → t ≤ moment old → BeginSince left_since old t h → BeginSince left_since new t h
   begin_on old new P t h run more le begin c left = ⊎_elim (begin c) (more c) (run.before t c le left)
 
--- what reads give of a journal that didn't stop
+-- the content of reads of a journal that didn't stop
 pub shown_told : {D : Type 0} (bytes : D → Option (List ℕ)) (journal : Logged D) (h : History) → IsSound h → IsTold bytes journal (content_of h) → IsSomeAnd (bytes journal.disk) (λ file. Stands file h)
 shown_told bytes journal h sound tells = some_is (bytes journal.disk) tells.file (λ file. Stands file h) tells.told (record { holds = lies_stands journal.standing journal.version tells.file journal.end (content_of h) tells.lies; sound = sound })

@@ -90,7 +90,7 @@ by_image payload (Err left) is = inr (not_one payload left is)
 image_or_none : (payload : List ℕ) → ImageOrNone payload
 image_or_none payload = by_image payload (whole_image payload) refl
 
--- ---- what a commit byte and the bytes after it say
+-- ---- the meaning of a commit byte and the bytes after it
 
 few_bytes : (bytes : List ℕ) → ((i : ℕ) → get_or bytes i 0 < 256) → from_le_bytes w32 bytes < 2 ^ 32
 few_bytes bytes each = omega (arith, each 0, each 1, each 2, each 3)
@@ -125,7 +125,7 @@ module _ (file : List ℕ) (bytes : AreBytes file) where
 
   -- ---- frame by frame
 
-  -- the frames of a journal, and where they end
+  -- the frames of a journal, and the place at which they end
   record FramesEnd (mark : ℕ) : Type 0 where
     all : List (List ℕ)
     gate : ℕ
@@ -157,7 +157,7 @@ module _ (file : List ℕ) (bytes : AreBytes file) where
     abbrev version : Version
     version = version_of mark
 
-    -- a payload behind others, behind which there is no base
+    -- a payload after others, after which there is no base
     follows_at : (h : History) (seen behind : List (List ℕ)) (payload : List ℕ) → frames.all ≡ (seen ++ payload ∷ []) ++ behind → content_of h ≡ counted_before version seen payload → has_base version behind ≡ false
         → Follows file version (content_of h) payload (length (front mark seen))
     follows_at h seen behind payload is counts none =
@@ -184,7 +184,7 @@ module _ (file : List ℕ) (bytes : AreBytes file) where
       damaged_there file h (length (front mark seen)) sound (record { version = version; payload = payload; follows = follows_at h seen behind payload is counts none; neither = neither }),
     )
 
-    -- all payloads counted, so the end tells
+    -- all payloads counted, so the end decides
     end_judged : (h : History) → IsSound h → content_of h ≡ content_from version frames.all → IsJudged file
     end_judged h sound counts = ⊎_elim
         (λ shut. inl (
@@ -222,7 +222,7 @@ module _ (file : List ℕ) (bytes : AreBytes file) where
         (same_number frames.gate 1))
         frames.stops
 
-    -- behind those that counted there is no base
+    -- after the payloads that counted there is no base
     events_judged : (h : History) (seen todo : List (List ℕ)) → IsSound h → frames.all ≡ seen ++ todo → content_of h ≡ content_from version seen → has_base version todo ≡ false → IsJudged file
     events_judged h seen [] sound is counts none = end_judged h sound (counts ∙ ap (content_from version) (sym (is ∙ append-nil seen)))
     events_judged h seen (payload ∷ todo) sound is counts none =

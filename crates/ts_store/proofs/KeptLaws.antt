@@ -1,4 +1,4 @@
--- What is true of a store stays so.
+-- The invariant of a store is kept.
 use Rattle.std.proofs.Common.{◌≡◌, Bool, ◌≢◌, inl, ⊎_elim, ℕ, ◌+◌, ◌-◌, ◌^◌, ◌≤◌, ◌<◌, true, false, min, List, Option, Some, None, IsSomeAnd, refl, sym, ◌∙◌, ap, subst, arith}
 use Rattle.std.specs.Prelude.{IsSome, IsTrue, is_some}
 use Rattle.std.proofs.lemmas.Bool.{true≢false}
@@ -44,7 +44,7 @@ not_still Bare going = refl
 not_still Ready going = refl
 not_still Still going = absurd (going refl)
 
--- one with a header, or that stopped, isn't bare
+-- a journal with a header, or one that stopped, isn't bare
 ready_apart : Ready ≡ Bare → ⊥
 ready_apart is = cc is
 
@@ -57,7 +57,7 @@ ready_headed s ready bare = ready_apart (sym ready ∙ bare)
 pub still_headed : (s : JournalState) → s ≡ Still → s ≢ Bare
 still_headed s still bare = still_apart (sym still ∙ bare)
 
--- a store failed exactly where its journal stopped
+-- a store failed if and only if its journal stopped
 pub none_of_going : (failed : Option Event) (s : JournalState) → is_some failed ≡ is_still s → s ≢ Still → failed ≡ None
 none_of_going None s is going = refl
 none_of_going (Some e) s is going = absurd (true≢false (is ∙ sym (not_still s going)))
@@ -81,7 +81,7 @@ module _ {D : Type 0} (bytes : D → Option (List ℕ)) (may_leave : D → List 
   abbrev Safe : StoreValue D → StoreValue D → Type 0
   Safe old new = IsSafe bytes may_leave moment left_since old new
 
-  -- a call is safe whose images are those of the history at entry, or of the one with its event
+  -- a call is safe if its images are those of the history at entry, or of that history with its event
   pub safe_of : (old new : StoreValue D) → (Rests bytes may_leave old → LeavesOnly moment left_since old.journal.disk new.journal.disk (StandsForEither (history_seen old) (latest (history_seen new) new.failed)))
       → Begins (history_seen old) (history_seen new) → (Tells bytes old → new.failed ≡ None → Tells bytes new) → (Rests bytes may_leave old → new.failed ≡ None → Rests bytes may_leave new)
       → (history_seen new ≡ history_seen old → new.failed ≡ old.failed → new.journal ≡ old.journal) → Safe old new
@@ -96,11 +96,11 @@ module _ {D : Type 0} (bytes : D → Option (List ℕ)) (may_leave : D → List 
     untouched = untouched;
   }
 
-  -- nothing happened on the disk: it leaves what it left
+  -- nothing happened on the disk: its crash images are the same
   pub stood : (disk : D) (P : List ℕ → Type 0) → ((c : List ℕ) → left_since disk (moment disk) c → P c) → LeavesOnly moment left_since disk disk P
   stood disk P here = record { later = omega arith; each = here; before = λ t c le left. inl left; keeps = λ t c le left. left }
 
-  -- a call that leaves events, journal and failure as they were
+  -- a call that doesn't change events, journal and failure
   pub safe_same : ((disk : D) (c : List ℕ) → left_since disk (moment disk) c → may_leave disk c) → (old new : StoreValue D) → IsSound (history_seen old)
       → new.engine.past ≡ old.engine.past → new.journal ≡ old.journal → new.failed ≡ old.failed → Safe old new
   safe_same only_now old new sound events journal failed =
@@ -118,7 +118,7 @@ module _ {D : Type 0} (bytes : D → Option (List ℕ)) (may_leave : D → List 
       stands_at_rest : (s : StoreValue D) (sound : IsSound (history_seen s)) (rest : Rests bytes may_leave s) → Stands rest.tells.file (history_seen s)
       stands_at_rest s sound rest = record { holds = lies_stands s.journal.standing s.journal.version rest.tells.file s.journal.end (content_of (history_seen s)) rest.tells.lies; sound = sound }
 
-  -- ---- what is true of a store stays so over a call whose images are those of the history at entry, or of the one with its event
+  -- ---- a safe call keeps the invariant of a store
 
   pub kept_after : (old new : StoreValue D) → Kept old → old.failed ≡ None
       → (Rests bytes may_leave old → LeavesOnly moment left_since old.journal.disk new.journal.disk (StandsForEither (history_seen old) (latest (history_seen new) new.failed)))
@@ -194,13 +194,13 @@ module _ {D : Type 0} (bytes : D → Option (List ℕ)) (may_leave : D → List 
     images = kept.images;
   }
 
-  -- what reads give of a journal with a header
+  -- the content of reads of a journal with a header
   pub shows_header : (s : StoreValue D) → Kept s → s.armed ≡ true → s.failed ≡ None → IsSome (bytes s.begun) → IsSomeAnd (bytes s.journal.disk) HasHeader
   shows_header s kept armed going some =
       let tells = kept.tells some going in
       some_is (bytes s.journal.disk) tells.file HasHeader tells.told (holds_header tells.file (content_of (history_seen s)) (lies_ready s.journal.standing s.journal.version tells.file s.journal.end (content_of (history_seen s)) (kept.headed armed) tells.lies).holds)
 
-  -- all that they give is on the disk, where it was at the start and the disk didn't fail
+  -- all of that content is on the disk, if it was at the start and the disk didn't fail
   pub durable_still : (s : StoreValue D) → Kept s → s.failed ≡ None → IsDurable bytes may_leave s.begun → IsDurable bytes may_leave s.journal.disk
   durable_still s kept going durable =
       let rests = kept.rests durable going in

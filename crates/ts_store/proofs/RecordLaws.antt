@@ -1,4 +1,4 @@
--- How an event is put onto the disk and counts from then on.
+-- How an event is written to the disk and counts from then on.
 use Rattle.std.proofs.Common.{◌≡◌, ◌≢◌, Bool, inl, ℕ, ◌≤◌, ◌<◌, ◌^◌, List, Option, Some, None, IsSomeAnd, suc, refl, sym, ◌∙◌, ap, subst, arith}
 use Rattle.std.specs.Prelude.{IsTrue, is_some}
 use Rattle.std.proofs.lemmas.Bool.{true≢false}
@@ -209,7 +209,7 @@ module _ {D : Type 0} (bytes : D → Option (List ℕ)) (may_leave : D → List 
         (λ told. some_also (bytes new.journal.disk) (λ file. StandsFor file (content_of there)) (StandsForEither (history_of new.engine.past) (latest (history_of new.engine.past) new.failed))
         (λ file stands. inl (subst (λ (h : History). Stands file h) (sym same_there) (record { holds = stands; sound = sound }))) (shown (content_of there) told))
 
--- a draft is one of the event that it holds
+-- a draft is a draft of its event
 pub own_draft : (h : History) (e : Event) (draft : FramedEvent) → IsDraft h e draft → IsDraft h draft.prepared.event draft
 own_draft h e draft is = record {
   event = refl;
@@ -219,7 +219,7 @@ own_draft h e draft is = record {
   prepared = is.prepared;
 }
 
--- a store whose header was asked for after it had stopped is as it was
+-- a store that is armed after it had stopped doesn't change
 pub stopped_same : {D : Type 0} (answer : Append) (old new : Recorder D) (begun : D) (opened : ℕ) (before now : Bool) → now ≡ armed_after before answer → IfStopped answer (new ≡ old) → IfStopped answer (store_of new begun opened now ≡ store_of old begun opened before)
 stopped_same Done old new begun opened before now armed same_recorder = tt
 stopped_same DiskFault old new begun opened before now armed same_recorder = tt

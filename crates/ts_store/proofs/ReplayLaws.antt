@@ -23,7 +23,7 @@ taken_sound payload old new sound taken =
     subst (λ (past : Past). IsSound (history_of past)) (sym taken.past)
     (subst IsSound (sym (history_push old taken.event)) (sound_push (history_of old) taken.event sound taken.next.fits taken.next.formed))
 
--- ---- a base whose image took the place of what was there
+-- ---- a base whose image replaced the earlier history
 
 pub resumed_counts : (payload : List ℕ) (new : Past) → IsResumed payload new → content_of (history_of new) ≡ based_on payload
 resumed_counts payload new resumes = ap (λ (past : Past). content_of (history_of past)) resumes.past ∙ ap based_on (sym resumes.spelled)
@@ -31,7 +31,7 @@ resumed_counts payload new resumes = ap (λ (past : Past). content_of (history_o
 pub resumed_sound : (payload : List ℕ) (new : Past) → IsResumed payload new → IsSound (history_of new)
 resumed_sound payload new resumes = subst (λ (past : Past). IsSound (history_of past)) (sym resumes.past) (sound_resumed resumes.image resumes.formed resumes.is_valid)
 
--- ---- a payload of no event
+-- ---- a payload that isn't the bytes of an event
 
 pub damaged_there : (file : List ℕ) (h : History) (at : ℕ) → IsSound h → IsWrong file h at → IsDamagedAt file at
 damaged_there file h at sound wrong = record { history = h; damage = record { sound = sound; broken = inr wrong } }

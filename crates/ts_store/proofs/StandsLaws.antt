@@ -21,7 +21,7 @@ journals_stand_once file g h a b =
     let one = stands_once file (content_of g) (content_of h) a.holds b.holds in
     content_once g h a.sound b.sound (ap (λ (c : Content). c.base) one) (ap (λ (c : Content). c.payloads) one)
 
--- ---- the beginning of what a journal holds
+-- ---- the beginning of a journal's content
 
 -- a history whose events begin with these payloads begins with a history of them
 pub record HasFront (h : History) (xs : List (List ℕ)) : Type 0 where
@@ -45,7 +45,7 @@ front_of (h ▸ e) xs more is = ⊎_elim
     record { part = before.part; begins = further before.begins; base = before.base; payloads = before.payloads })
     (last_of more)
 
--- a history of the same base, of these payloads and one more has an event of that one, which came next
+-- a history with the same base, these payloads and one more has the event of that last one next
 no_front : (g h : History) (w : List ℕ) → IsSound g → IsSound h → base_of g ≡ base_of h → payloads_of g ≡ payloads_of h ++ w ∷ [] → IsNoEvent h w → ⊥
 no_front start h w sg sh base is none = absurd (omega (arith, ap length is, length-append (payloads_of h) (w ∷ [])))
 no_front (resumed i) h w sg sh base is none = absurd (omega (arith, ap length is, length-append (payloads_of h) (w ∷ [])))
@@ -59,7 +59,7 @@ no_wrong g h w more sg sh base is none =
     let f = front_of g (payloads_of h ++ w ∷ []) more is in
     no_front f.part h w (sound_begins f.begins sg) sh (f.base ∙ base) f.payloads none
 
--- what counts of a sound history doesn't go on from what counts of one with a payload that is neither an event nor an
+-- the content of a sound history doesn't continue that of another by a payload that is neither an event nor an
 -- image
 no_beyond : (version : Version) (g h : History) (w : List ℕ) → IsSound g → IsSound h → IsNeither version h w → Beyond version (content_of h) w (content_of g) → ⊥
 no_beyond version g h w sg sh (inl no_image) beyond =
@@ -69,9 +69,9 @@ no_beyond version g h w sg sh (inr no_event) beyond =
     beyond.1 ∙ ap (λ (c : Content). record { base = c.base; payloads = c.payloads ++ beyond.0 }) (next_counts version (content_of h) w no_event.0) in
     no_wrong g h w beyond.0 sg sh (ap (λ (c : Content). c.base) counts) (ap (λ (c : Content). c.payloads) counts) no_event.1
 
--- ---- a file that contains a history is damaged nowhere
+-- ---- a file that contains a history isn't damaged
 
--- a payload stands behind nine bytes
+-- a payload is after nine bytes
 long_before : (file : List ℕ) (version : Version) (content : Content) (payload : List ℕ) (at : ℕ) → Follows file version content payload at → length file ≤ 9 → ⊥
 long_before file version content payload at follows short =
     absurd (omega (arith, short, ap length (follows.split ∙ front-push follows.mark follows.before payload (follows.gate ∷ follows.rest)), length-append (frames follows.before) (1 ∷ (body payload ++ follows.gate ∷ follows.rest)), length-append (body payload) (follows.gate ∷ follows.rest)))
@@ -91,7 +91,7 @@ journals_stand_or_are_damaged file g at a damaged =
 
 -- ---- a file is damaged at one place
 
--- a file that breaks off behind the events of one history is wrong behind those of none
+-- a file that breaks off after the events of one history isn't damaged after those of another
 apart_broken : (file : List ℕ) (g h : History) (p q : ℕ) → IsSound g → IsSound h → IsDamaged file (content_of g) p → IsWrong file h q → ⊥
 apart_broken file g h p q sg sh damaged wrong = ⊎_elim
     (λ foreign. foreign.begins (begins_magic file wrong.follows.mark (wrong.follows.before ++ wrong.payload ∷ []) (wrong.follows.gate ∷ wrong.follows.rest) wrong.follows.split))

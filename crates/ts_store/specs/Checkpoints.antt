@@ -1,4 +1,4 @@
--- What a checkpoint answers, and what it leaves on the disk.
+-- The results of a checkpoint, and its effect on the disk.
 use Rattle.std.specs.Prelude.{◌≡◌, ◌≢◌, ◌⊎◌, ℕ, ◌<◌, ◌≤◌, ◌^◌, ◌-◌, true, min, List, [], length, Option, Some, None, ⊤}
 use Rattle.ts_schema.specs.Faults.{Rose}
 use Rattle.ts_schema.specs.declared.rows.Row.{Row}
@@ -22,7 +22,7 @@ use Rattle.ts_store.specs.declared.image_writes.SaveOutcome.TheVariants as saved
 
 -- ---- the image
 
--- the image of a history has so many bytes, capped at the greatest number of 64 bits
+-- the image of a history has this many bytes, capped at the greatest number of 64 bits
 pub record HasImage (h : History) (n : ℕ) : Type 0 where
   pub image : Image
   pub is : IsImage h image
@@ -40,7 +40,7 @@ pub record IsImageOf (h : History) (payload : List ℕ) : Type 0 where
 abbrev pub held_rows : History → ℕ → List Row
 held_rows h t = rows t h
 
--- the frame of the image is made, or the image is too long
+-- the frame of the image is built, or the image is too long
 abbrev pub Saves : SaveOutcome → History → ℕ → Type 0
 Saves (saved.Framed frame bytes) h most = IsImageOf h frame × HasImage h bytes × (bytes ≤ most)
 Saves (saved.TooLong bytes) h most = HasImage h bytes × (most < bytes)
@@ -52,8 +52,9 @@ Saves saved.NoMemory h most = ⊤
 abbrev pub Goes : Past → Option Event → Type 0
 Goes past failed = (failed ≡ None) × (past.events ≢ [])
 
--- when each answer comes: `Stopped` exactly if the store had stopped, otherwise `Nothing` exactly if no event follows
--- the base, otherwise `TooLong` if the image has more bytes than were allowed
+-- the condition for each result. `Stopped` is returned if and only if the store had stopped, and otherwise
+-- `Nothing` if and only if no event follows the base. Otherwise it is `TooLong` if the image has more bytes
+-- than allowed
 abbrev pub EndsAs : CheckEnd → Past → Option Event → ℕ → Type 0
 EndsAs (Done p n) past failed most =
     Goes past failed × (p ≡ position (history_of past)) × HasImage (history_of past) n × (n ≤ most)
@@ -64,7 +65,7 @@ EndsAs DiskFault past failed most = Goes past failed
 EndsAs (Stopped p) past failed most = stop_at (history_of past) failed ≡ Some p
 EndsAs NoMemory past failed most = Goes past failed
 
--- P if something may have been written, and P if nothing was
+-- P if something may have been written; the second one is P if nothing was
 abbrev pub IfWritten : CheckEnd → Type 0 → Type 0
 IfWritten (Done p n) P = P
 IfWritten (Nothing p) P = ⊤
@@ -111,7 +112,7 @@ pub record StandsForImage (h : History) (file : List ℕ) : Type 0 where
 abbrev pub StandsSaved : History → List ℕ → Type 0
 StandsSaved h file = Stands file h ⊎ StandsForImage h file
 
--- a disk holds the image of a history, all of it is on the disk, and nothing else may be left
+-- a disk holds the image of a history, all of it is on the disk, and a crash leaves exactly that
 pub record HoldsImage {D : Type 0} (bytes : D → Option (List ℕ)) (may_leave : D → List ℕ → Type 0) (disk : D)
     (h : History) : Type 0 where
   pub file : List ℕ

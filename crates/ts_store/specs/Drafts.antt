@@ -1,4 +1,4 @@
--- Events with all the memory that they take.
+-- Events with all the memory that they need.
 use Rattle.std.specs.Prelude.{◌≡◌, IsTrue}
 use Rattle.ts_model.specs.declared.events.Event.{Event}
 use Rattle.ts_model.specs.Allowed.{allowed}

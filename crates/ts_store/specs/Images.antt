@@ -1,4 +1,4 @@
--- What a crash may leave of a store's disk.
+-- The crash images of a store's disk.
 use Rattle.std.specs.Prelude.{◌≡◌, ◌⊎◌, ℕ, ◌∷◌, ◌++◌, List, Option, Some, None}
 use Rattle.ts_disk.specs.CrashImage.{Only}
 use Rattle.ts_model.specs.declared.events.Event.{Event}
@@ -13,7 +13,7 @@ pub record IsDurable {D : Type 0} (bytes : D → Option (List ℕ)) (may_leave :
   pub told : bytes disk ≡ Some file
   pub durable : Only file (may_leave disk)
 
--- a file begins with the seven bytes that a journal begins with, a version byte, and a commit byte
+-- a file begins with the seven bytes of a journal, a version byte, and a commit byte
 pub record HasHeader (file : List ℕ) : Type 0 where
   pub mark : ℕ
   pub gate : ℕ

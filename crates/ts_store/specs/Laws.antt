@@ -7,7 +7,7 @@ use Rattle.ts_store.specs.Stands.{Stands, IsDamagedAt}
 abbrev pub StandsOnce : Type 0
 StandsOnce = (file : List ℕ) (g h : History) → Stands file g → Stands file h → g ≡ h
 
--- a file that contains a history is damaged nowhere
+-- a file that contains a history isn't damaged
 abbrev pub StandsOrDamaged : Type 0
 StandsOrDamaged = (file : List ℕ) (h : History) (at : ℕ) → Stands file h → IsDamagedAt file at → ⊥
 

@@ -37,7 +37,7 @@ abbrev pub DoesIn :
 DoesIn faults moment act begun opened armed old outcome new =
     StoreDoes faults moment act (store_of old begun opened armed) outcome (store_of new begun opened armed)
 
--- what is true of the store that has it stays so, whichever store it is
+-- the invariant of a store with this recorder is kept, for any such store
 abbrev pub StaysKept :
     {D : Type 0} → (D → Option (List ℕ)) → (D → List ℕ → Type 0) → (D → ℕ) → (D → ℕ → List ℕ → Type 0) → (D → ℕ)
     → Recorder D → Recorder D → Type 0
@@ -45,7 +45,7 @@ StaysKept {D} bytes may_leave moment left_since faults old new =
     (begun : D) (opened : ℕ) (armed : Bool) → IsKeptIn bytes may_leave moment left_since faults old begun opened armed
     → IsKeptIn bytes may_leave moment left_since faults new begun opened armed
 
--- a call does this, in whichever store it is
+-- a call does this, in any store with this recorder
 abbrev pub DoesKept :
     {D A : Type 0} → (D → Option (List ℕ)) → (D → List ℕ → Type 0) → (D → ℕ) → (D → ℕ → List ℕ → Type 0) → (D → ℕ)
     → (History → Act A) → Recorder D → Outcome A → Recorder D → Type 0
@@ -53,7 +53,7 @@ DoesKept {D} bytes may_leave moment left_since faults act old outcome new =
     (begun : D) (opened : ℕ) (armed : Bool) → IsKeptIn bytes may_leave moment left_since faults old begun opened armed
     → DoesIn faults moment act begun opened armed old outcome new
 
--- a call is safe, in whichever store it is
+-- a call is safe, in any store with this recorder
 abbrev pub IsSafeIn :
     {D : Type 0} → (D → Option (List ℕ)) → (D → List ℕ → Type 0) → (D → ℕ) → (D → ℕ → List ℕ → Type 0) → Recorder D
     → Recorder D → Type 0
@@ -61,7 +61,7 @@ IsSafeIn {D} bytes may_leave moment left_since old new =
     (begun : D) (opened : ℕ) (armed : Bool)
     → IsSafe bytes may_leave moment left_since (store_of old begun opened armed) (store_of new begun opened armed)
 
--- its journal didn't stop, and reads of it give the events of the history
+-- its journal didn't stop, and reads of it return the events of the history
 abbrev pub TellsIn : {D : Type 0} → (D → Option (List ℕ)) → Recorder D → Type 0
 TellsIn bytes recorder = IsTold bytes recorder.journal (content_of (history_of recorder.engine.past))
 
@@ -70,7 +70,7 @@ abbrev pub RestsIn : {D : Type 0} → (D → Option (List ℕ)) → (D → List 
 RestsIn bytes may_leave recorder =
     IsAtRest bytes may_leave recorder.journal (content_of (history_of recorder.engine.past))
 
--- what a header that is written leaves
+-- the effect of writing a header
 pub record ArmsSafely {D : Type 0} (bytes : D → Option (List ℕ)) (may_leave : D → List ℕ → Type 0) (moment : D → ℕ)
     (left_since : D → ℕ → List ℕ → Type 0) (answer : Append) (old new : Recorder D) : Type 0 where
   pub tells : TellsIn bytes old → IfDone answer (TellsIn bytes new)
@@ -79,7 +79,7 @@ pub record ArmsSafely {D : Type 0} (bytes : D → Option (List ℕ)) (may_leave 
   pub any_moment : RestsIn bytes may_leave old
       → LeavesOnly moment left_since old.journal.disk new.journal.disk
       (λ file. Stands file (history_of old.engine.past))
-  -- reads give such a file too, whether or not all of it was on the disk
+  -- reads also return such a file, whether or not all of it was on the disk
   pub shown : TellsIn bytes old
       → IsSomeAnd (bytes new.journal.disk) (λ file. Stands file (history_of old.engine.past))
   -- if each image since an earlier moment contains a history that begins with `h`, each still does

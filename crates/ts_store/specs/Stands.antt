@@ -1,4 +1,4 @@
--- What the bytes of a journal contain as a history, and where they are damaged.
+-- The history that the bytes of a journal contain, and the places at which they are damaged.
 use Rattle.std.specs.Prelude.{◌≡◌, ◌⊎◌, ℕ, true, false, List, [], ◌∷◌, ◌++◌, Option, Some, None, IsTrue, ⊤}
 use Rattle.ts_model.specs.declared.events.Event.{Event}
 use Rattle.ts_model.specs.declared.images.Image.{Image}
@@ -27,7 +27,7 @@ base_of start = None
 base_of (resumed i) = Some (images.image i)
 base_of (h ▸ e) = base_of h
 
--- what counts in a journal of a history: its base, and the bytes of each event after it
+-- the content of a journal of a history: its base, and the bytes of each event after it
 abbrev pub content_of : History → Content
 content_of h = record { base = base_of h; payloads = payloads_of h }
 
@@ -45,7 +45,7 @@ pub record IsSound (h : History) : Type 0 where
 
 -- ---- files
 
--- a file contains a history: what counts in it are the bytes of its image and of the events after it
+-- a file contains a history: its content is the bytes of the history's image and of the events after it
 pub record Stands (file : List ℕ) (h : History) : Type 0 where
   pub holds : StandsFor file (content_of h)
   pub sound : IsSound h
@@ -56,11 +56,11 @@ pub record IsNextEvent (h : History) (payload : List ℕ) (e : Event) : Type 0 w
   pub formed : IsFormed e
   pub fits : IsTrue (allowed h e)
 
--- it is the bytes of no event that may come next
+-- a payload isn't the bytes of an event that may come next
 abbrev pub IsNoEvent : History → List ℕ → Type 0
 IsNoEvent h payload = (e : Event) → IsNextEvent h payload e → ⊥
 
--- a payload is the bytes of no valid image
+-- a payload isn't the bytes of a valid image
 abbrev pub IsNoImage : List ℕ → Type 0
 IsNoImage payload = (i : Image) → IsFormedImage i → valid i ≡ true → payload ≡ images.image i → ⊥
 
@@ -70,17 +70,17 @@ IsNeither version h payload =
     ((is_base version payload ≡ true) × IsNoImage payload)
     ⊎ ((is_base version payload ≡ false) × IsNoEvent h payload)
 
--- after the events of this history and the commit byte of 1 at this place follows a payload of no event that may come
--- next, or of a base that is no valid image
+-- after the events of this history and the commit byte of 1 at this place there is a bad payload: it is neither
+-- an event that may come next nor a base with a valid image
 pub record IsWrong (file : List ℕ) (h : History) (at : ℕ) : Type 0 where
   pub version : Version
   pub payload : List ℕ
   pub follows : Follows file version (content_of h) payload at
   pub neither : IsNeither version h payload
 
--- a file is damaged at this place, after the events of this history: it doesn't begin as a journal, or too little
--- follows a commit byte of 1, or a base that is no valid image, or another payload that is no event that may come
--- next
+-- a file is damaged at this place, after the events of this history. It doesn't begin like a journal, or too
+-- few bytes follow a commit byte of 1, or a bad payload follows it. A bad payload is a base that isn't a valid
+-- image, or another payload that isn't an event that may come next
 pub record IsDamagedAfter (file : List ℕ) (h : History) (at : ℕ) : Type 0 where
   pub sound : IsSound h
   pub broken : IsDamaged file (content_of h) at ⊎ IsWrong file h at

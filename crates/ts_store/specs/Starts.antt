@@ -52,7 +52,7 @@ IfReplayed past (replayed.Damaged disk at) P = ⊤
 IfReplayed past (replayed.DiskFault disk) P = ⊤
 IfReplayed past (replayed.NoMemory disk) P = ⊤
 
--- reads of the journal give the events of the history
+-- reads of the journal return the events of the history
 abbrev pub TellsReplayed : {D T : Type 0} → (T → Past) → (D → Option (List ℕ)) → ReplayOutcome D T → Type 0
 TellsReplayed past bytes found = IfReplayed past found (λ journal h. IsTold bytes journal (content_of h))
 
@@ -122,8 +122,8 @@ IfReady (started.Damaged disk at) P = ⊤
 IfReady (started.DiskFault disk) P = ⊤
 IfReady (started.NoMemory disk) P = ⊤
 
--- a store at its start: it didn't fail, it wasn't armed, it keeps this disk in mind, and it was opened with its whole
--- history
+-- a store at its start: it didn't fail, it wasn't armed, its initial disk is this one, and it was opened with
+-- its whole history
 pub record IsNew {D : Type 0} (disk : D) (store : StoreValue D) : Type 0 where
   pub begun : store.begun ≡ disk
   pub goes_on : store.failed ≡ None

@@ -14,8 +14,8 @@ use Rattle.txn_journal.specs.declared.journals.JournalState.TheVariants.{Bare, R
 use Rattle.ts_store.specs.Images.{IsDurable, IsBetween, StandsForEither, latest}
 use Rattle.ts_store.specs.Stands.{IsSound, content_of}
 
--- a store: its engine, its journal, the event at which the disk failed, the disk as it was at the start, at
--- which position it was opened, and whether it was armed since
+-- a store: its engine, its journal and the event at which the disk failed; the disk as it was at the start, the
+-- position at which it was opened, and whether it was armed since
 pub record StoreValue (D : Type 0) : Type 0 where
   pub engine : EngineValue
   pub journal : Logged D
@@ -24,7 +24,7 @@ pub record StoreValue (D : Type 0) : Type 0 where
   pub opened : ℕ
   pub armed : Bool
 
--- a store at its start, with an engine and the journal that its events were read from
+-- a store at its start, with an engine and the journal from which its events were read
 abbrev pub store_at_start : {D : Type 0} → EngineValue → Logged D → D → StoreValue D
 store_at_start engine journal begun =
     record {
@@ -36,7 +36,7 @@ store_at_start engine journal begun =
       armed = false;
     }
 
--- what its owner knows a store by: the disk as it was at the start, and whether the store was armed since
+-- the identity of a store: the disk as it was at the start, and whether the store was armed since
 pub record Known (D : Type 0) : Type 0 where
   pub disk : D
   pub armed : Bool
@@ -66,7 +66,7 @@ origin_of faults moment s = record { faults = faults s.begun; opening = opening_
 abbrev pub stop_at : History → Option Event → Option ℕ
 stop_at h failed = cond (is_some failed) (Some (position h)) None
 
--- its state: it has made each event after those that it was opened with
+-- its state: it has created each event after those that it was opened with
 abbrev pub state_of : {D : Type 0} → (D → ℕ) → (D → ℕ) → StoreValue D → State
 state_of faults moment s = record {
   history = history_seen s;
@@ -82,7 +82,7 @@ is_still Bare = false
 is_still Ready = false
 is_still Still = true
 
--- its journal didn't stop, and reads of it give the events of the history
+-- its journal didn't stop, and reads of it return the events of the history
 abbrev pub Tells : {D : Type 0} → (D → Option (List ℕ)) → StoreValue D → Type 0
 Tells bytes s = IsTold bytes s.journal (content_of (history_seen s))
 
@@ -90,13 +90,13 @@ Tells bytes s = IsTold bytes s.journal (content_of (history_seen s))
 abbrev pub Rests : {D : Type 0} → (D → Option (List ℕ)) → (D → List ℕ → Type 0) → StoreValue D → Type 0
 Rests bytes may_leave s = IsAtRest bytes may_leave s.journal (content_of (history_seen s))
 
--- what is true of each store: of what reads give, if the bytes of the disk were known at the start, and of each image
--- since then, if all of them were on the disk
+-- the invariant of each store: on the content of reads, if the bytes of the disk were known at the start; and
+-- on each image since then, if all of these bytes were on the disk
 pub record IsKept {D : Type 0} (bytes : D → Option (List ℕ)) (may_leave : D → List ℕ → Type 0) (moment : D → ℕ)
     (left_since : D → ℕ → List ℕ → Type 0) (faults : D → ℕ) (s : StoreValue D) : Type 0 where
   pub sound : IsSound (history_seen s)
   pub from : s.opened ≤ position (history_seen s)
-  -- the count is a number of 64 bits, it hasn't fallen, and it rose if the store has stopped
+  -- the count has 64 bits, it hasn't fallen, and it rose if the store has stopped
   pub bounded : faults s.begun < 2 ^ 64
   pub counted : faults s.begun ≤ faults s.journal.disk
   pub fell : IsTrue (is_some s.failed) → Rose (faults s.begun) (faults s.journal.disk)
@@ -106,13 +106,13 @@ pub record IsKept {D : Type 0} (bytes : D → Option (List ℕ)) (may_leave : D 
   pub later : IsDurable bytes may_leave s.begun → moment s.begun ≤ moment s.journal.disk
   pub tells : IsSome (bytes s.begun) → s.failed ≡ None → Tells bytes s
   pub rests : IsDurable bytes may_leave s.begun → s.failed ≡ None → Rests bytes may_leave s
-  -- what reads give
+  -- the content of reads
   pub shown : IsSome (bytes s.begun)
       → IsSomeAnd (bytes s.journal.disk) (StandsForEither (history_seen s) (latest (history_seen s) s.failed))
   pub images : IsDurable bytes may_leave s.begun → (c : List ℕ) → left_since s.journal.disk (moment s.begun) c
       → IsBetween (opening_history s) (history_seen s) s.failed c
 
--- a call that does this, on a store that nobody else changes
+-- a call that does this, on a store that only the caller changes
 abbrev pub StoreDoes :
     {D A : Type 0} → (D → ℕ) → (D → ℕ) → (History → Act A) → StoreValue D → Outcome A → StoreValue D → Type 0
 StoreDoes faults moment act old outcome new =

@@ -1,4 +1,4 @@
--- What becomes of a payload that was read.
+-- The effect of a payload that was read.
 use Rattle.std.specs.Prelude.{◌≡◌, ℕ, true, List, Some, ⊤}
 use Rattle.ts_model.specs.declared.events.Event.{Event}
 use Rattle.ts_model.specs.declared.images.Image.{Image}
@@ -31,7 +31,7 @@ pub record IsResumed (payload : List ℕ) (new : Past) : Type 0 where
   pub is_valid : valid image ≡ true
   pub past : new ≡ past_from (Some image)
 
--- the image of a base took the place of what was there, or the base is no valid image
+-- the image of a base replaced the earlier history, or the base isn't a valid image
 abbrev pub Resumes : PayloadOutcome → List ℕ → Past → Type 0
 Resumes Done payload new = IsResumed payload new
 Resumes NoEvent payload new = IsNoImage payload

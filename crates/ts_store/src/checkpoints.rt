@@ -19,7 +19,7 @@ use std::alloc::Global;
 use ts_disk::Disk;
 use txn_journal::{Append, Frame, Journal};
 
-/// How a checkpoint ended. If it is neither `Done` nor `DiskFault`, nothing was written. After `DiskFault`
+/// The result of a checkpoint. If it is neither `Done` nor `DiskFault`, nothing was written. After `DiskFault`
 /// the journal contains the history as before, or its image.
 #[derive(Clone, Copy, Debug, PartialEq, Eq)]
 pub enum CheckEnd {
@@ -33,19 +33,19 @@ pub enum CheckEnd {
     DiskFault,
     /// The store had stopped at this position.
     Stopped(u64),
-    /// There is no memory.
+    /// It ran out of memory.
     NoMemory,
 }
 
-/// How a checkpoint ended, and the disk.
+/// The result of a checkpoint, and the disk.
 #[derive(Drop)]
 pub struct Checkpointed<D: Disk> {
     pub disk: D,
     pub end: CheckEnd,
 }
 
-/// Appends the image of a recorder's history to its journal, if it didn't stop, has events, and the image has
-/// at most `most` bytes.
+/// Appends the image of a recorder's history to its journal. Does so only if the recorder hasn't stopped and
+/// has events, and the image has at most `most` bytes.
 pub(crate) fn checkpoint<D: Disk>(
     alloc: Global,
     recorder: Recorder<D>,
@@ -74,7 +74,7 @@ pub(crate) fn checkpoint<D: Disk>(
     }
 }
 
-/// Does the same and keeps the recorder. After an I/O error the recorder is of no use.
+/// The same, but keeps the recorder. After an I/O error the recorder is unusable.
 fn write_image<D: Disk>(alloc: Global, recorder: &mut Recorder<D>, most: u64) -> CheckEnd
     requires history { IsSound (history_of recorder.old.engine.past) }
     requires still { is_some recorder.old.failed ≡ is_still recorder.old.journal.standing }

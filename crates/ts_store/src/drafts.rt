@@ -1,4 +1,4 @@
-//! Events with all the memory that they take: each is in its frame, and prepared.
+//! Events with all the memory that they need: each is in its frame, and prepared.
 ghost use Rattle.std.specs.Prelude.{◌≡◌, ◌<◌, ◌^◌, IfOk, IsTrue, OnOk};
 ghost use Rattle.ts_model.specs.Allowed.{allowed};
 ghost use Rattle.ts_model.specs.Bytes.{event_bytes};
@@ -44,12 +44,12 @@ pub(crate) fn spelling_law(engine: &Engine, event: &Event)
     ensures formed { IsFormed event.now }
     ensures few { event_bytes event.now < 2 ^ 32 }
 {
-    // A position that is read has 64 bits.
+    // Reading the position tells the prover that it has 64 bits.
     let _position = engine.length();
     sound_events_are_formed();
 }
 
-/// Takes all memory for an event that is allowed next.
+/// Allocates all memory for an event that is allowed next.
 pub(crate) fn draft_of(
     alloc: Global,
     engine: &mut Engine,

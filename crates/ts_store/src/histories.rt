@@ -11,23 +11,23 @@ use std::thread::Threads;
 use ts_disk::Disk;
 use txn_journal::{OpenOutcome, Reader};
 
-/// What reading the history of a journal found.
+/// The result of reading the history of a journal.
 #[derive(Drop)]
 pub enum HistoryRead<D: Disk> {
     /// The history that the journal contains.
     Ready { disk: D, ledger: Ledger },
-    /// The journal contains no history. This is its first damaged place, the same that the start of a store
-    /// finds.
+    /// The journal contains no history. This is its first damaged place, which is the one that the start of a
+    /// store finds.
     Damaged { disk: D, at: u64 },
     /// The disk failed.
     DiskFault(D),
-    /// There is no memory.
+    /// It ran out of memory.
     NoMemory(D),
 }
 
-/// Reads the journal on a disk, event by event, as the start of a store does, and keeps its history without
-/// its rows: to check whether an event may come next it doesn't need them. Writes nothing, and returns the
-/// disk on every answer.
+/// Reads the journal on a disk, event by event, as the start of a store does. Keeps its history without its
+/// rows, which aren't needed to check whether an event may come next. Writes nothing, and returns the disk with
+/// every result.
 pub fn read_history<R: Threads + Sync, D: Disk>(rt: &R, alloc: Global, disk: D) -> HistoryRead<D>
     requires sync { IsSync R.row }
     ensures reads { (file : List ℕ) → D.bytes disk ≡ Some file → ReadsHistory result file }
@@ -46,7 +46,7 @@ pub fn read_history<R: Threads + Sync, D: Disk>(rt: &R, alloc: Global, disk: D) 
     }
 }
 
-/// What was read of a journal, which is closed.
+/// Closes a journal, and returns the history that was read from it.
 fn close_replayed<D: Disk>(replayed: ReplayOutcome<D, Ledger>) -> HistoryRead<D>
     ensures reads { (file : List ℕ) → Replays told_to replayed file → ReadsHistory result file }
     ensures disk { disk_of_read result ≡ disk_of_replayed replayed }

@@ -19,14 +19,14 @@ use txn_journal::{Frame, close_frame, open_frame};
 pub(crate) enum SaveOutcome {
     /// The image is in a frame, and has this many bytes.
     Framed { frame: Frame, bytes: u64 },
-    /// The image has this many bytes, which are too many.
+    /// The image has this many bytes, which is too many.
     TooLong(u64),
-    /// There is no memory.
+    /// It ran out of memory.
     NoMemory,
 }
 
-/// Takes all memory for the image of an engine's history, if it has at most `most` bytes. Besides the frame
-/// it holds few of the engine's rows at a time.
+/// Allocates all memory for the image of an engine's history, if it has at most `most` bytes. Besides the frame
+/// it holds only a few of the engine's rows at a time.
 pub(crate) fn save(alloc: Global, engine: &Engine, most: u64) -> SaveOutcome
     requires allowed { all_allowed (history_of engine.now.past) ≡ true }
     requires most { most < 2 ^ 32 }
@@ -35,7 +35,7 @@ pub(crate) fn save(alloc: Global, engine: &Engine, most: u64) -> SaveOutcome
     let Ok(outline) = outline_of(alloc, engine) else {
         return SaveOutcome::NoMemory;
     };
-    // No memory holds as many rows as a group would need to be refused here.
+    // No memory can hold the number of rows that a group would need to be refused here.
     if !groups_are_few(&outline.rest) {
         return SaveOutcome::NoMemory;
     }
@@ -51,7 +51,8 @@ pub(crate) fn save(alloc: Global, engine: &Engine, most: u64) -> SaveOutcome
     }
 }
 
-/// The frame of the image of an engine's history, of so many bytes. It is filled in place: no payload is copied.
+/// The frame of the image of an engine's history, with `bytes` bytes. It is filled in place: no payload is
+/// copied.
 fn image_frame(
     alloc: Global,
     engine: &Engine,

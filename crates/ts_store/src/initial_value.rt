@@ -1,10 +1,10 @@
-//! What a disk was when a store started on it. Only contracts speak of it.
+//! The value of a disk when a store started on it. Only contracts use it.
 ghost use Rattle.std.specs.Prelude.{◌≡◌, ◌<◌, length};
 
 use logbook::{Opening, Rule, Seen, Start};
 use std::marker::Model;
 
-/// The rule of a book with one entry, in which nobody writes.
+/// The rule of a book with one entry that is never written again.
 pub struct OneEntry;
 
 impl<T> Rule<T, ()> for OneEntry {
@@ -30,7 +30,7 @@ impl<T> Opening<T, T> for OneEntry {
     ghost log = { λ count value. value ∷ [] };
 }
 
-/// What a value was once. It takes no memory, and no code can read it. Contracts see the value.
+/// An earlier value. It takes no memory, and no code can read it. Contracts see the value.
 #[derive(Drop)]
 pub struct InitialValue<T> {
     seen: Seen<T, (), OneEntry>,
@@ -46,7 +46,7 @@ impl<T> Model for InitialValue<T> {
 }
 
 impl<T> InitialValue<T> {
-    /// Remembers, for contracts, what a value is now.
+    /// Records the present value for contracts.
     pub fn of(value: &T) -> InitialValue<T>
         ensures value { result ≡ value.now }
     {

@@ -52,7 +52,7 @@ impl<D: Disk> Recorder<D> {
         match self.journal.arm() {
             Append::Done => Append::Done,
             Append::DiskFault => {
-                // No event was to be appended. No refresh has the number 0, so this one is never allowed.
+                // There was no event to append. No refresh has the number 0, so this one is never allowed.
                 self.failed = Some(Event::Built { cut: 0, snap: 0 });
                 Append::DiskFault
             }
@@ -60,7 +60,7 @@ impl<D: Disk> Recorder<D> {
         }
     }
 
-    /// Makes an event, unless its call is refused. Consumes the job of a finish on every answer.
+    /// Appends an event, unless its call is refused. Consumes the job of a finish with every result.
     pub(crate) fn make(
         &mut self,
         alloc: Global,
@@ -81,7 +81,7 @@ impl<D: Disk> Recorder<D> {
         }
     }
 
-    /// Makes an event that is allowed next, unless the journal has stopped.
+    /// Appends an event that is allowed next, unless the journal has stopped.
     fn make_checked(&mut self, alloc: Global, event: Event, job: Option<Job>) -> Outcome<Committed>
         requires history { IsSound (history_of self.old.engine.past) }
         requires allowed { IsTrue (allowed (history_of self.old.engine.past) event) }
@@ -97,7 +97,7 @@ impl<D: Disk> Recorder<D> {
         }
     }
 
-    /// Makes an event that is allowed next. The journal hasn't stopped.
+    /// Appends an event that is allowed next. The journal hasn't stopped.
     fn append_event(&mut self, alloc: Global, event: Event, job: Option<Job>) -> Outcome<Committed>
         requires history { IsSound (history_of self.old.engine.past) }
         requires allowed { IsTrue (allowed (history_of self.old.engine.past) event) }
@@ -114,7 +114,7 @@ impl<D: Disk> Recorder<D> {
         }
     }
 
-    /// Writes an event to the disk, and then lets it count. Takes no memory.
+    /// Writes an event to the disk, and then adds it to the history. Takes no memory.
     fn put(&mut self, draft: FramedEvent) -> Outcome<Committed>
         requires history { IsSound (history_of self.old.engine.past) }
         requires draft { IsDraft (history_of self.old.engine.past) draft.prepared.event draft }
@@ -160,8 +160,8 @@ impl<D: Disk> Recorder<D> {
         }
     }
 
-    /// Returns the disk. The process is about to end, so the engine's memory stays with it: the system takes it
-    /// back at once, and freeing it piece by piece would take time.
+    /// Returns the disk. Doesn't free the engine's memory: the process is about to end, and the system frees it
+    /// faster than piece by piece.
     pub(crate) fn into_disk(self) -> D
         ensures { result ≡ self.journal.disk }
     {

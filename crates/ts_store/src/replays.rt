@@ -23,31 +23,31 @@ use ts_model::Event;
 use ts_schema::{NoMemory, Seq};
 use txn_journal::{Journal, Next, Reader};
 
-/// What reading the events of a journal found.
+/// The result of reading the events of a journal.
 #[derive(Drop)]
 pub(crate) enum ReplayOutcome<D: Disk, T> {
-    /// The journal, and what followed its history.
+    /// The journal, and the follower of its history.
     Ready { journal: Journal<D>, follower: T },
     /// The first damaged place.
     Damaged { disk: D, at: u64 },
     /// The disk failed.
     DiskFault(D),
-    /// There is no memory.
+    /// It ran out of memory.
     NoMemory(D),
 }
 
 /// The outcome of a payload.
 #[derive(Clone, Copy)]
 pub(crate) enum PayloadOutcome {
-    /// Its event took effect, or its image replaced what was there.
+    /// Its event took effect, or its image replaced the earlier history.
     Done,
     /// It isn't the bytes of an event that may come next, or of a valid image.
     NoEvent,
-    /// There is no memory.
+    /// It ran out of memory.
     NoMemory,
 }
 
-/// Applies what counts of a journal, from its base on. Holds one payload at a time.
+/// Applies the payloads of a journal that count, from its base on. Holds one payload at a time.
 pub(crate) fn replay<R: Threads + Sync, D: Disk, T: Follower + Drop>(
     rt: &R,
     alloc: Global,

@@ -17,18 +17,19 @@ use ts_disk::Disk;
 use ts_schema::NoMemory;
 use txn_journal::{OpenOutcome, Reader};
 
-/// What the start of a store found.
+/// The result of starting a store.
 #[derive(Drop)]
 pub enum Started<D: Disk> {
     /// A store of the history that its journal contains.
     Ready(Store<D>),
-    /// The journal contains no history. This is its first damaged place: 0 if the file begins with other bytes
-    /// than a journal, and otherwise the place of a commit byte of 1. After that byte the file is too short, or a
-    /// base isn't the bytes of a valid image, or another payload isn't those of an event that may come next.
+    /// The journal contains no history. This is its first damaged place: 0 if the file doesn't begin like a
+    /// journal, and otherwise the place of a commit byte of 1. After that byte the file is too short, or there
+    /// is a bad payload: a base that isn't a valid image, or another one that isn't an event that may come
+    /// next.
     Damaged { disk: D, at: u64 },
     /// The disk failed.
     DiskFault(D),
-    /// There is no memory.
+    /// It ran out of memory.
     NoMemory(D),
 }
 
@@ -45,7 +46,7 @@ impl<D: Disk> Store<D> {
         ensures counted { CountsStarted result (D.faults disk) (D.faults (disk_of result)) }
     {
         let begun = InitialValue::of(&disk);
-        // A count that is read has 64 bits.
+        // Reading the count tells the prover that it has 64 bits.
         let _faults = disk.faults();
         let Ok(engine) = Engine::new(alloc) else {
             return Started::NoMemory(disk);
@@ -62,7 +63,7 @@ impl<D: Disk> Store<D> {
     }
 }
 
-/// What the start of a store found, on a disk whose journal was read so.
+/// The result of starting a store on a disk, given the result of reading its journal.
 fn from_replayed<D: Disk>(
     alloc: Global,
     begun: InitialValue<D>,

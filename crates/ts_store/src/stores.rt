@@ -25,9 +25,9 @@ use ts_disk::Disk;
 use ts_model::{Committed, Event, Outcome};
 use txn_journal::{Append, Journal};
 
-/// A store on a disk that nobody else changes. It appends each event to the journal before the event counts.
-/// After an I/O error the store has stopped, since the disk then holds the history with the last event or
-/// without it.
+/// A store on a disk that only this store changes. It appends each event to the journal before the event
+/// counts. After an I/O error the store has stopped, because the disk then holds the history with the last
+/// event or without it.
 #[derive(Drop)]
 pub struct Store<D: Disk> {
     alloc: Global,
@@ -53,7 +53,7 @@ impl<D: Disk> Model for Store<D> {
 }
 
 impl<D: Disk> Store<D> {
-    /// The store of an engine and of the journal that its events were read from.
+    /// The store of an engine and of the journal from which its events were read.
     pub(crate) fn new(
         alloc: Global,
         engine: Engine,
@@ -98,7 +98,7 @@ impl<D: Disk> Store<D> {
         ensures any_moment { Rests D.bytes D.may_leave self.old
             → LeavesOnly D.moment D.left_since self.old.journal.disk self.new.journal.disk
             (λ file. Stands file (history_seen self.old)) }
-        // Reads give such a file too, whether or not all of it was on the disk.
+        // Reads also return such a file, whether or not all of it was on the disk.
         ensures shown { Tells D.bytes self.old
             → IsSomeAnd (D.bytes self.new.journal.disk) (λ file. Stands file (history_seen self.old)) }
         // If each image since an earlier moment contains a history that begins with `h`, each still does.
@@ -116,21 +116,22 @@ impl<D: Disk> Store<D> {
         answer
     }
 
-    /// Returns the disk. A store is closed as its program ends, so the engine's memory stays with the process,
-    /// and isn't freed piece by piece.
+    /// Returns the disk. A store is closed when its program ends, so the engine's memory isn't freed piece by
+    /// piece.
     pub fn close(self) -> D
         ensures disk { result ≡ self.journal.disk }
-        // What reads give, if the bytes of the disk were known at the start.
+        // The bytes that reads return, if the bytes of the disk were known at the start.
         ensures shown { IsSome (D.bytes self.begun)
             → IsSomeAnd (D.bytes result) (StandsForEither (history_seen self) (latest (history_seen self) self.failed)) }
-        // If all bytes were on the disk at the start, all of them are, unless the disk failed: a later crash leaves
-        // what reads give.
+        // If all bytes were on the disk at the start, all of them are now, unless the disk failed. A later
+        // crash then leaves the bytes that reads return.
         ensures rests { self.failed ≡ None → IsDurable D.bytes D.may_leave self.begun
             → IsDurable D.bytes D.may_leave result }
-        // If the store was armed, what reads give begins with the header.
+        // If the store was armed, the bytes that reads return begin with the header.
         ensures header { self.armed ≡ true → self.failed ≡ None → IsSome (D.bytes self.begun)
             → IsSomeAnd (D.bytes result) HasHeader }
-        // If all bytes were on the disk at the start, this is what a crash at each moment since might have left.
+        // If all bytes were on the disk at the start, these are the files that a crash at each moment since
+        // might have left.
         ensures images { IsDurable D.bytes D.may_leave self.begun
             → (c : List ℕ) → D.left_since result (D.moment self.begun) c
             → IsBetween (opening_history self) (history_seen self) self.failed c }
@@ -139,9 +140,9 @@ impl<D: Disk> Store<D> {
         recorder.into_disk()
     }
 
-    /// Appends the image of the store's history to its journal, if it has at most `most` bytes: takes all memory,
-    /// raises the version, and then appends the image. A later start begins there. Returns the disk on every
-    /// answer.
+    /// Appends the image of the store's history to its journal, if it has at most `most` bytes. Allocates all
+    /// memory, raises the version, and then appends the image. A later start begins there. Returns the disk
+    /// with every result.
     pub fn checkpoint(self, most: u64) -> Checkpointed<D>
         requires armed { self.armed ≡ true }
         requires most { most < 2 ^ 32 }
@@ -150,10 +151,10 @@ impl<D: Disk> Store<D> {
         // A crash at any moment leaves the history, or its image.
         ensures any_moment { Rests D.bytes D.may_leave self → IfWritten result.end
             (LeavesOnly D.moment D.left_since self.journal.disk result.disk (StandsSaved (history_seen self))) }
-        // Reads give one of these too, whether or not all of it was on the disk.
+        // Reads also return one of these, whether or not all of it was on the disk.
         ensures shown { Tells D.bytes self → IfWritten result.end
             (IsSomeAnd (D.bytes result.disk) (StandsSaved (history_seen self))) }
-        // After `Done` the disk holds the image, and a crash leaves nothing else.
+        // After `Done` the disk holds the image, and a crash leaves exactly that.
         ensures done { Tells D.bytes self → IfSaved result.end
             (HoldsImage D.bytes D.may_leave result.disk (history_seen self)) }
         // If each image since an earlier moment contains a history that begins with `h`, each still does, or contains
@@ -161,11 +162,12 @@ impl<D: Disk> Store<D> {
         ensures earlier { (t : ℕ) (h : History) → Rests D.bytes D.may_leave self → Begins h (history_seen self)
             → t ≤ D.moment self.journal.disk → BeginSince D.left_since self.journal.disk t h
             → (c : List ℕ) → D.left_since result.disk t c → BeginsSaved h c }
-        // If all bytes were on the disk at the start, this is what a crash since then might have left.
+        // If all bytes were on the disk at the start, these are the files that a crash since then might have
+        // left.
         ensures images { IsDurable D.bytes D.may_leave self.begun
             → (c : List ℕ) → D.left_since result.disk (D.moment self.begun) c
             → IsBetween (opening_history self) (history_seen self) self.failed c ⊎ StandsForImage (history_seen self) c }
-        // If nothing was written, what reads give begins with the header.
+        // If nothing was written, the bytes that reads return begin with the header.
         ensures header { self.failed ≡ None → IsSome (D.bytes self.begun)
             → IfUntouched result.end (IsSomeAnd (D.bytes result.disk) HasHeader) }
         ensures counted { CountsEnd result.end (D.faults self.journal.disk) (D.faults result.disk) }
@@ -173,7 +175,7 @@ impl<D: Disk> Store<D> {
         checkpoint(self.alloc, self.recorder, most)
     }
 
-    /// Makes an event, unless its call is refused. Consumes the job of a finish on every answer.
+    /// Appends an event, unless its call is refused. Consumes the job of a finish with every result.
     pub(crate) fn make(&mut self, event: Event, job: Option<Job>) -> Outcome<Committed>
         requires sound { IsTrue (sound (history_seen self.old) event) }
         requires job { JobIsFor (history_seen self.old) event job }
@@ -184,7 +186,7 @@ impl<D: Disk> Store<D> {
         self.recorder.make(self.alloc, event, job)
     }
 
-    /// States what is true of each store. Does nothing.
+    /// States the invariant of each store. Does nothing.
     pub(crate) fn store_law(&self)
         ensures kept { IsKept D.bytes D.may_leave D.moment D.left_since D.faults self.now }
     {
@@ -199,7 +201,7 @@ impl<D: Disk> Store<D> {
     }
 }
 
-/// Whether a store is armed after `arm` gave this answer.
+/// Whether a store is armed after `arm` returned this result.
 fn is_armed_after(armed: bool, answer: Append) -> bool
     ensures { result ≡ armed_after armed answer }
 {

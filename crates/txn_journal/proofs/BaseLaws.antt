@@ -28,7 +28,7 @@ walk_begins file long starts = record { mark = get_or file 7 0; passed = []; fra
 
 -- ---- one frame more
 
--- the byte behind a length tells whether the payload is a base
+-- the byte after a length says whether the payload is a base
 is_base_by : (file : List ℕ) (at n first : ℕ) → IsHead (Frame n first) file at → is_base Two (take n (drop (at + 5) file)) ≡ (nat_lt 0 n && nat_eq first 8)
 is_base_by file at zero first head = refl
 is_base_by file at (suc n) first head =
@@ -93,7 +93,7 @@ module _ (file : List ℕ) (at base n first : ℕ) (walked : HasWalked file at b
 
 -- ---- the end of the walk
 
--- a journal begins with the frames of some payloads where it begins with those of more
+-- a journal begins with the frames of some payloads if it begins with those of more
 part_of : (file : List ℕ) (mark at : ℕ) (some more : List (List ℕ)) (base : ℕ) → HasFrames file mark at (some ++ more) → (rest : List ℕ) → file ≡ front mark some ++ rest → base ≡ length (front mark some) → HasFrames file mark base some
 part_of file mark at some more base frames rest is place = record {
   before = ap (take base) is ∙ take_at (front mark some) rest base (sym place);

@@ -1,4 +1,4 @@
--- What counts of the payloads of a journal.
+-- The payloads of a journal that count.
 use Rattle.std.proofs.Common.{◌≡◌, ◌⊎◌, inl, inr, ⊎_elim, ◌||◌, ℕ, Bool, true, false, List, [], ◌∷◌, ◌++◌, length, take, refl, sym, ◌∙◌, ap, append_assoc}
 use Rattle.std.specs.Prelude.{IsSome, is_some}
 use Rattle.std.proofs.lemmas.Bool.{cond-true, cond-false, or_parts}
@@ -31,7 +31,7 @@ payloads_join version content (p ∷ some) more = payloads_join version (with_pa
 pub head_and_rest : (version : Version) (payload : List ℕ) (payloads : List (List ℕ)) → has_base version (payload ∷ payloads) ≡ false → (is_base version payload ≡ false) × (has_base version payloads ≡ false)
 head_and_rest version payload payloads none = or_parts (is_base version payload) (has_base version payloads) none
 
--- the first and the others have none where all have none
+-- the first payload and the others are no bases if none of all is
 pub none_of_either : (version : Version) (some more : List (List ℕ)) → has_base version (some ++ more) ≡ false → (has_base version some ≡ false) × (has_base version more ≡ false)
 none_of_either version [] more none = (refl, none)
 none_of_either version (p ∷ some) more none =
@@ -48,7 +48,7 @@ none_of_both version (p ∷ some) more none_some none_more =
 pub none_of_one : (version : Version) (payload : List ℕ) → is_base version payload ≡ false → has_base version (payload ∷ []) ≡ false
 none_of_one version payload is = λ k. is k || false
 
--- in version 1 there are none
+-- in version 1 there are no bases
 pub none_in_one : (payloads : List (List ℕ)) → has_base One payloads ≡ false
 none_in_one [] = refl
 none_in_one (p ∷ payloads) = none_in_one payloads
@@ -73,7 +73,7 @@ base_or_none version (p ∷ all) = ⊎_elim
     by_kind true is none = inr (record { before = []; payload = p; behind = all; split = refl; base = is; none = none })
     by_kind false is none = inl (λ k. is k || none k)
 
--- where there are none, all counts
+-- if there are no bases, all payloads count
 pub all_counts : (version : Version) (content : Content) (payloads : List (List ℕ)) → has_base version payloads ≡ false
     → with_payloads version content payloads ≡ record { base = content.base; payloads = content.payloads ++ payloads }
 all_counts version content [] none = λ k. record { base = content.base; payloads = sym (append-nil content.payloads) k }
@@ -83,7 +83,7 @@ all_counts version content (p ∷ payloads) none =
     ∙ all_counts version (with_next content p) payloads parts.1
     ∙ (λ k. record { base = content.base; payloads = append_assoc content.payloads (p ∷ []) payloads k })
 
--- the payloads behind a base are none
+-- the payloads after the last base aren't bases
 none_behind : (version : Version) (content : Content) (payloads : List (List ℕ)) → has_base version content.payloads ≡ false → has_base version (with_payloads version content payloads).payloads ≡ false
 none_behind version content [] none = none
 none_behind version content (p ∷ payloads) none = none_behind version (with_payload version content p) payloads (by_kind (is_base version p) refl)
@@ -94,7 +94,7 @@ none_behind version content (p ∷ payloads) none = none_behind version (with_pa
         ap (λ (c : Content). has_base version c.payloads) (next_counts version content p is)
         ∙ none_of_both version content.payloads (p ∷ []) none (none_of_one version p is)
 
--- where there is a base, there is one from then on
+-- once there is a base, there always is one
 base_stays : (version : Version) (content : Content) (payloads : List (List ℕ)) → IsSome content.base → IsSome (with_payloads version content payloads).base
 base_stays version content [] some = some
 base_stays version content (p ∷ payloads) some = base_stays version (with_payload version content p) payloads (by_kind (is_base version p) refl)
@@ -103,7 +103,7 @@ base_stays version content (p ∷ payloads) some = base_stays version (with_payl
     by_kind true is = ap (λ (c : Content). is_some c.base) (base_counts version content p is)
     by_kind false is = ap (λ (c : Content). is_some c.base) (next_counts version content p is) ∙ some
 
--- where there is no base, all counts
+-- if there is no base, all payloads count
 pub all_without_base : (version : Version) (content : Content) (payloads : List (List ℕ)) → (IsSome (with_payloads version content payloads).base → ⊥)
     → (with_payloads version content payloads).payloads ≡ content.payloads ++ payloads
 all_without_base version content [] none = sym (append-nil content.payloads)
@@ -120,7 +120,7 @@ all_without_base version content (p ∷ payloads) none = by_kind (is_base versio
 
 -- ---- another version
 
--- without a payload that would be a base the version makes no difference
+-- without a payload that would be a base, the version makes no difference
 pub raised_same : (content : Content) → has_base Two content.payloads ≡ false → content_of_version_2 content ≡ content
 raised_same content none = all_counts Two (record { base = content.base; payloads = [] }) content.payloads none
 

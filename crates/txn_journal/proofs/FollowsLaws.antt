@@ -1,4 +1,4 @@
--- What counts before a payload of a file, and where its frames end.
+-- The content before a payload of a file, and the end of its frames.
 use Rattle.std.proofs.Common.{◌≡◌, ◌≢◌, ◌⊎◌, inl, inr, ⊎_elim, ℕ, Bool, true, false, List, [], ◌∷◌, ◌++◌, length, refl, sym, ◌∙◌, ap, subst, arith, append_assoc, length-append}
 use Rattle.std.proofs.lemmas.Bool.{cond-false}
 use Rattle.std.proofs.lemmas.List.{append-nil, append_cancel_left}
@@ -25,7 +25,7 @@ pub gate_behind : (more : List (List ℕ)) (gate : ℕ) (rest : List ℕ) → (g
 gate_behind [] gate rest = (gate, (rest, refl))
 gate_behind (p ∷ more) gate rest = (1, ((body p ++ frames more) ++ gate ∷ rest, refl))
 
--- where frames end behind these payloads and others of which none is a base, no base stands behind these
+-- if frames end after these payloads and others, none of which is a base, no base follows these
 pub none_there : (file : List ℕ) (mark : ℕ) (some behind : List (List ℕ)) (gate : ℕ) (rest : List ℕ) → AllFit (some ++ behind) → (gate ≢ 1) ⊎ IsShort rest
     → file ≡ front mark (some ++ behind) ++ gate ∷ rest → has_base (version_of mark) behind ≡ false → NoBaseBehind file mark some
 none_there file mark some behind gate rest fit stops is none more g r fit_more is_more =
@@ -39,7 +39,7 @@ none_there file mark some behind gate rest fit stops is none more g r fit_more i
 abbrev pub GoesOn : Content → Content → List (List ℕ) → Type 0
 GoesOn from to more = to ≡ record { base = from.base; payloads = from.payloads ++ more }
 
--- what counts with a payload that follows is what counts of the payloads up to it
+-- the content with a payload that follows is the content of the payloads up to it
 counted_with : (file : List ℕ) (version : Version) (content : Content) (payload : List ℕ) (at : ℕ) → (follows : Follows file version content payload at)
     → content_from version (follows.before ++ payload ∷ []) ≡ with_payload version content payload
 counted_with file version content payload at follows = payloads_push version nothing follows.before payload ∙ by_kind (is_base version payload) refl
@@ -48,7 +48,7 @@ counted_with file version content payload at follows = payloads_push version not
     by_kind true is = base_counts version (content_from version follows.before) payload is ∙ sym (base_counts version content payload is)
     by_kind false is = ap (λ (c : Content). with_payload version c payload) (sym (follows.counts ∙ cond-false _ nothing (content_from version follows.before) is))
 
--- what counts of payloads that begin with those up to one that follows
+-- the content of payloads that begin with those up to one that follows
 module _ (file : List ℕ) (version : Version) (content : Content) (payload : List ℕ) (at : ℕ) (follows : Follows file version content payload at) where
   upto_goes_on : (more : List (List ℕ)) → has_base version more ≡ false → GoesOn (with_payload version content payload) (content_from version ((follows.before ++ payload ∷ []) ++ more)) more
   upto_goes_on more none =
@@ -59,7 +59,7 @@ module _ (file : List ℕ) (version : Version) (content : Content) (payload : Li
   none_more : (more : List (List ℕ)) (gate : ℕ) (rest : List ℕ) → AllFit ((follows.before ++ payload ∷ []) ++ more) → file ≡ front follows.mark ((follows.before ++ payload ∷ []) ++ more) ++ gate ∷ rest → has_base version more ≡ false
   none_more more gate rest fit split = ap (λ (v : Version). has_base v more) (sym follows.of_version) ∙ follows.last more gate rest fit split
 
-  -- where the frames of a file end, its content is what counts with the payload, and more payloads
+  -- at the end of a file's frames, its content is the content with the payload, and more payloads
   pub ends_behind : (mark : ℕ) (all : List (List ℕ)) (gate : ℕ) (rest : List ℕ) → AllFit all → (gate ≢ 1) ⊎ IsShort rest → file ≡ front mark all ++ gate ∷ rest
       → (more : List (List ℕ)) × GoesOn (with_payload version content payload) (content_from (version_of mark) all) more
   ends_behind mark all gate rest fit stops split =
@@ -94,15 +94,15 @@ last_of (x ∷ xs) = inr (⊎_elim
 
 -- ---- two payloads that follow
 
--- they are one, at one place
+-- they are the same, at the same place
 abbrev pub SameThere : (file : List ℕ) (a b : Content) (w u : List ℕ) (p q : ℕ) → Type 0
 SameThere file a b w u p q = (a ≡ b) × (w ≡ u) × (p ≡ q)
 
--- the second follows the first, so what counts before it is what counts with the first, and more payloads
+-- the second follows the first, so the content before it is the content with the first, and more payloads
 abbrev pub Beyond : Version → Content → List ℕ → Content → Type 0
 Beyond version a w b = (more : List (List ℕ)) × GoesOn (with_payload version a w) b more
 
--- the one is among the first of the payloads that the other ends
+-- the first of the two is among the payloads up to the second
 later_of : (file : List ℕ) (va vb : Version) (a b : Content) (w u : List ℕ) (p q : ℕ) → (x : Follows file va a w p) → (y : Follows file vb b u q) → x.mark ≡ y.mark
     → (more : List (List ℕ)) → y.before ++ u ∷ [] ≡ (x.before ++ w ∷ []) ++ more → SameThere file a b w u p q ⊎ Beyond va a w b
 later_of file va vb a b w u p q x y marks more is = ⊎_elim

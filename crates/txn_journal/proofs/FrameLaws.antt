@@ -1,4 +1,4 @@
--- What a crash leaves in each of the steps of an append.
+-- The crash images at each step of an append.
 use Rattle.std.proofs.Common.{◌≡◌, ◌⊎◌, inl, inr, ⊎_elim, ℕ, ◌+◌, ◌-◌, ◌<◌, ◌≤◌, List, [], ◌∷◌, ◌++◌, length, take, drop, get_or, refl, sym, ◌∙◌, ap, subst, arith, append_assoc, length-append, take-append-drop}
 use Rattle.std.proofs.lemmas.Bool.{cases_eq}
 use Rattle.std.proofs.lemmas.List.{append-nil, take_at, drop_at, drop_all, drop_more}
@@ -41,7 +41,7 @@ pub fit-join : (some more : List (List ℕ)) → AllFit some → AllFit more →
 fit-join [] more fits all = all
 fit-join (p ∷ some) more fits all = (fits.0, fit-join some more fits.1 all)
 
--- a file that is the front of these payloads and a commit byte, whatever follows it
+-- a file that is the front of these payloads and a commit byte, with anything after it
 split_at_gate : (file : List ℕ) (n : ℕ) (before : List ℕ) → take n file ≡ before → n < length file → file ≡ before ++ get_or file n 0 ∷ drop (n + 1) file
 split_at_gate file n before is le = sym (take-append-drop n file) ∙ ap (λ (l : List ℕ). l ++ drop n file) is ∙ ap (λ (l : List ℕ). before ++ l) (drop_more file n 0 le)
 
@@ -78,13 +78,13 @@ module _ (mark : ℕ) (payloads : List (List ℕ)) (end : ℕ) (place : end ≡ 
             ∙ ap (λ (l : List ℕ). front mark payloads ++ gate ∷ l) (append_assoc (body payload) (0 ∷ []) rest),
       )
 
-  -- a payload more counts
+  -- one more payload counts
   one_more : (version : Version) (content : Content) (payload : List ℕ) → version_of mark ≡ version → content ≡ content_from (version_of mark) payloads
       → with_payload version content payload ≡ content_from (version_of mark) (payloads ++ payload ∷ [])
   one_more version content payload of_version counts =
       (λ k. with_payload (sym of_version k) (counts k) payload) ∙ sym (payloads_push (version_of mark) nothing payloads payload)
 
-  -- the frame stands whole in each outcome of the second write
+  -- the frame is whole in each outcome of the second write
   pub torn_gate : (version : Version) (content : Content) (gate : ℕ) (payload rest c : List ℕ) → version_of mark ≡ version → content ≡ content_from (version_of mark) payloads
       → Fits payload → AllFit payloads → Torn end 1 (staged gate payload rest) c → WithOrWithout version content payload c
   torn_gate version content gate payload rest c of_version counts fits all torn =
@@ -151,16 +151,16 @@ header_holds = record {
 
 -- ---- the byte of the version
 
--- a file over whose eighth byte another is written
+-- a file whose eighth byte is overwritten
 version_written : (mark other : ℕ) (rest : List ℕ) → file_after_write (magic ++ mark ∷ rest) 7 (other ∷ []) ≡ magic ++ other ∷ rest
 version_written mark other rest = refl
 
--- each outcome of that write differs in this byte alone
+-- each outcome of that write differs in this byte only
 torn_version : (mark : ℕ) (rest c : List ℕ) → Torn 7 1 (magic ++ mark ∷ rest) c → c ≡ magic ++ get_or c 7 0 ∷ rest
 torn_version mark rest c torn =
     split_at_gate c 7 magic torn.before (omega (arith, torn.no_shorter)) ∙ ap (λ (l : List ℕ). magic ++ get_or c 7 0 ∷ l) torn.after
 
--- what counts with this byte of a version, where this counts in version 1
+-- the content with this version byte, given the content in version 1
 counts_with : (mark other : ℕ) (content : Content) (all : List (List ℕ)) → version_of mark ≡ One → content ≡ content_from (version_of mark) all
     → (version_of other ≡ One → content ≡ content_from (version_of other) all) × (version_of other ≡ Two → content_of_version_2 content ≡ content_from (version_of other) all)
 counts_with mark other content all is_one counts = (
@@ -201,13 +201,13 @@ written_raise file end content lies =
       place = lies.place;
     }
 
--- one of version 2 counts as it did
+-- a file of version 2 keeps its content
 pub raised_holds : (file : List ℕ) (end : ℕ) (content : Content) → HoldsTo file Two end content → content_of_version_2 content ≡ content
 raised_holds file end content lies =
     let is : content ≡ content_from Two lies.holds.all = lies.holds.counts ∙ ap (λ (v : Version). content_from v lies.holds.all) lies.of_version in
     ap content_of_version_2 is ∙ raised_two lies.holds.all ∙ sym is
 
--- what a closed frame holds
+-- the payload of a closed frame
 pub closed_frame : (payload bytes : List ℕ) → bytes ≡ to_le_bytes w32 (length payload) ++ payload ++ 0 ∷ [] → (payload_of bytes ≡ payload) × (bytes ≡ body (payload_of bytes) ++ 0 ∷ [])
 closed_frame payload bytes is =
     let long : length bytes ≡ length payload + 5 = omega (arith, ap length is, length-append (to_le_bytes w32 (length payload) ++ payload) (0 ∷ []), length-body payload) in

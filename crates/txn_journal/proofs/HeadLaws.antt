@@ -1,4 +1,4 @@
--- How a file and its frames begin.
+-- The beginning of a file and of its frames.
 use Rattle.std.proofs.Common.{◌≡◌, inl, inr, ⊎_elim, ℕ, ◌+◌, ◌-◌, ◌<◌, ◌≤◌, min, List, ◌++◌, length, take, drop, get_or, Option, Some, sym, ◌∙◌, ap, subst, arith, length-drop}
 use Rattle.std.proofs.lemmas.Bool.{cases_lt}
 use Rattle.std.proofs.lemmas.List.{take_all, take-take, take-append-le, drop-append-le, drop-drop, drop-take, get_or-take, get_or-drop, get_or_append_left}
@@ -14,7 +14,7 @@ use Rattle.txn_journal.specs.declared.heads.Start.TheVariants.{Bare, Journal, Fo
 pub short_start : (file : List ℕ) (size : ℕ) → size ≡ length file → size < 9 → StartsAs Bare file
 short_start file size is less = (omega arith, λ same. absurd (omega (arith, ap length same)))
 
--- the first nine bytes tell how a file begins
+-- the first nine bytes decide how a file begins
 pub starts_from : (start : Start) (head file : List ℕ) (size : ℕ) → size ≡ length file → 9 ≤ size → head ≡ take 9 file → IsStart start head size → StartsAs start file
 starts_from Bare head file size is long same begins =
     let short : length file ≤ 9 = omega (arith, begins.0) in
@@ -68,7 +68,7 @@ head_from result got rest file at left within is size same judged = go result ju
       ],
     )
 
--- what is said of told bytes, where they are known
+-- a statement about bytes, if they are known
 pub told_length : (told : Option (List ℕ)) (file : List ℕ) (n : ℕ) → told ≡ Some file → HasLength told n → n ≡ length file
 told_length told file n is has = subst (λ (t : Option (List ℕ)). HasLength t n) is has
 

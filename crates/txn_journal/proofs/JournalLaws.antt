@@ -1,4 +1,4 @@
--- What the calls of a journal leave.
+-- The effect of the calls of a journal.
 use Rattle.std.proofs.Common.{◌≡◌, ◌≢◌, inl, inr, ⊎_elim, ℕ, ◌≤◌, List, Option, Some, IsSomeAnd, refl, sym, subst}
 use Rattle.ts_disk.specs.CrashImage.{LeavesOnly, Torn, file_after_write}
 use Rattle.ts_disk.proofs.Told.{some_also}
@@ -30,7 +30,7 @@ lies_stands Ready version file end content lies = inr lies.holds
 lies_stands Still version file end content lies = absurd lies
 
 module _ {D : Type 0} (bytes : D → Option (List ℕ)) (may_leave : D → List ℕ → Type 0) (moment : D → ℕ) (left_since : D → ℕ → List ℕ → Type 0) where
-  -- reads of a journal with a header give what reads of its disk give
+  -- reads of a journal with a header return what reads of its disk return
   pub tells_from : (journal : Logged D) (content : Content) → journal.standing ≢ Bare → IsTold bytes journal content → Tells bytes journal.disk journal.version journal.end content
   tells_from journal content armed tells = record {
     file = tells.file;
@@ -38,23 +38,23 @@ module _ {D : Type 0} (bytes : D → Option (List ℕ)) (may_leave : D → List 
     lies = lies_ready journal.standing journal.version tells.file journal.end content armed tells.lies;
   }
 
-  -- and it rests as its disk does
+  -- and it is at rest if its disk is
   pub rests_from : (journal : Logged D) (content : Content) → journal.standing ≢ Bare → IsAtRest bytes may_leave journal content → Rests bytes may_leave journal.disk journal.version journal.end content
   unfolding tells_from
   rests_from journal content armed rest = record { tells = tells_from journal content armed rest.tells; durable = rest.durable }
 
-  -- what a call over a disk that rests leaves
+  -- the crash images after a call on a disk at rest
   pub run_from : (old : Logged D) (new : D) (P : Content → List ℕ → Type 0)
       → ((content : Content) → Rests bytes may_leave old.disk old.version old.end content → LeavesOnly moment left_since old.disk new (P content))
       → old.standing ≢ Bare → (content : Content) → IsAtRest bytes may_leave old content → LeavesOnly moment left_since old.disk new (P content)
   run_from old new P run armed content rest = run content (rests_from old content armed rest)
 
-  -- what reads of a disk give after a call, where they gave this before it
+  -- the content of reads after a call, given the content before it
   pub shown_from : (old : Logged D) (P : Content → Type 0) → ((content : Content) → Tells bytes old.disk old.version old.end content → P content)
       → old.standing ≢ Bare → (content : Content) → IsTold bytes old content → P content
   shown_from old P shown armed content tells = shown content (tells_from old content armed tells)
 
-  -- what counts after a call that was done
+  -- the content after a call that succeeded
   pub rests_after : (old : Logged D) (new : D) (version : Version) (end later : ℕ) (now : Content → Content)
       → ((content : Content) → Tells bytes old.disk old.version old.end content → Rests bytes may_leave new version later (now content))
       → end ≡ later → old.standing ≢ Bare → (content : Content) → IsTold bytes old content
@@ -89,7 +89,7 @@ module _ {D : Type 0} (bytes : D → Option (List ℕ)) (may_leave : D → List 
         durable = wrote.durable;
       }
 
-  -- and what reads give where it may be torn
+  -- and the content of reads if the header may be torn
   pub armed_shows : (old : Logged D) (new : D) → ((file : List ℕ) → bytes old.disk ≡ Some file → IsSomeAnd (bytes new) (Torn 0 9 file))
       → old.standing ≡ Bare → (content : Content) → IsTold bytes old content → IsSomeAnd (bytes new) (λ file. StandsFor file content)
   armed_shows old new shown is content tells =
@@ -97,7 +97,7 @@ module _ {D : Type 0} (bytes : D → Option (List ℕ)) (may_leave : D → List 
       some_also (bytes new) (Torn 0 9 tells.file) (λ file. StandsFor file content)
       (λ now torn. subst (StandsFor now) (sym lies.2) (torn_header tells.file now lies.0 torn)) (shown tells.file tells.told)
 
-  -- a journal of version 2 is what it would become
+  -- a journal of version 2 has the content that it would get
   pub raised_tells : (old : Logged D) → old.version ≡ Two → old.standing ≢ Bare → (content : Content) → IsTold bytes old content → content_of_version_2 content ≡ content
   raised_tells old is armed content tells =
       raised_holds tells.file old.end content

@@ -1,4 +1,4 @@
--- One disk call after another.
+-- Disk calls in order.
 use Rattle.std.proofs.Common.{inl, inr, ⊎_elim, ℕ, List, Option, Result, Ok, Err, OnOk, refl, ◌∙◌, arith}
 use Rattle.ts_disk.specs.CrashImage.{Elapses, LeavesOnly}
 use Rattle.ts_disk.specs.Disk.{Keeps}
@@ -8,7 +8,7 @@ module _ {D : Type 0} (moment : D → ℕ) (left_since : D → ℕ → List ℕ 
   pub started : (old : D) (P : List ℕ → Type 0) → ((c : List ℕ) → left_since old (moment old) c → P c) → LeavesOnly moment left_since old old P
   started old P here = record { later = omega arith; each = here; before = λ t c le left. inl left; keeps = λ t c le left. left }
 
-  -- one call more, after which a crash leaves what has P
+  -- one more call, after which each crash image has P
   pub goes_on : (old mid new : D) (P may_leave : List ℕ → Type 0) → LeavesOnly moment left_since old mid P → Elapses (moment mid) (moment new) (left_since mid) (left_since new) may_leave
       → ((c : List ℕ) → may_leave c → P c) → LeavesOnly moment left_since old new P
   goes_on old mid new P may_leave so_far time here = record {
@@ -18,7 +18,7 @@ module _ {D : Type 0} (moment : D → ℕ) (left_since : D → ℕ → List ℕ 
     keeps = λ t c le left. time.keeps t c (omega (arith, le, so_far.later)) (so_far.keeps t c le left);
   }
 
-  -- one run, and then another
+  -- two runs in order
   pub follows : (old mid new : D) (P Q R : List ℕ → Type 0) → LeavesOnly moment left_since old mid P → LeavesOnly moment left_since mid new Q
       → ((c : List ℕ) → P c → R c) → ((c : List ℕ) → Q c → R c) → LeavesOnly moment left_since old new R
   follows old mid new P Q R first second from_first from_second = record {
@@ -28,7 +28,7 @@ module _ {D : Type 0} (moment : D → ℕ) (left_since : D → ℕ → List ℕ 
     keeps = λ t c le left. second.keeps t c (omega (arith, le, first.later)) (first.keeps t c le left);
   }
 
-  -- what holds of each outcome may be said otherwise
+  -- a property of each outcome implies a weaker one
   pub weaker : (old new : D) (P Q : List ℕ → Type 0) → LeavesOnly moment left_since old new P → ((c : List ℕ) → P c → Q c) → LeavesOnly moment left_since old new Q
   weaker old new P Q run from = record {
     later = run.later;
@@ -37,7 +37,7 @@ module _ {D : Type 0} (moment : D → ℕ) (left_since : D → ℕ → List ℕ 
     keeps = run.keeps;
   }
 
--- two calls that leave a disk as it was
+-- two calls that don't change a disk
 pub keeps_both : {D : Type 0} (bytes : D → Option (List ℕ)) (may_leave : D → List ℕ → Type 0) (moment : D → ℕ) (left_since : D → ℕ → List ℕ → Type 0) (old mid new : D)
     → Keeps bytes may_leave moment left_since old mid → Keeps bytes may_leave moment left_since mid new → Keeps bytes may_leave moment left_since old new
 keeps_both bytes may_leave moment left_since old mid new first second = record {
@@ -52,7 +52,7 @@ keeps_both bytes may_leave moment left_since old mid new first second = record {
 pub keeps_same : {D : Type 0} (bytes : D → Option (List ℕ)) (may_leave : D → List ℕ → Type 0) (moment : D → ℕ) (left_since : D → ℕ → List ℕ → Type 0) (disk : D) → Keeps bytes may_leave moment left_since disk disk
 keeps_same bytes may_leave moment left_since disk = record { same = refl; at_moment = refl; leaves = λ c left. left; left = λ c left. left; past = λ t c left. left; past_left = λ t c left. left }
 
--- what follows from a call that succeeded
+-- consequences of a call that succeeded
 pub on_ok : {T E : Type 0} (P Q : Type 0) (result : Result T E) → OnOk result P → (P → Q) → OnOk result Q
 on_ok P Q (Ok v) here from = from here
 on_ok P Q (Err e) here from = tt

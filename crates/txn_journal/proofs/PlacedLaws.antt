@@ -25,7 +25,7 @@ length-frames-push [] payload = omega (arith, length-append (body payload) [], l
 length-frames-push (p ∷ payloads) payload =
     omega (arith, length-frames-push payloads payload, length-append (body p) (frames payloads), length-append (body p) (frames (payloads ++ payload ∷ [])))
 
--- payloads with their places are what counts in a file, up to this commit byte
+-- these payloads with their places are the content of a file, up to this commit byte
 pub record ListedTo (file : List ℕ) (payloads : List Payload) (content : Content) (at : ℕ) : Type 0 where
   pub first : ℕ
   pub all : payloads_of payloads ≡ payload_list content
@@ -33,7 +33,7 @@ pub record ListedTo (file : List ℕ) (payloads : List Payload) (content : Conte
   pub upto : at ≡ first + length (frames (payloads_of payloads))
   pub begins : (payloads ≡ []) ⊎ BeginsIn file content.base first
 
--- where nothing counts there is no base
+-- without content there is no base
 no_base : (file : List ℕ) (content : Content) (first : ℕ) → payload_list content ≡ [] → (content.base ≡ None → first ≡ 8) → BeginsIn file content.base first
 no_base file content first none eight = by_base content.base refl
   where
@@ -57,7 +57,7 @@ are_listed file payloads content at to = ⊎_elim
 pub none_listed : (file : List ℕ) (payloads : List Payload) (at : ℕ) → payloads ≡ [] → ListedTo file payloads nothing at
 none_listed file payloads at is = subst (λ (ps : List Payload). ListedTo file ps nothing at) (sym is) (record { first = at; all = refl; places = refl; upto = omega arith; begins = inl refl })
 
--- a base alone
+-- only a base
 pub base_listed : (file : List ℕ) (version : Version) (content : Content) (new : List Payload) (bytes : List ℕ) (at later : ℕ) → new ≡ record { bytes = bytes; at = at } ∷ [] → later ≡ at + 5 + length bytes
     → Follows file version content bytes at → ListedTo file new (based_on bytes) later
 base_listed file version content new bytes at later is moves follows =
@@ -70,7 +70,7 @@ base_listed file version content new bytes at later is moves follows =
       begins = inr (record { mark = follows.mark; before = follows.before; rest = follows.gate ∷ follows.rest; split = follows.split; place = follows.place });
     }
 
--- if nothing counted so far and the next payload isn't a base, it is at the first commit byte
+-- if nothing counts so far and the next payload isn't a base, it is at the first commit byte
 first_place : (file : List ℕ) (version : Version) (content : Content) (payload : List ℕ) (at : ℕ) → Follows file version content payload at → is_base version payload ≡ false
     → payload_list content ≡ [] → BeginsIn file content.base at
 first_place file version content payload at follows plain none = no_base file content at none at_first
@@ -85,7 +85,7 @@ first_place file version content payload at follows plain none = no_base file co
         sym (all_without_base version nothing follows.before without) ∙ ap (λ (c : Content). c.payloads) (sym counts) ∙ ap (λ (b : Option (List ℕ)). base_alone b ++ content.payloads) (sym is) ∙ none in
         follows.place ∙ ap (λ (ps : List (List ℕ)). length (front follows.mark ps)) before
 
--- one payload more, at its place
+-- one more payload, at its place
 pub next_listed : (file : List ℕ) (version : Version) (payloads new : List Payload) (content : Content) (bytes : List ℕ) (at later : ℕ) → new ≡ payloads ++ record { bytes = bytes; at = at } ∷ []
     → ListedTo file payloads content at → later ≡ at + 5 + length bytes → Follows file version content bytes at → is_base version bytes ≡ false → ListedTo file new (with_next content bytes) later
 next_listed file version payloads new content bytes at later is before moves follows plain =

@@ -57,7 +57,7 @@ module _ (file : List ℕ) (mark at : ℕ) (payloads : List (List ℕ)) (read : 
         fit = fit-push payloads payload read.fit (subst (λ (m : ℕ). m < 2 ^ 32) (sym size) head.2);
       }
 
--- what follows a commit byte of 1 is what a list of frames says of it
+-- the bytes after a commit byte of 1 are those of a list of frames
 behind_gate : (file : List ℕ) (mark at : ℕ) (payloads : List (List ℕ)) (payload rest : List ℕ) → HasFrames file mark at payloads → at < length file → file ≡ front mark (payloads ++ payload ∷ []) ++ rest
     → (get_or file at 0 ≡ 1) × (drop (at + 1) file ≡ body payload ++ rest)
 behind_gate file mark at payloads payload rest read within is =
@@ -67,14 +67,14 @@ behind_gate file mark at payloads payload rest read within is =
     append_cancel_left (front mark payloads) (get_or file at 0 ∷ drop (at + 1) file) (1 ∷ (body payload ++ rest)) both in
     (ap (λ (l : List ℕ). get_or l 0 0) there, ap (drop 1) there)
 
--- no base follows behind one payload more
+-- no base follows after one more payload
 none_behind_next : (file : List ℕ) (mark : ℕ) (payloads : List (List ℕ)) (payload : List ℕ) → NoBaseBehind file mark payloads → NoBaseBehind file mark (payloads ++ payload ∷ [])
 none_behind_next file mark payloads payload none more gate rest fit is =
     let joined = append_assoc payloads (payload ∷ []) more in
     (head_and_rest (version_of mark) payload more
     (none (payload ∷ more) gate rest (subst AllFit joined fit) (is ∙ ap (λ (l : List (List ℕ)). front mark l ++ gate ∷ rest) joined))).1
 
--- ---- how far a journal was read
+-- ---- the part of a journal that was read
 
 module _ (file : List ℕ) (version : Version) (at : ℕ) (content : Content) (read : ReadsTo file version at content) (within : at < length file) where
   split_there : file ≡ front read.mark read.before ++ get_or file at 0 ∷ drop (at + 1) file
@@ -114,7 +114,7 @@ module _ (file : List ℕ) (version : Version) (at : ℕ) (content : Content) (r
       by_counts (inr awaits) =
           absurd (goes_on awaits.1.payload (awaits.1.gate ∷ awaits.1.rest) awaits.1.fits (inr (subst IsShort (behind_base awaits.1).1 head.1)) (omega arith))
 
-  -- one payload more was read
+  -- one more payload was read
   module _ (n first : ℕ) (payload : List ℕ) (head : IsHead (Frame n first) file at) (size : length payload ≡ n) (is : payload ≡ take n (drop (at + 5) file)) (behind : at + 5 + n < length file) where
     later : HasFrames file read.mark (at + 5 + n) (read.before ++ payload ∷ [])
     later = frame_read file read.mark at read.before read.frames within n first payload head size is
@@ -174,7 +174,7 @@ module _ (file : List ℕ) (version : Version) (at : ℕ) (content : Content) (r
               read_there (base_counts version content payload is_one ∙ sym (base_counts version so_far payload is_one)) last,
             )
 
--- ---- where reading begins
+-- ---- the place at which reading begins
 
 pub begins_bare : (file : List ℕ) → StartsAs StartsBare file → IsReadTo Bare One file 8 nothing
 begins_bare file starts = (starts.0, starts.1, refl, refl)
@@ -221,7 +221,7 @@ module _ {D : Type 0} (bytes : D → Option (List ℕ)) (old : Progress D) (disk
   in_file : old.at < length file
   in_file = omega (arith, within, has.size)
 
-  -- the byte of the version says what the reader has
+  -- the version byte gives the reader's version
   pub version_there : version_of (get_or file 7 0) ≡ old.version
   version_there =
       let read = ready_read in
@@ -274,7 +274,7 @@ module _ {D : Type 0} (bytes : D → Option (List ℕ)) (old : Progress D) (disk
       pub step_payload_now : is_base now payload ≡ false → Follows file now content payload old.at × ReadNow now (with_next content payload)
       step_payload_now = subst (λ (v : Version). is_base v payload ≡ false → Follows file v content payload old.at × ReadNow v (with_next content payload)) (sym is_now) step_payload
 
--- a reader at the commit byte where reading begins
+-- a reader at the commit byte at which reading begins
 pub opens_at : {D : Type 0} (bytes : D → Option (List ℕ)) (reader : Progress D) (disk : D) (standing : JournalState) (version : Version) (size at : ℕ) (file : List ℕ)
     → reader ≡ at_gate disk standing version size at → bytes disk ≡ Some file → size ≡ length file → IsReadTo standing version file at nothing → HasRead bytes reader file nothing
 opens_at {D} bytes reader disk standing version size at file made told long read =

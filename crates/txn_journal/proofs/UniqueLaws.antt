@@ -113,7 +113,7 @@ none_held file content short holds = holds.counts ∙ ap (content_from (version_
     none_of (p ∷ all) split =
         absurd (omega (arith, short, ap length split, length-append (frames (p ∷ all)) (holds.gate ∷ holds.ignored), length-append (body p) (frames all), length-body p))
 
--- of the same payloads in the same version the same counts
+-- the same payloads in the same version have the same content
 same_counts : (m n : ℕ) (a b : List (List ℕ)) (c d : Content) → m ≡ n → a ≡ b → c ≡ content_from (version_of m) a → d ≡ content_from (version_of n) b → c ≡ d
 same_counts m n a b c d marks all is_c is_d = is_c ∙ (λ k. content_from (version_of (marks k)) (all k)) ∙ sym is_d
 

@@ -1,4 +1,4 @@
--- What the calls of a journal say of its disk.
+-- The contracts of a journal's calls about its disk.
 use Rattle.std.specs.Prelude.{◌≡◌, ◌≢◌, ℕ, ◌≤◌, List, Option, Some, length, ⊤}
 use Rattle.ts_schema.specs.Faults.{Rose}
 use Rattle.ts_disk.specs.CrashImage.{Only}
@@ -27,7 +27,7 @@ LiesAs Bare version file end content =
 LiesAs Ready version file end content = HoldsTo file version end content
 LiesAs Still version file end content = ⊥
 
--- a journal that didn't stop has this content, by what reads give
+-- reads of a journal that hasn't stopped return this content
 pub record IsTold {D : Type 0} (bytes : D → Option (List ℕ)) (journal : Logged D) (content : Content) : Type 0 where
   pub file : List ℕ
   pub told : bytes journal.disk ≡ Some file
@@ -39,12 +39,12 @@ pub record IsAtRest {D : Type 0} (bytes : D → Option (List ℕ)) (may_leave : 
   pub tells : IsTold bytes journal content
   pub durable : Only tells.file (may_leave journal.disk)
 
--- each image since this moment has a content that begins with this
+-- each image since this moment has content that begins with this
 abbrev pub BeginSince : {D : Type 0} → (D → ℕ → List ℕ → Type 0) → D → ℕ → Content → Type 0
 BeginSince left_since disk t content = (c : List ℕ) → left_since disk t c → StandsForMore content c
 
--- an answer, and the state of the journal before and after it: it is `Stopped` exactly if the journal had stopped
--- before, and a fault stops it
+-- an answer, and the state of the journal before and after it: it is `Stopped` if and only if the journal had
+-- stopped before, and a fault stops it
 abbrev pub Ends : Append → JournalState → JournalState → Type 0
 Ends Done before now = (before ≢ Still) × (now ≡ Ready)
 Ends DiskFault before now = (before ≢ Still) × (now ≡ Still)
@@ -56,7 +56,7 @@ IsCounted Done before now = now ≡ before
 IsCounted DiskFault before now = Rose before now
 IsCounted Stopped before now = now ≡ before
 
--- P if all was done, and P if the journal had stopped
+-- P if all was done; the second one is P if the journal had stopped
 abbrev pub IfDone : Append → Type 0 → Type 0
 IfDone Done P = P
 IfDone DiskFault P = ⊤

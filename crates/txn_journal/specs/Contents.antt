@@ -1,15 +1,15 @@
--- What counts of the payloads of a journal.
+-- The payloads of a journal that count.
 use Rattle.std.specs.Prelude.{◌≡◌, ℕ, Bool, false, cond, nat_eq, List, [], ◌∷◌, ◌++◌, length, take, slice_index, Option, Some, None}
 use Rattle.std.specs.List.{list_any}
 use Rattle.txn_journal.specs.declared.versions.Version.{Version}
 use Rattle.txn_journal.specs.declared.versions.Version.TheVariants.{One, Two}
 
--- what counts: the base, if there is one, and the payloads after it
+-- the content: the base, if there is one, and the payloads after it
 pub record Content : Type 0 where
   pub base : Option (List ℕ)
   pub payloads : List (List ℕ)
 
--- of no payloads nothing counts
+-- the content of no payloads
 abbrev pub nothing : Content
 nothing = record { base = None; payloads = [] }
 
@@ -30,23 +30,23 @@ is_base Two payload = nat_eq (slice_index payload 0) 8
 abbrev pub has_base : Version → List (List ℕ) → Bool
 has_base version payloads = list_any (is_base version) payloads
 
--- what counts with one more payload: if that is a base, nothing before it
+-- the content with one more payload: if that is a base, nothing before it counts
 abbrev pub with_payload : Version → Content → List ℕ → Content
 with_payload version content payload =
     cond (is_base version payload) (record { base = Some payload; payloads = [] })
     (record { base = content.base; payloads = content.payloads ++ payload ∷ [] })
 
--- what counts once these payloads are there too
+-- the content with these payloads added
 abbrev pub with_payloads : Version → Content → List (List ℕ) → Content
 with_payloads version content [] = content
 with_payloads version content (payload ∷ payloads) =
     with_payloads version (with_payload version content payload) payloads
 
--- what counts of these payloads: the last base, and those after it; all of them, if there is no base
+-- the content of these payloads: the last base and those after it, or all of them if there is no base
 abbrev pub content_from : Version → List (List ℕ) → Content
 content_from version payloads = with_payloads version nothing payloads
 
--- what counts once the journal is of version 2
+-- the content once the journal is of version 2
 abbrev pub content_of_version_2 : Content → Content
 content_of_version_2 content = with_payloads Two (record { base = content.base; payloads = [] }) content.payloads
 
@@ -55,11 +55,12 @@ abbrev pub base_alone : Option (List ℕ) → List (List ℕ)
 base_alone None = []
 base_alone (Some payload) = payload ∷ []
 
--- what counts, as one list in order
+-- the content, as one list in order
 abbrev pub payload_list : Content → List (List ℕ)
 payload_list content = base_alone content.base ++ content.payloads
 
--- one content begins another: they have the same base, and the payloads of the one are the first of the other's
+-- one content begins another: they have the same base, and the payloads of the first are the first ones of the
+-- other
 pub record IsFront (front whole : Content) : Type 0 where
   pub base : whole.base ≡ front.base
   pub payloads : take (length front.payloads) whole.payloads ≡ front.payloads

@@ -1,4 +1,4 @@
--- What the bytes of a journal contain.
+-- The content of the bytes of a journal.
 use Rattle.std.specs.Prelude.{◌≡◌, ◌≢◌, ◌⊎◌, ℕ, false, cond, ◌+◌, ◌^◌, ◌<◌, ◌≤◌, List, [], ◌∷◌, ◌++◌, length, take, drop, map, ◌-◌, ⊤}
 use Rattle.std.specs.Int.{w32, to_le_bytes, from_le_bytes}
 use Rattle.txn_journal.specs.Contents.{Content, IsFront, content_from, has_base, is_base, nothing, version_of, with_payload}
@@ -34,7 +34,7 @@ abbrev pub AllFit : List (List ℕ) → Type 0
 AllFit [] = ⊤
 AllFit (payload ∷ payloads) = Fits payload × AllFit payloads
 
--- a file holds payloads of which this counts, and the commit byte after them isn't 1; what follows it is ignored
+-- a file holds payloads with this content, and the commit byte after them isn't 1; what follows it is ignored
 pub record Holds (file : List ℕ) (content : Content) : Type 0 where
   pub mark : ℕ
   pub all : List (List ℕ)
@@ -45,21 +45,22 @@ pub record Holds (file : List ℕ) (content : Content) : Type 0 where
   pub fit : AllFit all
   pub counts : content ≡ content_from (version_of mark) all
 
--- a file has a content: nothing, if it has at most nine bytes, or what counts of the payloads that it holds
+-- a file has this content: nothing, if it has at most nine bytes, or the content of the payloads that it holds
 abbrev pub StandsFor : List ℕ → Content → Type 0
 StandsFor file content = ((length file ≤ 9) × (content ≡ nothing)) ⊎ Holds file content
 
--- a file of this version holds payloads of which this counts, up to the commit byte at this place, which isn't 1
+-- a file of this version holds payloads with this content, up to the commit byte at this place, which isn't 1
 pub record HoldsTo (file : List ℕ) (version : Version) (end : ℕ) (content : Content) : Type 0 where
   pub holds : Holds file content
   pub of_version : version_of holds.mark ≡ version
   pub place : end ≡ length (front holds.mark holds.all)
 
--- what follows a commit byte of 1 is too short for a length, for that many bytes, and for the next commit byte
+-- the bytes after a commit byte of 1 are too few for a length, for that many bytes, and for the next commit
+-- byte
 abbrev pub IsShort : List ℕ → Type 0
 IsShort rest = (length rest < 4) ⊎ (length rest < 5 + from_le_bytes w32 (take 4 rest))
 
--- a file holds payloads of which this counts, and after the commit byte of 1 at this place it is too short
+-- a file holds payloads with this content, and after the commit byte of 1 at this place it is too short
 pub record BreaksOff (file : List ℕ) (content : Content) (at : ℕ) : Type 0 where
   pub mark : ℕ
   pub all : List (List ℕ)
@@ -70,13 +71,13 @@ pub record BreaksOff (file : List ℕ) (content : Content) (at : ℕ) : Type 0 w
   pub fit : AllFit all
   pub counts : content ≡ content_from (version_of mark) all
 
--- a file of more than nine bytes begins with other bytes than a journal
+-- a file of more than nine bytes doesn't begin like a journal
 pub record IsForeign (file : List ℕ) (content : Content) (at : ℕ) : Type 0 where
   pub begins : take 7 file ≢ magic
   pub none : content ≡ nothing
   pub place : at ≡ 0
 
--- a file is damaged at this place, and this counts before it
+-- a file is damaged at this place, and has this content before it
 pub record IsDamaged (file : List ℕ) (content : Content) (at : ℕ) : Type 0 where
   pub long : 9 < length file
   pub broken : IsForeign file content at ⊎ BreaksOff file content at
@@ -87,12 +88,12 @@ NoBaseBehind file mark payloads =
     (more : List (List ℕ)) (gate : ℕ) (rest : List ℕ) → AllFit (payloads ++ more)
     → file ≡ front mark (payloads ++ more) ++ gate ∷ rest → has_base (version_of mark) more ≡ false
 
--- what counts before a payload: nothing, if it is a base
+-- the content before a payload: nothing, if it is a base
 abbrev pub counted_before : Version → List (List ℕ) → List ℕ → Content
 counted_before version payloads payload = cond (is_base version payload) nothing (content_from version payloads)
 
--- after the commit byte of 1 at this place follows a whole frame of this payload. It counts, and this counts before
--- it
+-- a whole frame of this payload follows the commit byte of 1 at this place. The payload counts, and this is the
+-- content before it
 pub record Follows (file : List ℕ) (version : Version) (content : Content) (payload : List ℕ) (at : ℕ) : Type 0 where
   pub mark : ℕ
   pub before : List (List ℕ)
@@ -105,13 +106,13 @@ pub record Follows (file : List ℕ) (version : Version) (content : Content) (pa
   pub counts : content ≡ counted_before version before payload
   pub last : NoBaseBehind file mark (before ++ payload ∷ [])
 
--- a file has a content that begins with this
+-- a file has content that begins with this
 pub record StandsForMore (content : Content) (file : List ℕ) : Type 0 where
   pub all : Content
   pub stands : StandsFor file all
   pub begins : IsFront content all
 
--- a file has the one content or the other
+-- a file has one content or the other
 abbrev pub StandsForEither : Content → Content → List ℕ → Type 0
 StandsForEither one other file = StandsFor file one ⊎ StandsFor file other
 
@@ -119,7 +120,7 @@ StandsForEither one other file = StandsFor file one ⊎ StandsFor file other
 abbrev pub WithOrWithout : Version → Content → List ℕ → List ℕ → Type 0
 WithOrWithout version content payload file = StandsForEither content (with_payload version content payload) file
 
--- payloads with the places of their commit bytes, of which the first is at this place
+-- payloads with the places of their commit bytes; the first is at this place
 abbrev pub payloads_at : ℕ → List (List ℕ) → List Payload
 payloads_at at [] = []
 payloads_at at (payload ∷ payloads) = record { bytes = payload; at = at } ∷ payloads_at (at + 5 + length payload) payloads

@@ -1,4 +1,4 @@
--- Where a journal writes next.
+-- The place at which a journal writes next.
 use Rattle.std.specs.Prelude.{ℕ, ◌+◌, ◌<◌, ◌≤◌, List, Option, ⊤}
 use Rattle.ts_disk.specs.Disk.{HasLength, HasRange}
 use Rattle.ts_disk.specs.declared.disks.TheConstants.{MOST_BYTES}

@@ -25,7 +25,7 @@ use Rattle.txn_journal.specs.declared.readers.PayloadRead.TheVariants.{Done as T
 
 -- ---- what is read
 
--- how a file begins
+-- the beginning of a file
 abbrev pub StartsAs : Start → List ℕ → Type 0
 StartsAs StartsBare file = (length file ≤ 9) × (file ≢ header)
 StartsAs (StartsJournal version) file =
@@ -60,8 +60,8 @@ pub record BaseFollows (file : List ℕ) (mark : ℕ) (payloads : List (List ℕ
 
 -- ---- a reader
 
--- its disk, how its file begins, the version and length of the file, the place of the next commit byte, the payload
--- that was read last, and whether the end was found
+-- its disk, how its file begins, and the version and length of the file; the place of the next commit byte, the
+-- payload that was read last, and whether the end was found
 pub record Progress (D : Type 0) : Type 0 where
   pub disk : D
   pub standing : JournalState
@@ -84,8 +84,8 @@ at_gate disk standing version size at =
       is_done = false;
     }
 
--- what counts so far: what counts of the payloads before the place, if no base follows, and nothing yet, if the last
--- base follows
+-- the content so far: that of the payloads before the place, if no base follows; nothing yet, if the last base
+-- follows
 abbrev pub Counts : List ℕ → ℕ → List (List ℕ) → Content → Type 0
 Counts file mark payloads content =
     ((content ≡ content_from (version_of mark) payloads) × NoBaseBehind file mark payloads)
@@ -99,7 +99,7 @@ pub record ReadsTo (file : List ℕ) (version : Version) (at : ℕ) (content : C
   pub of_version : version_of mark ≡ version
   pub counts : Counts file mark before content
 
--- how far a file was read, and what counts so far
+-- the part of a file that was read, and the content so far
 abbrev pub IsReadTo : JournalState → Version → List ℕ → ℕ → Content → Type 0
 IsReadTo Bare version file at content = LiesAs Bare version file at content
 IsReadTo Ready version file at content = ReadsTo file version at content
@@ -113,15 +113,15 @@ pub record HasRead {D : Type 0} (bytes : D → Option (List ℕ)) (reader : Prog
   pub read : IsReadTo reader.standing reader.version file reader.at content
   pub done : reader.is_done ≡ true → LiesAs reader.standing reader.version file reader.at content
 
--- the payloads that counted, and one more
+-- the content, and one more payload
 abbrev pub with_next : Content → List ℕ → Content
 with_next content payload = record { base = content.base; payloads = content.payloads ++ payload ∷ [] }
 
--- nothing but a base
+-- only a base
 abbrev pub based_on : List ℕ → Content
 based_on payload = record { base = Some payload; payloads = [] }
 
--- what one step of reading answers, if this much counted so far
+-- the result of one step of reading, given the content so far
 abbrev pub Steps : {D : Type 0} → (D → Option (List ℕ)) → Next → List ℕ → Content → Progress D → Progress D → Type 0
 Steps bytes (Base at) file content old new =
     Follows file new.version content new.payload at × HasRead bytes new file (based_on new.payload)
@@ -167,7 +167,7 @@ CountsNext NoMemory before now = now ≡ before
 
 -- ---- parts of it
 
--- how a file of so many bytes begins, by its first nine
+-- the beginning of a file of this many bytes, by its first nine
 abbrev pub IsStart : Start → List ℕ → ℕ → Type 0
 IsStart StartsBare head size = (size ≤ 9) × (head ≢ header)
 IsStart (StartsJournal version) head size =
@@ -180,7 +180,7 @@ IsSized StartsBare size = ⊤
 IsSized (StartsJournal version) size = 9 ≤ size
 IsSized StartsForeign size = ⊤
 
--- what a commit byte and the five bytes after it say, if the file has so many bytes from it on
+-- the meaning of a commit byte and the five bytes after it, if the file has this many bytes from it on
 abbrev pub JudgesHead : Head → List ℕ → ℕ → Type 0
 JudgesHead Closed head left = slice_index head 0 ≢ 1
 JudgesHead (Frame n first) head left =
@@ -195,7 +195,7 @@ EndsWithin Closed at size = ⊤
 EndsWithin (Frame n first) at size = at + 5 + n < size
 EndsWithin Short at size = ⊤
 
--- reading begins at this commit byte in a file that begins so
+-- reading begins at this commit byte in a file with this beginning
 abbrev pub BeginsAt : Start → List ℕ → ℕ → Type 0
 BeginsAt StartsBare file at = IsReadTo Bare One file at nothing
 BeginsAt (StartsJournal version) file at = IsReadTo Ready version file at nothing
@@ -207,7 +207,7 @@ MayBeginAt told StartsBare begin = IsReading told Bare begin.size begin.at
 MayBeginAt told (StartsJournal version) begin = IsReading told Ready begin.size begin.at
 MayBeginAt told StartsForeign begin = ⊤
 
--- how a file begins, and where reading begins in it
+-- the beginning of a file, and the place at which reading begins in it
 abbrev pub IsFound : FileStart → List ℕ → Type 0
 IsFound found file = StartsAs found.start file × BeginsAt found.start file found.beginning.at
 

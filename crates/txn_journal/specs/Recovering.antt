@@ -23,19 +23,19 @@ pub record IsFrameAt (file : List ℕ) (at : ℕ) (payload : List ℕ) : Type 0 
   pub split : file ≡ front mark (before ++ payload ∷ []) ++ rest
   pub place : at ≡ length (front mark before)
 
--- what counts in a file begins at this place: at its base, or at the first commit byte if there is none
+-- the content of a file begins at this place: at its base, or at the first commit byte if there is none
 abbrev pub BeginsIn : List ℕ → Option (List ℕ) → ℕ → Type 0
 BeginsIn file None first = first ≡ 8
 BeginsIn file (Some base) first = IsFrameAt file first base
 
--- payloads with their places are what counts in a file, frame after frame
+-- these payloads with their places are the content of a file, frame after frame
 pub record AreListed (file : List ℕ) (payloads : List Payload) (content : Content) : Type 0 where
   pub first : ℕ
   pub all : payloads_of payloads ≡ payload_list content
   pub places : payloads ≡ payloads_at first (payloads_of payloads)
   pub begins : BeginsIn file content.base first
 
--- what counts with the places of its payloads, or what counts before the first damaged place
+-- the content with the places of its payloads, or the content before the first damaged place
 abbrev pub Recovers : {D : Type 0} → Recovered D → List ℕ → Type 0
 Recovers (Ready journal payloads) file = (content : Content) × AreListed file payloads content × StandsFor file content
 Recovers (Damaged disk payloads at) file =
@@ -49,7 +49,7 @@ CountsRecovered (Damaged disk payloads at) before now = now ≡ before
 CountsRecovered (DiskFault disk) before now = Rose before now
 CountsRecovered (NoMemory disk) before now = now ≡ before
 
--- reads of the journal, once its file was read, give what counts
+-- reads of the journal, once its file was read, return the content
 abbrev pub TellsAfter : {D : Type 0} → (D → Option (List ℕ)) → List ℕ → Recovered D → Type 0
 TellsAfter bytes file (Ready journal payloads) =
     (content : Content) × AreListed file payloads content × IsTold bytes journal content
@@ -66,7 +66,7 @@ RestsAfter bytes may_leave file (Damaged disk payloads at) = ⊤
 RestsAfter bytes may_leave file (DiskFault disk) = ⊤
 RestsAfter bytes may_leave file (NoMemory disk) = ⊤
 
--- it didn't stop
+-- the journal didn't stop
 abbrev pub GoesOn : {D : Type 0} → Recovered D → Type 0
 GoesOn (Ready journal payloads) = journal.standing ≢ Still
 GoesOn (Damaged disk payloads at) = ⊤

@@ -11,7 +11,7 @@ pub record IsWritten {D : Type 0} (bytes : D → Option (List ℕ)) (may_leave :
   pub told : bytes disk ≡ Some file
   pub durable : Only file (may_leave disk)
 
--- reads of a disk give payloads of which this counts, up to the commit byte at this place
+-- reads of a disk return payloads with this content, up to the commit byte at this place
 pub record Tells {D : Type 0} (bytes : D → Option (List ℕ)) (disk : D) (version : Version) (end : ℕ)
     (content : Content) : Type 0 where
   pub file : List ℕ

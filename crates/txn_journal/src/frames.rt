@@ -4,7 +4,7 @@ ghost use Rattle.txn_journal.specs.Frames.{Fits, body, payload_of};
 
 use std::marker::Model;
 
-/// A payload with its length before it and a commit byte of 0 after it, as one write puts it into a journal.
+/// A payload with its length before it and a commit byte of 0 after it, which one write stores in a journal.
 /// Contracts see it as the payload.
 #[derive(Drop)]
 pub struct Frame {

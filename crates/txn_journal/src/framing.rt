@@ -10,7 +10,7 @@ use ts_schema::{NoMemory, Seq};
 /// The number of bytes of a length and a commit byte.
 const AROUND: usize = 5;
 
-/// Returns the frame of a payload that exists as a list. The program builds its frames by `open_frame` and
+/// Returns the frame of a payload that is in a list. The program builds its frames with `open_frame` and
 /// `close_frame`, without such a list.
 pub fn frame(alloc: Global, payload: &Seq<u8>) -> Result<Frame, NoMemory>
     requires fits { Fits payload.now }

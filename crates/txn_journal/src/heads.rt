@@ -1,4 +1,4 @@
-//! How a file and its frames begin.
+//! The beginning of a file and of its frames.
 ghost use Rattle.std.specs.Prelude.{◌≡◌, ◌≢◌, ℕ, ◌+◌, ◌<◌, ◌≤◌, List, Some, length, slice_index, IfOk};
 ghost use Rattle.ts_disk.specs.Disk.{Counted, HasLength, HasRange, Keeps};
 ghost use Rattle.txn_journal.specs.Contents.{version_of};
@@ -30,18 +30,18 @@ const GATE_AND_LENGTH: u64 = 5;
 /// commit byte.
 const HEAD_BYTES: usize = 6;
 
-/// How a file begins.
+/// The beginning of a file.
 #[derive(Clone, Copy)]
 pub enum Start {
-    /// It has at most nine bytes, and isn't a header.
+    /// The file has at most nine bytes, and isn't a header.
     Bare,
-    /// It begins with the magic bytes and is longer than a header, or it is a header.
+    /// The file begins with the magic bytes and is longer than a header, or it is a header.
     Journal(Version),
-    /// It is longer than a header, and begins with other bytes.
+    /// The file is longer than a header, and begins with other bytes.
     Foreign,
 }
 
-/// Reads how a file of `size` bytes begins.
+/// Reads the beginning of a file of `size` bytes.
 pub fn read_start<D: Disk>(disk: &mut D, size: u64) -> Result<Start, Failed>
     requires size { HasLength (D.bytes disk.old) size }
     ensures starts { (file : List ℕ) → D.bytes disk.old ≡ Some file → IfOk result (λ start. StartsAs start file) }
@@ -57,7 +57,7 @@ pub fn read_start<D: Disk>(disk: &mut D, size: u64) -> Result<Start, Failed>
     Ok(judge_start(&head, size))
 }
 
-/// How a file of `size` bytes begins, by its first nine bytes.
+/// The beginning of a file of `size` bytes, by its first nine bytes.
 fn judge_start(head: &[u8; 9], size: u64) -> Start
     requires { 9 ≤ size }
     ensures { IsStart result head.now size }
@@ -88,7 +88,7 @@ pub fn read_version<D: Disk>(disk: &mut D) -> Result<Version, Failed>
     Ok(Version::of(mark[0]))
 }
 
-/// What a commit byte and the bytes after it say.
+/// The meaning of a commit byte and the bytes after it.
 #[derive(Clone, Copy)]
 pub enum Head {
     /// The commit byte isn't 1.
@@ -116,7 +116,7 @@ pub fn read_head<D: Disk>(disk: &mut D, at: u64, size: u64) -> Result<Head, Fail
     Ok(judge_head(&head, size - at))
 }
 
-/// What a commit byte and the bytes after it say, and how many bytes the file has.
+/// The meaning of a commit byte and the bytes after it, and the number of bytes of the file.
 #[derive(Clone, Copy)]
 pub struct GateAt {
     pub head: Head,
@@ -153,7 +153,7 @@ pub fn sight_head<D: Disk>(disk: &mut D, at: u64, size: u64) -> Result<GateAt, F
     }
 }
 
-/// What a commit byte and the five bytes after it say, if the file has `left` bytes from it on.
+/// The meaning of a commit byte and the five bytes after it, if the file has `left` bytes from it on.
 fn judge_head(head: &[u8; 6], left: u64) -> Head
     requires { 0 < left }
     ensures { JudgesHead result head.now left }

@@ -16,7 +16,7 @@ use ts_disk::{Disk, Failed};
 /// The outcome of `Journal::arm`, `Journal::append` or `Journal::raise_version`.
 #[derive(Clone, Copy, Debug, PartialEq, Eq)]
 pub enum Append {
-    /// The disk has it, and it stays there.
+    /// The change is on the disk, and stays there.
     Done,
     /// The disk failed. From now on the journal has stopped.
     DiskFault,
@@ -29,9 +29,9 @@ pub enum Append {
 pub enum JournalState {
     /// Its file has at most nine bytes, and no header.
     Bare,
-    /// It has a header, and takes payloads.
+    /// It has a header, and accepts payloads.
     Ready,
-    /// A call answered `DiskFault`.
+    /// A call returned `DiskFault`.
     Still,
 }
 
@@ -89,11 +89,11 @@ impl<D: Disk> Journal<D> {
         // A crash at any moment leaves a file of the same content.
         ensures any_moment { (content : Content) → IsAtRest D.bytes D.may_leave self.old content
             → LeavesOnly D.moment D.left_since self.old.disk self.new.disk (λ file. StandsFor file content) }
-        // If each image since an earlier moment has a content that begins with `before`, each still does.
+        // If each image since an earlier moment has content that begins with `before`, each still does.
         ensures earlier { (t : ℕ) (before content : Content) → IsAtRest D.bytes D.may_leave self.old content
             → IsFront before content → t ≤ D.moment self.old.disk
             → BeginSince D.left_since self.old.disk t before → BeginSince D.left_since self.new.disk t before }
-        // Reads give such a file too, whether or not all of it was on the disk.
+        // Reads also return such a file, whether or not all of it was on the disk.
         ensures shown { (content : Content) → IsTold D.bytes self.old content
             → IsSomeAnd (D.bytes self.new.disk) (λ file. StandsFor file content) }
         ensures ends { Ends result self.old.standing self.new.standing }
@@ -132,12 +132,12 @@ impl<D: Disk> Journal<D> {
         ensures any_moment { (content : Content) → IsAtRest D.bytes D.may_leave self.old content
             → LeavesOnly D.moment D.left_since self.old.disk self.new.disk
             (WithOrWithout self.old.version content frame.now) }
-        // If each image since an earlier moment has a content that begins with `before`, each still does.
+        // If each image since an earlier moment has content that begins with `before`, each still does.
         ensures earlier { (t : ℕ) (before content : Content) → IsAtRest D.bytes D.may_leave self.old content
             → IsFront before content → IsFront before (with_payload self.old.version content frame.now)
             → t ≤ D.moment self.old.disk
             → BeginSince D.left_since self.old.disk t before → BeginSince D.left_since self.new.disk t before }
-        // Reads give such a file too, whether or not all of it was on the disk.
+        // Reads also return such a file, whether or not all of it was on the disk.
         ensures shown { (content : Content) → IsTold D.bytes self.old content
             → IsSomeAnd (D.bytes self.new.disk) (WithOrWithout self.old.version content frame.now) }
         ensures ends { Ends result self.old.standing self.new.standing }
@@ -161,18 +161,18 @@ impl<D: Disk> Journal<D> {
         }
     }
 
-    /// Raises a journal of version 1 to version 2: writes the version byte, and syncs. In version 2 it does
-    /// nothing.
+    /// Raises a journal of version 1 to version 2: writes the version byte, and syncs. Does nothing in version
+    /// 2.
     pub fn raise_version(&mut self) -> Append
         requires armed { self.old.standing ≢ JournalState.Bare }
         ensures tells { (content : Content) → IsTold D.bytes self.old content
             → IfDone result (IsTold D.bytes self.new (content_of_version_2 content)) }
         ensures done { (content : Content) → IsAtRest D.bytes D.may_leave self.old content
             → IfDone result (IsAtRest D.bytes D.may_leave self.new (content_of_version_2 content)) }
-        // A crash at any moment leaves a file with the content of the one version or of the other.
+        // A crash at any moment leaves a file with the content of one version or the other.
         ensures any_moment { (content : Content) → IsAtRest D.bytes D.may_leave self.old content
             → LeavesOnly D.moment D.left_since self.old.disk self.new.disk (StandsForEither content (content_of_version_2 content)) }
-        // Reads give such a file too, whether or not all of it was on the disk.
+        // Reads also return such a file, whether or not all of it was on the disk.
         ensures shown { (content : Content) → IsTold D.bytes self.old content
             → IsSomeAnd (D.bytes self.new.disk) (StandsForEither content (content_of_version_2 content)) }
         ensures ends { Ends result self.old.standing self.new.standing }

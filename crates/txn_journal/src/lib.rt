@@ -1,6 +1,6 @@
-//! A journal of payloads on a disk. After a crash at any time each payload is there whole or not at all, and
-//! what was answered with `Done` stays. Reading writes nothing. In version 2 reading begins at the last base,
-//! a payload that represents all before it.
+//! A journal of payloads on a disk. After a crash at any time each payload is there whole or not at all, and a
+//! payload for which `Done` was returned stays. Reading writes nothing. In version 2 reading begins at the last
+//! base, a payload that represents all before it.
 #![tactic(auto)]
 
 mod frames;

@@ -16,12 +16,12 @@ use crate::versions::Version;
 use std::alloc::Global;
 use ts_disk::{Disk, Failed, MOST_BYTES};
 
-/// What `Reader::open` found.
+/// The result of `Reader::open`.
 #[derive(Drop)]
 pub enum OpenOutcome<D: Disk> {
     /// The journal may be read.
     Reading(Reader<D>),
-    /// The file is longer than a header and doesn't begin as a journal. The damaged place is 0.
+    /// The file is longer than a header and doesn't begin like a journal. The damaged place is 0.
     Damaged { disk: D, at: u64 },
     /// The disk failed.
     DiskFault(D),
@@ -58,14 +58,14 @@ impl<D: Disk> Reader<D> {
     }
 }
 
-/// How a file begins, and where reading begins in it.
+/// The beginning of a file, and the place at which reading begins in it.
 #[derive(Clone, Copy)]
 struct FileStart {
     start: Start,
     beginning: ReadStart,
 }
 
-/// Finds how the file of a disk begins, and where reading begins in it.
+/// Finds the beginning of a disk's file, and the place at which reading begins in it.
 fn find_start<D: Disk>(disk: &mut D) -> Result<FileStart, Failed>
     ensures found { (file : List ℕ) → D.bytes disk.old ≡ Some file → IfOk result (λ found. IsFound found file) }
     ensures reading { IfOk result (λ found. MayBegin (D.bytes disk.new) found) }
@@ -79,8 +79,8 @@ fn find_start<D: Disk>(disk: &mut D) -> Result<FileStart, Failed>
     Ok(FileStart { start, beginning })
 }
 
-/// Where reading begins in a file that begins so: at the first commit byte, or in a journal of version 2 at
-/// its last base, if it has one.
+/// The place at which reading begins in a file with this beginning. It is the first commit byte, or in a
+/// journal of version 2 the last base, if it has one.
 fn find_beginning<D: Disk>(disk: &mut D, start: Start, size: u64) -> Result<ReadStart, Failed>
     requires sized { IsSized start size }
     requires most { size ≤ MOST_BYTES }
@@ -105,7 +105,7 @@ fn find_beginning<D: Disk>(disk: &mut D, start: Start, size: u64) -> Result<Read
     }
 }
 
-/// Where reading begins in a journal of a version.
+/// The place at which reading begins in a journal of this version.
 fn find_gate<D: Disk>(disk: &mut D, version: Version, size: u64) -> Result<ReadStart, Failed>
     requires gate { 9 ≤ size }
     requires most { size ≤ MOST_BYTES }

@@ -1,4 +1,4 @@
-//! What a journal contains.
+//! The payloads of a journal.
 use ts_schema::Seq;
 
 /// A payload of a journal.

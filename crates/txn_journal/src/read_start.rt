@@ -1,4 +1,4 @@
-//! Where reading begins in a journal of version 2.
+//! The place at which reading begins in a journal of version 2.
 ghost use Rattle.std.specs.Prelude.{◌≡◌, ℕ, cond, ◌<◌, ◌≤◌, List, Some, IfOk};
 ghost use Rattle.ts_disk.specs.Disk.{Counted, HasLength, Keeps};
 ghost use Rattle.txn_journal.specs.Contents.{nothing};
@@ -10,7 +10,7 @@ use crate::heads::{FIRST_GATE, Head, sight_head};
 use crate::versions::begins_base;
 use ts_disk::{Disk, Failed, MOST_BYTES};
 
-/// Where reading begins, and how many bytes the file has.
+/// The place at which reading begins, and the number of bytes of the file.
 #[derive(Clone, Copy)]
 pub struct ReadStart {
     pub at: u64,

@@ -21,10 +21,10 @@ use ts_schema::Seq;
 #[derive(Drop)]
 pub struct Reader<D: Disk> {
     disk: D,
-    /// How the file begins: bare or ready.
+    /// The beginning of the file: bare or ready.
     standing: JournalState,
     version: Version,
-    /// How many bytes the file had when its length was last read.
+    /// The number of bytes of the file when its length was last read.
     size: u64,
     /// The place of the next commit byte.
     at: u64,
@@ -52,11 +52,11 @@ impl<D: Disk> Model for Reader<D> {
     ghost invariant = { λ r. IsReading (D.bytes r.disk) r.standing r.size r.at };
 }
 
-/// What one step of reading found.
+/// The result of one step of reading.
 #[derive(Clone, Copy, Debug, PartialEq, Eq)]
 pub enum Next {
-    /// A base, which `Reader::payload` returns, with the place of its commit byte. What was read before it no
-    /// longer counts.
+    /// A base, which `Reader::payload` returns, with the place of its commit byte. Payloads read before it no
+    /// longer count.
     Base(u64),
     /// Another payload, which `Reader::payload` returns, with the place of its commit byte.
     Payload(u64),
@@ -66,7 +66,7 @@ pub enum Next {
     Damaged(u64),
     /// The disk failed. The next step tries again.
     DiskFault,
-    /// There is no memory for the payload. The next step tries again.
+    /// It ran out of memory for the payload. The next step tries again.
     NoMemory,
 }
 
@@ -93,9 +93,10 @@ impl<D: Disk> Reader<D> {
         }
     }
 
-    /// Reads the next payload. After `Base` and `Payload` others may follow. After each other answer the reader
+    /// Reads the next payload. After `Base` and `Payload` others may follow. After any other result the reader
     /// stays at the same commit byte, and the next step begins there. Meanwhile another process may write the
-    /// first base of the file, which raises the journal to version 2. Contracts over known bytes don't show that.
+    /// first base of the file, which raises the journal to version 2. Contracts about known bytes don't cover
+    /// that.
     pub fn next(&mut self) -> Next
         ensures steps { (file : List ℕ) (content : Content) → HasRead D.bytes self.old file content
             → Steps D.bytes result file content self.old self.new }
@@ -144,7 +145,7 @@ impl<D: Disk> Reader<D> {
         }
     }
 
-    /// Returns the payload of the last step, if that answered `Base` or `Payload` and `take_out` wasn't called
+    /// Returns the payload of the last step, if that returned `Base` or `Payload` and `take_out` wasn't called
     /// since. After `DiskFault` and `NoMemory` it may be any bytes.
     pub fn payload(&self) -> &[u8]
         ensures payload { result.now ≡ self.now.payload }
@@ -152,7 +153,7 @@ impl<D: Disk> Reader<D> {
         &self.payload
     }
 
-    /// Takes the same payload out of the reader, which no longer holds it.
+    /// Removes the same payload from the reader and returns it.
     pub fn take_out(&mut self, alloc: Global) -> Seq<u8>
         ensures payload { result ≡ self.old.payload }
         ensures disk { self.new.disk ≡ self.old.disk }
@@ -211,9 +212,9 @@ fn read_payload<D: Disk>(disk: &mut D, at: u64, count: u64, payload: &mut Vec<u8
     }
 }
 
-/// Returns the version of a journal of which this payload was read. No event begins as a base does. If the
-/// payload of a journal of version 1 does, another process may have raised the version since it was read, so
-/// this function reads it again.
+/// Returns the version of a journal from which this payload was read. No event begins like a base. If the
+/// payload of a journal of version 1 does, another process may have raised the version since, so this function
+/// reads the version again.
 fn version_now<D: Disk>(disk: &mut D, version: Version, payload: &[u8]) -> Result<Version, Failed>
     requires range { HasRange (D.bytes disk.old) 8 }
     ensures told { (file : List ℕ) → D.bytes disk.old ≡ Some file → version_of (slice_index file 7) ≡ version

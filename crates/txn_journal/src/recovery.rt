@@ -14,7 +14,7 @@ use std::alloc::Global;
 use ts_disk::Disk;
 use ts_schema::{NoMemory, Seq};
 
-/// What reading a journal found.
+/// The result of reading a journal.
 #[derive(Drop)]
 pub enum Recovered<D: Disk> {
     /// The payloads that count, and the journal, ready for more.
@@ -30,12 +30,12 @@ pub enum Recovered<D: Disk> {
     },
     /// The disk failed.
     DiskFault(D),
-    /// There is no memory for the payloads.
+    /// It ran out of memory for the payloads.
     NoMemory(D),
 }
 
-/// Reads a journal from its base on. Writes nothing. Holds all these payloads at once, for callers that want
-/// a list of them. The program reads by `Reader`, which holds one at a time.
+/// Reads a journal from its base on. Writes nothing. Holds all these payloads at once, for callers that want a
+/// list of them. The program uses `Reader`, which holds one at a time.
 pub fn recover<D: Disk>(alloc: Global, disk: D) -> Recovered<D>
     ensures recovers { (file : List ℕ) → D.bytes disk ≡ Some file → Recovers result file }
     ensures tells { (file : List ℕ) → D.bytes disk ≡ Some file → TellsAfter D.bytes file result }

@@ -2,7 +2,7 @@
 ghost use Rattle.std.specs.Prelude.{◌≡◌, ◌&&◌, nat_eq, nat_lt};
 ghost use Rattle.txn_journal.specs.Contents.{is_base, number_of, version_of};
 
-/// The version of a journal: what its version byte says.
+/// The version of a journal, by its version byte.
 #[derive(Clone, Copy, Debug, PartialEq, Eq)]
 pub enum Version {
     /// Each payload counts.

@@ -17,10 +17,10 @@ use ts_disk::{Disk, Failed, MOST_BYTES};
 pub fn write_synced<D: Disk>(disk: &mut D, at: u64, piece: &[u8]) -> Result<(), Failed>
     requires most { at ≤ MOST_BYTES }
     requires range { HasRange (D.bytes disk.old) at }
-    // If all bytes of the disk are on it, a crash at any moment leaves them as the write may tear them.
+    // If all bytes of the disk are on it, a crash at any moment leaves them, or an outcome of the torn write.
     ensures crash { (file : List ℕ) → D.bytes disk.old ≡ Some file → Only file (D.may_leave disk.old)
         → LeavesOnly D.moment D.left_since disk.old disk.new (Torn at (length piece.now) file) }
-    // Reads give such bytes too, whether or not all of them were on the disk.
+    // Reads also return such bytes, whether or not all of them were on the disk.
     ensures shown { (file : List ℕ) → D.bytes disk.old ≡ Some file
         → IsSomeAnd (D.bytes disk.new) (Torn at (length piece.now) file) }
     ensures done { OnOk result ((file : List ℕ) → D.bytes disk.old ≡ Some file
@@ -58,7 +58,7 @@ pub fn put_frame<D: Disk>(disk: &mut D, end: u64, frame: &Frame) -> Result<(), F
 /// Writes the byte of version 2 and syncs.
 pub fn put_version<D: Disk>(disk: &mut D) -> Result<(), Failed>
     requires range { HasRange (D.bytes disk.old) 8 }
-    // While the write may be torn, the byte may be any.
+    // While the write may be torn, the byte may have any value.
     ensures any_moment { (end : ℕ) (content : Content) → Rests D.bytes D.may_leave disk.old One end content
         → LeavesOnly D.moment D.left_since disk.old disk.new (StandsForEither content (content_of_version_2 content)) }
     ensures shown { (end : ℕ) (content : Content) → Tells D.bytes disk.old One end content

@@ -20,7 +20,7 @@ returns-in-Ok c =
     ∙ ap (λ ts. rows_shown own (with_rows (cells_pass ts) (named_group plan own) lower [])) tests
     ∙ gathered_by_name plan lower c.requires.shown
 
--- of the rows of an answer, which are fewer than 2^64, no number is too great
+-- for the rows of an answer, which are fewer than 2^64, no number is too large
 pub unreachable-requires : goal.unreachable-requires
 unreachable-requires c =
     let few : length c.args.lower.now < 2 ^ 64 = omega (arith, c.len-rows.ensures.len) in

@@ -10,7 +10,7 @@ use Rattle.cal_bucket.specs.Rows.{ShowARow}
 use Rattle.cal_bucket.specs.Shapes.{named_group}
 use Rattle.cal_bucket.proofs.gathers.gather.Given as goal
 
--- what was taken in and what is left make the whole
+-- what was read and what is left are the whole
 abbrev pub invariant-loop-row : goal.invariant-loop-row
 invariant-loop-row l = record {
   left : AllByRecursion (ShowARow l.fn.plan.at) l.row-iterator;

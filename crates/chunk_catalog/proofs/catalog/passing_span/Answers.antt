@@ -1,4 +1,4 @@
--- A row that passes has a time that the tests let pass.
+-- A row that passes has a time that passes the tests.
 use Rattle.std.proofs.Common.{◌≤ℤ◌, rules}
 use Rattle.std.specs.Prelude.{FitsSigned, int_le}
 use Rattle.std.specs.Int.{w64}

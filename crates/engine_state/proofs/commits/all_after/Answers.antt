@@ -1,4 +1,4 @@
--- One more table was moved on.
+-- One more table was updated.
 use Rattle.std.proofs.Common.{take, sym, subst, ap, ◌∙◌, ◌+◌}
 use Rattle.engine_state.specs.Lists.{Each}
 use Rattle.engine_state.specs.Steps.{AsksIf, GoesIf, appended_to, sum_from, taken_from}

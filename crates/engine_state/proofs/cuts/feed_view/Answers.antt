@@ -1,4 +1,4 @@
--- What was fed was fed as it was noted.
+-- The entries were fed in the form in which they were noted.
 use Rattle.std.proofs.Common.{ap, ◌∙◌}
 use Rattle.engine_state.proofs.FeedSteps.{fed_view}
 use Rattle.engine_state.proofs.cuts.feed_view.Goals as goal

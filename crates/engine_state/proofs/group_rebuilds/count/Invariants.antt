@@ -2,7 +2,7 @@ use Rattle.std.proofs.Common.{◌≡◌, length}
 use Rattle.ts_schema.specs.Counts.{raised_by}
 use Rattle.engine_state.proofs.group_rebuilds.count.Given as goal
 
--- with the steps of the rows that are left there are as many as of all
+-- the steps counted so far and those of the rows left are those of all rows
 abbrev pub invariant-loop-left : goal.invariant-loop-left
 invariant-loop-left g l = raised_by (length l.left) l.steps ≡ raised_by (length l.rows) l.initial.steps
 

@@ -1,4 +1,4 @@
--- One more is made.
+-- One more is finished.
 use Rattle.std.proofs.Common.{[], ◌∷◌, ◌++◌, List, sym, ap, ◌∙◌, subst, append_assoc}
 use Rattle.std.specs.List.{AllByRecursion, AllZip}
 use Rattle.partial_agg.specs.declared.groups.Group.{Group}

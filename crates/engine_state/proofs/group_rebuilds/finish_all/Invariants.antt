@@ -5,7 +5,7 @@ use Rattle.engine_state.specs.declared.group_rebuilds.GroupRebuild.{GroupRebuild
 use Rattle.engine_state.specs.GroupRebuilds.{CanTake, Makes}
 use Rattle.engine_state.proofs.group_rebuilds.finish_all.Given as goal
 
--- those in front are made, and the others are left
+-- those in front are finished, and the others are left
 abbrev pub invariant-loop-refold : goal.invariant-loop-refold
 invariant-loop-refold l = record {
   can : AllByRecursion CanTake l.left.items;

@@ -1,4 +1,4 @@
--- All rows of the image are taken in.
+-- All rows of the image are added.
 use Rattle.std.proofs.Common.{◌≡◌, ℕ, ◌<◌, ◌^◌, ◌++◌, [], List, Option, length, take, drop, sym, ap, ◌∙◌, subst, arith}
 use Rattle.std.specs.List.{AllByRecursion, AllZip, list_all, list_any}
 use Rattle.std.proofs.lemmas.List.Elements.{length_all_zip}

@@ -1,4 +1,4 @@
--- A piece of rows more is taken in and counted.
+-- One more piece of rows is added and counted.
 use Rattle.std.proofs.Common.{◌≡◌, length, refl, sym, subst, arith}
 use Rattle.std.proofs.lemmas.List.{nil_from_length}
 use Rattle.std.proofs.lemmas.Result.{err_from_is_err_and}

@@ -6,7 +6,7 @@ use Rattle.engine_state.specs.GroupRebuilds.{CanTake}
 use Rattle.engine_state.proofs.RefoldLaws.{InFront}
 use Rattle.engine_state.proofs.group_rebuilds.take_rows.Given as goal
 
--- the rows in front are taken in and counted, and the others are left
+-- the rows in front are added and counted, and the others are left
 abbrev pub invariant-pieces : goal.invariant-pieces
 invariant-pieces g l = record {
   times : AreTimes l.left;

@@ -1,4 +1,4 @@
--- One more commit is held.
+-- One more commit is in the table.
 use Rattle.std.proofs.Common.{◌∙◌, List, take, subst}
 use Rattle.ts_schema.specs.declared.rows.Row.{Row}
 use Rattle.ts_model.specs.Saved.{appended_over}

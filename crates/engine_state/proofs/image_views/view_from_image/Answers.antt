@@ -1,4 +1,4 @@
--- The ranges of an image give what is pending and what was refreshed.
+-- The ranges of an image determine what is pending and what was refreshed.
 use Rattle.std.proofs.Common.{◌≡◌, ◌∙◌, List, ℤ, ℕ, Option, Some, None, cond, map, ap, refl, sym, subst}
 use Rattle.std.specs.Prelude.{◌&&◌, is_none}
 use Rattle.std.specs.List.{AllByRecursion}

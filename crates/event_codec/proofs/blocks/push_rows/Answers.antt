@@ -1,4 +1,4 @@
--- Where one of both lists has ended, all rows are made; until then a row more is made.
+-- Once one of the two lists has ended, all rows are built. Until then one more row is built.
 use Rattle.std.proofs.Common.{◌≡◌, [], ◌∷◌, ◌++◌, drop, List, inl, inr, sym, ap, ◌∙◌, arith, rules}
 use Rattle.std.specs.Prelude.{FitsSigned}
 use Rattle.std.specs.Int.{w64}

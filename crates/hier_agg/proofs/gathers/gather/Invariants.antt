@@ -6,7 +6,7 @@ use Rattle.hier_agg.specs.Taken.{row_group_of, row_passes}
 use Rattle.hier_agg.specs.Wides.{HoldsItsNumbers}
 use Rattle.hier_agg.proofs.gathers.gather.Given as goal
 
--- what was taken in and what is left make the whole
+-- what was read and what is left are the whole
 abbrev pub invariant-loop-row : goal.invariant-loop-row
 invariant-loop-row l = record {
   numbers : HoldsItsNumbers l.plan.width l.bucket;

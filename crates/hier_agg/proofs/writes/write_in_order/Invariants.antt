@@ -5,7 +5,7 @@ use Rattle.hier_agg.specs.Wides.{HoldsItsNumbers}
 use Rattle.hier_agg.proofs.Writing.{AreOnTheWay}
 use Rattle.hier_agg.proofs.writes.write_in_order.Given as goal
 
--- the groups of the rows so far are written, and make the whole with those that are left
+-- the groups of the rows so far are written, and with the rows left they make up the whole
 abbrev pub invariant-loop-row : goal.invariant-loop-row
 invariant-loop-row l = record {
   numbers : HoldsItsNumbers l.plan.width l.bucket;

@@ -1,4 +1,4 @@
--- What is below the mark is in the range of buckets.
+-- The numbers below the mark are in the range of buckets.
 use Rattle.std.proofs.Common.{◌∙◌}
 use Rattle.ts_bucket.specs.Spans.{in_span}
 use Rattle.mat_log.proofs.BelowLaws.{below_in_range}

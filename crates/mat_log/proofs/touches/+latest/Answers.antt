@@ -1,4 +1,4 @@
--- The later of what the two halves touched last.
+-- The later of the last touches of the two halves.
 use Rattle.std.proofs.Common.{◌≡◌, ◌∙◌, ◌++◌, ◌/◌, length, take, ap, sym}
 use Rattle.std.proofs.lemmas.List.{take-append-drop}
 use Rattle.std.proofs.lemmas.Result.{IfOk-weaker}

@@ -1,4 +1,4 @@
--- The half of the places that can't hold the first group from the number on goes.
+-- The search drops the half of the places that can't be that of the first group from the number on.
 use Rattle.std.proofs.Common.{◌≡◌, ◌∙◌, ◌+◌, ◌-◌, ◌/◌, true, false, int_lt, refl, sym, ap, subst, FitsSigned, arith, rules}
 use Rattle.std.specs.Int.{w64}
 use Rattle.std.proofs.lemmas.Int.{to_z-of_z}

@@ -1,4 +1,4 @@
--- The groups are shown one behind another.
+-- The groups are shown in order.
 use Rattle.std.proofs.Common.{◌∙◌, ◌++◌, map, ap}
 use Rattle.ts_model.specs.Groups.{cells_by, cells_of}
 use Rattle.realtime_union.proofs.unions.union_rows.Goals as goal

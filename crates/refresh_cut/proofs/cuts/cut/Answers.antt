@@ -1,4 +1,4 @@
--- The lists are the same, seen as slices.
+-- The lists are the same as slices.
 use Rattle.std.proofs.Common.{sym, subst}
 use Rattle.std.specs.List.{All}
 use Rattle.mat_log.specs.Feeding.{AreWithin}

@@ -3,7 +3,7 @@ use Rattle.ts_num.specs.Aggregates.{shown_or_null}
 use Rattle.result_text.specs.Answers.{more_cells}
 use Rattle.result_text.proofs.answers.put_keys.Given as goal
 
--- what is written and what is left make the whole, and what stood before is kept
+-- the text written and the text left are the whole, and what was before is kept
 abbrev pub invariant-loop-key : goal.invariant-loop-key
 invariant-loop-key l = record {
   written : l.initial.text.after ++ more_cells (map shown_or_null l.fn.keys) ≡ l.text.after ++ more_cells (map shown_or_null (drop l.key-index l.fn.keys));

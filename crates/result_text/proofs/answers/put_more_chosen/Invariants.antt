@@ -4,7 +4,7 @@ use Rattle.ts_model.specs.Results.{group_cells}
 use Rattle.result_text.specs.Answers.{more_cells}
 use Rattle.result_text.proofs.answers.put_more_chosen.Given as goal
 
--- what is written and what is left make the whole, and what stood before is kept
+-- the text written and the text left are the whole, and what was before is kept
 abbrev pub invariant-loop-place : goal.invariant-loop-place
 invariant-loop-place l = record {
   written :

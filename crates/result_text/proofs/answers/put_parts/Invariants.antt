@@ -3,7 +3,7 @@ use Rattle.ts_model.specs.Groups.{shown_each}
 use Rattle.result_text.specs.Answers.{more_cells}
 use Rattle.result_text.proofs.answers.put_parts.Given as goal
 
--- what is written and what is left make the whole, and what stood before is kept
+-- the text written and the text left are the whole, and what was before is kept
 abbrev pub invariant-loop-aggs_left : goal.invariant-loop-aggs_left
 invariant-loop-aggs_left l = record {
   written : l.initial.text.after ++ more_cells (shown_each l.aggs l.parts) ≡ l.text.after ++ more_cells (shown_each l.aggs_left l.parts_left);

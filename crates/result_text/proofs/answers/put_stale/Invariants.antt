@@ -2,7 +2,7 @@ use Rattle.std.proofs.Common.{◌≡◌, ◌++◌, drop}
 use Rattle.result_text.specs.Answers.{stale_text}
 use Rattle.result_text.proofs.answers.put_stale.Given as goal
 
--- what is written and what is left make the whole, and what stood before is kept
+-- the text written and the text left are the whole, and what was before is kept
 abbrev pub invariant-loop-span : goal.invariant-loop-span
 invariant-loop-span l = record {
   written : l.initial.text.after ++ stale_text l.fn.min l.fn.stale ≡ l.text.after ++ stale_text l.fn.min (drop l.span-index l.fn.stale);

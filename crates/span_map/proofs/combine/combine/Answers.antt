@@ -1,4 +1,4 @@
--- Each pass goes past the next number of either map.
+-- Each pass moves past the next number of either map.
 use Rattle.std.proofs.Common.{◌≡◌, ◌∙◌, Some, ap, sym, FitsSigned, rules}
 use Rattle.std.specs.Int.{w64}
 use Rattle.std.proofs.lemmas.Int.{to_z-of_z}

@@ -1,4 +1,4 @@
--- An edge either stays, at the place after the last one kept, or goes.
+-- An edge either stays, at the place after the last one kept, or is removed.
 use Rattle.std.proofs.Common.{◌≡◌, ◌<◌, ◌∙◌, Vec, Global, ap, length, get_or, vec_len, vec_capacity, arith}
 use Rattle.span_map.specs.declared.edges.Edge.{Edge}
 use Rattle.span_map.specs.Changes.{edge_changed}

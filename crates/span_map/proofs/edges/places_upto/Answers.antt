@@ -1,4 +1,4 @@
--- The search splits the edges by a test that lower ones pass where higher ones do.
+-- The search splits the edges by a test that lower ones pass if higher ones do.
 use Rattle.std.proofs.Common.{Bool, ◌∙◌, int_le, arith, rules}
 use Rattle.std.proofs.lemmas.Int.{ints}
 use Rattle.std.proofs.lemmas.List.Sorted.{IsPartitionPoint-from_clause}

@@ -7,7 +7,7 @@ use Rattle.span_map.specs.Edges.{IsRising, value_from, value_on, between, edges_
 use Rattle.span_map.proofs.PieceLaws.{rising-framed, value_from-framed}
 use Rattle.span_map.proofs.parts.edges_within.Goals as goal
 
--- the edges made are those of the part
+-- the edges built are those of the part
 is : (c : goal.After-edges_of_part) → edges_between c.args.span.lo c.args.span.hi c.part_within-value.result.0 c.part_within-value.result.1.now ≡ edges_between c.args.span.lo c.args.span.hi (value_on c.args.span.lo c.args.edges.now) (between c.args.span.lo c.args.span.hi c.args.edges.now)
 is c =
     ap (λ v. edges_between c.args.span.lo c.args.span.hi v c.part_within-value.result.1.now) c.part_within-value.ensures.value

@@ -1,4 +1,4 @@
--- The half of the places that can't hold the one that is sought goes.
+-- The search drops the half of the places that can't include the one searched for.
 use Rattle.std.proofs.Common.{◌+◌, ◌-◌, ◌/◌, ◌∙◌, sym, arith}
 use Rattle.span_map.proofs.SearchLaws.{narrowed_down, narrowed_place, narrowed_up}
 use Rattle.span_map.proofs.search.place.Goals as goal

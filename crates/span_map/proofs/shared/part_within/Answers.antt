@@ -7,7 +7,7 @@ use Rattle.span_map.proofs.PieceLaws.{rising-framed, value_from-framed}
 use Rattle.span_map.proofs.shared.part_within.Goals.{In_ok-edges_of_part}
 use Rattle.span_map.proofs.shared.part_within.Goals as goal
 
--- the edges made are those of the part
+-- the edges built are those of the part
 is : (c : In_ok-edges_of_part) → c.in_ok-edges_of_part.field-0.items ≡ edges_between c.args.span.lo c.args.span.hi (value_on c.args.span.lo c.args.edges.now.items) (between c.args.span.lo c.args.span.hi c.args.edges.now.items)
 is c =
     let es = c.args.edges.now.items in

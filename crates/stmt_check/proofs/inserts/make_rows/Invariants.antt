@@ -4,7 +4,7 @@ use Rattle.std.specs.List.{flat_map}
 use Rattle.stmt_check.specs.Rows.{others_of, rows_of}
 use Rattle.stmt_check.proofs.inserts.make_rows.Given as goal
 
--- what is left of the block are the values of the rows that are left, and with these the rows so far are all of them
+-- the rest of the block are the values of the remaining rows; with these the rows so far are all rows
 abbrev pub invariant-loop-values : goal.invariant-loop-values
 invariant-loop-values l =
     (l.from ≤ length (arc_value l.block))

@@ -1,4 +1,4 @@
--- The rows so far and those to come are the rows at first and those that came behind them.
+-- The rows so far and those to come are the rows at the start and those read after them.
 use Rattle.std.proofs.Common.{◌≡◌, ◌≤◌, length}
 use Rattle.stmt_tokens.specs.Streams.{stream, size}
 use Rattle.stmt_reader.specs.Reading.{more, parts, row}

@@ -1,4 +1,4 @@
--- So many digits stand in front, and this is their value.
+-- This many digits are in front, and this is their value.
 use Rattle.std.proofs.Common.{◌-◌}
 use Rattle.stmt_tokens.proofs.Numerals.{IsFront}
 use Rattle.stmt_tokens.proofs.tokens.few_digits.Given as goal

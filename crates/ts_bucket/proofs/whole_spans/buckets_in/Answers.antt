@@ -8,7 +8,7 @@ use Rattle.ts_bucket.specs.WholeSpans.{whole_span}
 use Rattle.ts_bucket.proofs.WholeSpanLaws.{first_low, in_both}
 use Rattle.ts_bucket.proofs.whole_spans.buckets_in.Goals as goal
 
--- the greater start and the lesser end, free of the code's casts
+-- the greater start and the lesser end, without the code's casts
 from_is : (x y lo first m : ℤ) → FitsSigned w64 x → FitsSigned w64 y → FitsSigned w64 m → x ≡ lo → y ≡ first → m ≡ int_max (cast_signed w64 (cast_unsigned w64 x)) (cast_signed w64 (cast_unsigned w64 y)) → cast_signed w64 (cast_unsigned w64 m) ≡ int_max lo first
 from_is x y lo first m p q r e f g =
     to_z-of_z w64 m r ∙ g ∙ ap (λ a. int_max a (cast_signed w64 (cast_unsigned w64 y))) (to_z-of_z w64 x p ∙ e) ∙ ap (int_max lo) (to_z-of_z w64 y q ∙ f)

@@ -1,4 +1,4 @@
--- What the window is given has exactly its whole buckets.
+-- The window's span has exactly its whole buckets.
 use Rattle.std.proofs.Common.{rules}
 use Rattle.ts_bucket.proofs.WindowLaws.{inscribed_as}
 use Rattle.ts_bucket.proofs.windows.inscribe.Goals as goal

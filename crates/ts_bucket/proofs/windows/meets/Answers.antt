@@ -1,4 +1,4 @@
--- The ends reach each other exactly where a number is in both.
+-- The ends reach each other if and only if a number is in both.
 use Rattle.std.proofs.Common.{◌≡◌, true, arith}
 use Rattle.std.proofs.lemmas.Int.{ints}
 use Rattle.ts_bucket.specs.Spans.{overlaps}

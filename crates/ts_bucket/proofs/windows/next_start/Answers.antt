@@ -24,11 +24,11 @@ sum_fits w t b step h le fits-b fits-t is step_is below =
     let positive : pos 0 <ℤ w.step = h.positive in
     omega (arith, ints)
 
--- the code's number, free of its casts
+-- the code's number, without its casts
 sum_is : (b step : ℤ) → FitsSigned w64 b → FitsSigned w64 step → FitsSigned w64 (b +ℤ step) → cast_signed w64 (cast_unsigned w64 (cast_signed w64 (cast_unsigned w64 b) +ℤ cast_signed w64 (cast_unsigned w64 step))) ≡ b +ℤ step
 sum_is b step p q r = omega (arith, ints)
 
--- what is known where the bucket starts below the number
+-- what is known if the bucket starts below the number
 record Known (w : WidthValue) (t b step : ℤ) : Type 0 where
   bounds : IsWidth w
   start_fits : FitsSigned w64 b

@@ -1,4 +1,4 @@
--- What stands behind the bytes that were searched.
+-- What is after the bytes that were searched.
 use Rattle.std.proofs.Common.{◌+◌, ◌-◌, ◌<◌, length, take, drop, rules}
 use Rattle.ts_io.proofs.LineEnds.{IsFirstEnd-after, found_end, found_none, none_after}
 use Rattle.ts_io.proofs.line_ends.first_end_after.Goals as goal

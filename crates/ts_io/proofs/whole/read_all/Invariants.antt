@@ -1,4 +1,4 @@
--- What is held is all that was given, the end isn't told, and no fault was counted.
+-- The bytes held are all that were read, the end isn't reported, and no fault was counted.
 use Rattle.std.proofs.Common.{◌≡◌, false, ◌+◌, ◌-◌, ◌≤◌, length, vec_len}
 use Rattle.std.specs.Io.KnownBytes.{Consumes}
 use Rattle.ts_io.specs.declared.limits.TheConstants.{INPUT_LIMIT}

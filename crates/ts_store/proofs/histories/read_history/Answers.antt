@@ -1,4 +1,4 @@
--- A file that doesn't begin as a journal is damaged before any event.
+-- A file that doesn't begin like a journal is damaged before any event.
 use Rattle.ts_model.specs.History.{start}
 use Rattle.ts_store.proofs.HistoryLaws.{sound_start}
 use Rattle.ts_store.proofs.ReplayLaws.{damaged_short}

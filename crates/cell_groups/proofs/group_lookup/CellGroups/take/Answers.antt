@@ -56,7 +56,7 @@ returns-in-At-clause-room c n rows words few =
     (subst (λ aggs. AllByRecursion CanBeKept (joined_parts (parts_of aggs c.index_mut.result.now) (as_parts aggs (row_tallies aggs c.args.cells)))) (sym c.items.ensures.items)
     (kept-row shape c.args.start c.args.cells c.args.self.now.groups.items n rows words c.in-At.at c.index_mut.result.now (place (goal.at.returns-in-At-clause-room c).In-At) c.index_mut.ensures.value few))
 
--- ---- behind the others
+-- ---- after the others
 
 -- a group of one row has no tallies
 has_none : (aggs : List Agg) (g : CellGroup) → g.tallies ≡ None → HasTallies aggs g
@@ -88,7 +88,7 @@ returns-in_ok-put_last-in-End-clause-few c n rows words =
     subst (λ gs. AreOfRows (n + 1) (as_groups shape gs)) (sym c.in_ok-put_last-in-End.ensures.groups)
     (few-new shape c.args.start c.args.cells c.args.self.now.groups.items n rows words c.group_of.result alone)
 
--- ---- behind the others, which aren't in order from here on
+-- ---- after the others, which are no longer in order
 
 pub returns-in_ok-put-in-Unknown-clause-groups : goal.returns-in_ok-put-in-Unknown-clause-groups
 returns-in_ok-put-in-Unknown-clause-groups c =

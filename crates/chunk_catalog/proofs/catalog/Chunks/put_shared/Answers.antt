@@ -1,4 +1,4 @@
--- A piece of rows more.
+-- One more piece of rows.
 use Rattle.std.proofs.Common.{◌+◌, ◌-◌, ◌≤◌, ◌++◌, length, map, take, drop, sym, ap, ◌∙◌, subst, arith}
 use Rattle.seg_rows.specs.Versions.{AsOften, newborn}
 use Rattle.chunk_catalog.specs.Chunks.{ChunksValue, HaveTimes}

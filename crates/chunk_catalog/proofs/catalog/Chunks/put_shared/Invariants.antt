@@ -2,7 +2,7 @@ use Rattle.std.proofs.Common.{◌≡◌, ◌-◌, ◌≤◌, ◌++◌, length, m
 use Rattle.seg_rows.specs.Versions.{AsOften, newborn}
 use Rattle.chunk_catalog.proofs.catalog.Chunks.put_shared.Given as goal
 
--- the rows in front are there
+-- the rows in front are inserted
 abbrev pub invariant-pieces : goal.invariant-pieces
 invariant-pieces l = record {
   interval : l.chunks.interval ≡ l.self.interval;

@@ -1,4 +1,4 @@
--- What is looked at is that of the history.
+-- The values read are those of the history.
 use Rattle.std.proofs.Common.{◌≡◌, ap, ◌∙◌, subst}
 use Rattle.ts_model.specs.History.{position}
 use Rattle.engine_core.specs.Histories.{begun_by, history_of}

@@ -1,4 +1,4 @@
--- What is kept of the history with the event tells what the event did.
+-- The state of the history with the event has the effect of the event.
 use Rattle.std.proofs.Common.{ap, ◌∙◌}
 use Rattle.ts_model.specs.declared.outcomes.Committed.{Committed}
 use Rattle.engine_core.specs.Values.{PreparedValue}

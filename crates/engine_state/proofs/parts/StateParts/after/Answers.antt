@@ -1,4 +1,4 @@
--- Each event as the parts take it.
+-- Each event as a step of the parts.
 use Rattle.ts_model.specs.declared.events.Event.TheVariants.{Cut, Hyper, Mode}
 use Rattle.engine_state.proofs.StepFacts.{finish_steps, steps_as}
 use Rattle.engine_state.proofs.parts.StateParts.after.Goals as goal

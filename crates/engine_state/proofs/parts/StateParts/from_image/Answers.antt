@@ -1,4 +1,4 @@
--- Each part is made of the image.
+-- Each part is built from the image.
 use Rattle.std.proofs.Common.{◌≡◌, ◌≤◌, ◌∙◌, List, length, ap, refl, sym, subst}
 use Rattle.std.specs.Arc.{arc_value}
 use Rattle.ts_model.specs.declared.images.Finished.{Finished as FinishedRefresh}

@@ -1,4 +1,4 @@
--- The groups of the aggregate are what the last refreshes have left.
+-- The groups of the aggregate are those that the last refreshes stored.
 use Rattle.std.proofs.Common.{◌≡◌, ◌∙◌, ◌∷◌, [], List, map, ap, subst}
 use Rattle.std.specs.Prelude.{IfOk}
 use Rattle.partial_agg.specs.declared.groups.Group.{Group}

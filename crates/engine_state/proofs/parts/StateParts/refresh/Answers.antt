@@ -1,4 +1,4 @@
--- The refresh that waits in the state is one of the history.
+-- The waiting refresh of the state is one of the history.
 use Rattle.std.proofs.Common.{◌≡◌, ◌∙◌, Some, ap, refl, sym}
 use Rattle.refresh_list.specs.Refreshes.{waits_in}
 use Rattle.engine_state.specs.Stands.{StateValue}

@@ -1,4 +1,4 @@
--- A hypertable gives what its position sees, and another table nothing.
+-- A hypertable returns the rows that its position sees, and any other table none.
 use Rattle.std.proofs.Common.{◌≡◌, ◌∙◌, Some, ap, sym}
 use Rattle.std.specs.Prelude.{option_copied}
 use Rattle.ts_model.specs.Rows.{in_order, rows}

@@ -1,4 +1,4 @@
--- The refresh is one of the history, and so are the aggregate and its table that its job is made of.
+-- The refresh is one of the history, and so are the aggregate and the table of its job.
 use Rattle.std.proofs.Common.{◌≡◌, ◌∙◌, ap, sym, subst}
 use Rattle.std.specs.Prelude.{IsSome}
 use Rattle.ts_bucket.specs.Ranges.{AreRanges}

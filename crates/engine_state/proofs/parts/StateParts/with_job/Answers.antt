@@ -1,4 +1,4 @@
--- The groups of the job renew the ranges whose last refresh isn't above its snapshot.
+-- The groups of the job update the ranges whose last refresh isn't above its snapshot.
 use Rattle.std.proofs.Common.{◌≡◌, ◌∙◌, ◌<◌, ◌&&◌, List, length, get_or, map, set, ap, sym, subst}
 use Rattle.std.specs.List.{AllByRecursion}
 use Rattle.std.proofs.lemmas.Bool.{and_from}

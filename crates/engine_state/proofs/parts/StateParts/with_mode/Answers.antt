@@ -1,4 +1,4 @@
--- A mode changes the roster alone.
+-- A mode changes the roster only.
 use Rattle.engine_state.proofs.ModeFacts.{mode_steps}
 use Rattle.engine_state.proofs.parts.StateParts.with_mode.Goals as goal
 

@@ -1,4 +1,4 @@
--- The operations of a commit move each table on.
+-- The operations of a commit update each table.
 use Rattle.std.proofs.Common.{◌≡◌, ◌∙◌, ◌≤◌, ◌^◌, suc, List, Option, length, ap, sym, subst}
 use Rattle.std.proofs.lemmas.Bool.{and_from}
 use Rattle.engine_state.specs.Lists.{Each}

@@ -5,7 +5,7 @@ use Rattle.event_codec.specs.Reading.{items, row_at}
 use Rattle.event_codec.proofs.Loops.{with_front}
 use Rattle.event_codec.proofs.reader.Reader.piece_into.Given as goal
 
--- the rows so far have a time and an end each, and are read with those that are left
+-- each row so far has a time and an end, and the rows left are read after them
 abbrev pub invariant-loop : goal.invariant-loop
 invariant-loop l =
     (length l.times.items ≡ length l.ends.items)

@@ -3,7 +3,7 @@ use Rattle.event_codec.specs.Reading.{items, value_at}
 use Rattle.event_codec.proofs.Loops.{with_front}
 use Rattle.event_codec.proofs.reader.Reader.values_into.Given as goal
 
--- the values so far stand behind the others, and are read with those that are left
+-- the values so far come after the others, and the values left are read after them
 abbrev pub invariant-loop : goal.invariant-loop
 invariant-loop l =
     (l.into ≡ l.fn.into ++ drop (length l.fn.into) l.into)

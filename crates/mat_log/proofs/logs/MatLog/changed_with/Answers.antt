@@ -1,4 +1,4 @@
--- What is pending where there is a last refresh, joined, are the ranges of the changed buckets.
+-- The pending pieces with a last refresh, joined, are the ranges of the changed buckets.
 use Rattle.std.proofs.Common.{◌≡◌, ◌∙◌, ℤ, None, cond, ap, subst}
 use Rattle.ts_bucket.specs.Spans.{in_span}
 use Rattle.span_map.specs.Maps.{at}

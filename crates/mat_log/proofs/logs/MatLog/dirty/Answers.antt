@@ -1,4 +1,4 @@
--- What is pending within the span, joined, are the ranges of its dirty buckets.
+-- The pending pieces within the span, joined, are the ranges of its dirty buckets.
 use Rattle.std.proofs.Common.{◌≡◌, ◌∙◌, ◌≤ℤ◌, None, cond, IfOk, ap, sym, subst, arith}
 use Rattle.std.proofs.lemmas.Int.{ints}
 use Rattle.ts_bucket.specs.Spans.{SpanValue, in_span}

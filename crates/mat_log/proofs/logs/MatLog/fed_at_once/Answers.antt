@@ -1,4 +1,4 @@
--- What is pending afterwards is the latest touch where it is above the last refresh.
+-- The pending position afterwards is the latest touch if it is above the last refresh.
 use Rattle.std.proofs.Common.{◌∙◌, refl, sym, subst}
 use Rattle.span_map.specs.Maps.{at}
 use Rattle.mat_log.specs.Logs.{LogValue}

@@ -1,4 +1,4 @@
--- One entry more is fed.
+-- One more entry is fed.
 use Rattle.std.proofs.Common.{◌≡◌, ◌∙◌, ◌+◌, length, drop, sym, ap, arith}
 use Rattle.std.proofs.lemmas.List.{drop_all}
 use Rattle.mat_log.specs.Feeding.{pending_after_all}

@@ -1,4 +1,4 @@
--- What is pending is combined of what was never refreshed and of what was touched.
+-- What is pending is combined from what was never refreshed and what was touched.
 use Rattle.std.proofs.Common.{◌≡◌, ◌∙◌, ℤ, Some, None, cond, sym, ap, refl}
 use Rattle.std.specs.Prelude.{◌&&◌, is_none}
 use Rattle.ts_bucket.specs.Ranges.{lies_in}

@@ -1,4 +1,4 @@
--- What is pending within the span, and what is left of the last refreshes above the snapshot, joined.
+-- The pending pieces within the span, joined with the last refreshes above the snapshot.
 use Rattle.std.proofs.Common.{◌≡◌, ◌∙◌, ℤ, ◌≤ℤ◌, ℕ, Option, None, cond, ap, subst, arith}
 use Rattle.std.proofs.lemmas.Int.{ints}
 use Rattle.ts_bucket.specs.Positions.{above}

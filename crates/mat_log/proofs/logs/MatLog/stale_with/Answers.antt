@@ -1,4 +1,4 @@
--- The stale buckets are the dirty ones among the buckets below the mark, with the entries as without.
+-- The stale buckets are the dirty ones among the buckets below the mark, also with the entries.
 use Rattle.std.proofs.Common.{◌≡◌, true, ◌&&◌, ℤ, ◌≤ℤ◌, sym, subst}
 use Rattle.std.specs.Option.{ForSome}
 use Rattle.ts_bucket.specs.Bucket.{is_bucket, first_of}

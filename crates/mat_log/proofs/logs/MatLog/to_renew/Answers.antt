@@ -1,4 +1,4 @@
--- Where the last refresh isn't above the snapshot the snapshot stays.
+-- The snapshot becomes the last refresh unless that is above it.
 use Rattle.std.proofs.Common.{◌≡◌, ◌∙◌, ℤ, ℕ, Option, None, cond, ap, subst}
 use Rattle.ts_bucket.specs.Spans.{in_span}
 use Rattle.span_map.specs.Combined.{combined_by}

@@ -1,4 +1,4 @@
--- A span of whole buckets is changed in one way.
+-- All buckets of the span change in the same way.
 use Rattle.std.proofs.Common.{sym, subst}
 use Rattle.span_map.specs.Maps.{at}
 use Rattle.ts_bucket.specs.WholeSpans.{IsWholeSpan}

@@ -1,4 +1,4 @@
--- No groups are in order.
+-- The empty list is in order.
 use Rattle.std.proofs.Common.{sym, subst}
 use Rattle.partial_agg.specs.Groups.{AreInOrder}
 use Rattle.mat_rows.proofs.PlaceLaws.{order_none}

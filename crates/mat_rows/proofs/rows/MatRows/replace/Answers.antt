@@ -7,7 +7,7 @@ use Rattle.mat_rows.proofs.ReplaceLaws.{order_replaced, of_bucket-replaced, list
 use Rattle.mat_rows.proofs.rows.MatRows.replace.Goals as goal
 use Rattle.mat_rows.proofs.rows.MatRows.replace.Goals.{In_ok-replaced_in}
 
--- what is made
+-- the list built
 made : (c : In_ok-replaced_in) → c.in_ok-replaced_in.field-0.items ≡ groups_replaced c.args.spans.now c.args.groups.now c.args.self.now
 made c =
     c.in_ok-replaced_in.ensures

@@ -1,4 +1,4 @@
--- What is read has room, and goes one byte beyond the limit at most.
+-- A read fits, and reaches at most one byte beyond the limit.
 use Rattle.std.proofs.Common.{ℕ, length, ap, sym, ◌∙◌, true≢false, arith, rules, length-take, length-drop}
 use Rattle.ts_io.specs.Reader.{Reading}
 use Rattle.ts_io.proofs.line_reader.Lines.ask.Goals as goal

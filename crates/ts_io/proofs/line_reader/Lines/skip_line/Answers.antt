@@ -1,4 +1,4 @@
--- Each piece is looked at and dropped until the line ends.
+-- Each piece is searched and dropped until the line ends.
 use Rattle.std.proofs.Common.{◌≡◌, ◌≤◌, [], length, ap, ◌∙◌, arith, rules}
 use Rattle.std.proofs.lemmas.List.{nil_from_length, drop_all}
 use Rattle.std.proofs.lemmas.Bool.{ne_eqb}

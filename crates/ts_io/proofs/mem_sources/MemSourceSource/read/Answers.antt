@@ -1,4 +1,4 @@
--- A call that fails leaves the end untold, as it was.
+-- A call that fails doesn't report the end.
 use Rattle.std.proofs.Common.{ap, ◌∙◌}
 use Rattle.ts_io.specs.MemSource.{Supply}
 use Rattle.ts_io.proofs.mem_sources.MemSourceSource.read.Goals as goal

@@ -1,4 +1,4 @@
--- The cell at a place among the chosen ones is the group's cell at the place that is chosen there.
+-- The chosen cell at a place is the group's cell at the place chosen there.
 use Rattle.std.proofs.Common.{◌∙◌, ap, sym}
 use Rattle.ts_model.specs.Results.{cell_at, group_cells}
 use Rattle.ts_model.proofs.ResultLaws.{value_chosen}

@@ -1,4 +1,4 @@
--- Behind the start of the bucket stand the keys.
+-- After the start of the bucket come the keys.
 use Rattle.std.proofs.Common.{◌∙◌, ◌<◌, ◌≤◌, length, sym, arith}
 use Rattle.ts_num.specs.declared.values.Datum.TheVariants.{Int}
 use Rattle.ts_model.specs.Groups.{shown_each}

@@ -1,4 +1,4 @@
--- The rows are those of groups alone, all of whose cells are shown.
+-- The rows are those of groups only, all of whose cells are shown.
 use Rattle.std.proofs.Common.{◌∙◌, ◌++◌, ap, map}
 use Rattle.ts_model.specs.Chosen.{chosen_cells}
 use Rattle.ts_model.proofs.ResultLaws.{rows_choose}

@@ -52,7 +52,7 @@ returns-in-DiskFault-clause-safe g c =
     c.args.draft.prepared.event c.args.draft.frame c.requires.history c.requires.draft.fits c.requires.draft.formed c.requires.draft.framed c.requires.goes_on c.append_armed.ensures.any_moment
     refl (ap Some c.into_event.ensures.event) (c.in-DiskFault.ensures.ends).1 c.in-DiskFault.ensures.counted c.append_armed.ensures.shown
 
--- ---- the journal had stopped, which no store has whose disk didn't fail
+-- ---- the journal had stopped, which is impossible for a store whose disk didn't fail
 
 pub returns-in-Stopped-clause-does : goal.returns-in-Stopped-clause-does
 returns-in-Stopped-clause-does g c = λ begun opened armed kept.
