@@ -27,7 +27,7 @@ from .programs import Ended
 from .schema import Schema, learn_folder
 from .scripts import looks_like_rest
 from .sent import Sender
-from .signals import Stop
+from .signals import Stop, interrupted, line_typed
 from .statements import SESSION, line_of
 from .talk import ME, Stopped, Talk
 from .terminal import FAINT, colored
@@ -176,7 +176,7 @@ class Prompt:
                 say(f"given up: {held}")
             return True
         try:
-            return input(f"Leaving gives up {held}. Leave? [y/N] ").strip().lower() in ("y", "yes")
+            return line_typed(f"Leaving gives up {held}. Leave? [y/N] ").strip().lower() in ("y", "yes")
         except EOFError:
             print()
             return True
@@ -189,7 +189,7 @@ def converse(prompt: Prompt) -> None:
     """Reads what is typed until the input ends or `\\q` is typed. Ctrl-C gives up what is typed."""
     while True:
         try:
-            if not prompt.run_text(input(prompt.text())):
+            if not prompt.run_text(line_typed(prompt.text())):
                 return
         except EOFError:
             print()
@@ -281,7 +281,7 @@ def prompt(options: Namespace) -> int:
     learn_folder(schema, folder)
     for number in (signal.SIGTERM, signal.SIGHUP):
         signal.signal(number, leave)
-    with talk_over(folder, options.snapshot) as talk:
+    with interrupted(), talk_over(folder, options.snapshot) as talk:
         conversation = Prompt(options, talk, schema)
         try:
             conversation.check_scales()

@@ -22,7 +22,7 @@ from .replies import Reply, replies_of
 from .schema import Schema, learn_folder
 from .scripts import Given, given_from, given_of
 from .sent import Sender
-from .signals import Signals, Stop
+from .signals import Signals, Stop, interrupted
 from .statements import Line, in_order_of_par, line_of, lines_of
 from .translation import NotSent
 
@@ -115,7 +115,8 @@ def run_script(options: Namespace, printer: Printer) -> int:
     if isinstance(given, list):
         check_scales(options, printer.schema, given)
     sender = Sender(options, printer.schema, printer.names())
-    with folder_of(options, given) as folder, Signals() as signals, Program(folder, signals.is_given_up) as program:
+    with folder_of(options, given) as folder, Signals() as signals, interrupted(), \
+            Program(folder, signals.is_given_up) as program:
         status = Conversation(program, printer, signals, sender).converse(given)
     if unused := printer.unused_scale():
         say(f"--scale {unused}: no answer has had such a column to scale")
