@@ -68,8 +68,8 @@ class InterruptedTest(unittest.TestCase):
         raise Stop(number)
 
     def wait_is_ended(self) -> bool:
-        """Whether a signal ends a wait of the main thread that the system doesn't interrupt for it. Another thread takes
-        the signal, so that it is one of which only a look would tell."""
+        """Whether a signal ends a wait of the main thread that the system doesn't interrupt, since another thread takes
+        the signal."""
         out, into = os.pipe()
 
         def send() -> None:
