@@ -43,6 +43,8 @@ except ImportError:
 HISTORY = os.path.expanduser("~/.tsq_history")
 MOST_KEPT = 1000
 FAILED = 1
+# What is typed here to say the unit of times.
+SAYS_UNIT = "\\pset times s, ms or us"
 
 
 def add_command(commands: Commands) -> None:
@@ -79,7 +81,7 @@ class Prompt:
         self.names = Names.read(talk.folder)
         self.printer = Printer(schema, style_of(options, self.names), options.form, is_script=False)
         self.printer.drops = JournalDrops(talk.follower.origin if talk.follower else talk.folder)
-        self.sender = Sender(options, schema, self.names)
+        self.sender = Sender(options, schema, self.names, SAYS_UNIT)
         self.typed = Typed()
         self.is_timing = False
         self.last_query = ""
@@ -135,6 +137,7 @@ class Prompt:
         begun = time.monotonic()
         reply = self.talk.ask(raw)
         taken = time.monotonic() - begun
+        self.sender.learn(reply)
         self.printer.print(reply)
         if reply.is_answer():
             self.last_query = statement
@@ -157,7 +160,7 @@ class Prompt:
     def restyle(self) -> None:
         """Takes what the options say of answers."""
         self.printer.style = style_of(self.options, self.names)
-        self.sender = Sender(self.options, self.schema, self.names)
+        self.sender = Sender(self.options, self.schema, self.names, SAYS_UNIT)
 
     def check_scales(self) -> None:
         """Says which scale is of a column that no table and no aggregate has. A query may name one by AS."""

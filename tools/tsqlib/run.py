@@ -97,7 +97,9 @@ class Conversation:
             self.has_left_out = True
             return
         if line_of(raw, number):
-            self.printer.print(self.ask(number, raw))
+            reply = self.ask(number, raw)
+            self.sender.learn(reply)
+            self.printer.print(reply)
             sys.stdout.flush()
 
     def ask(self, number: int, raw: bytes) -> Reply:
@@ -158,17 +160,17 @@ def of_par(script: bytes) -> bytes:
     return b"\n".join(lines)
 
 
-def print_all(printer: Printer, lines: list[Line], output: bytes) -> Iterator[bool]:
-    """Prints the replies to these lines, and gives of each whether it is a refusal."""
+def print_all(printer: Printer, lines: list[Line], output: bytes) -> Iterator[Reply]:
+    """Prints the replies to these lines, and gives each of them."""
     for reply in replies_of(lines, output.decode("ascii", "replace").split("\n")[:-1]):
         printer.print(reply)
-        yield bool(reply.fault())
+        yield reply
 
 
 def print_kept(options: Namespace, printer: Printer, script: bytes) -> int:
     """Prints the replies that a file has, which are those to all lines; gives the status that tsctl ended with."""
     lines = in_order_of_par(lines_of(script)) if options.par else lines_of(script)
-    refused = list(print_all(printer, lines, programs.read(options.replies)))
+    refused = [bool(reply.fault()) for reply in print_all(printer, lines, programs.read(options.replies))]
     if len(refused) < len(lines):
         raise Trouble(f"{options.replies} has no reply to line {lines[len(refused)].number} of the script")
     return int(any(refused))
@@ -182,8 +184,8 @@ def run_par(options: Namespace, printer: Printer, script: bytes) -> int:
     except NotSent as error:
         raise Trouble(f"nothing was run: {error}") from None
     status, output = programs.call(["par"], script, options.folder or ".")
-    for _ in print_all(printer, in_order_of_par(lines_of(script)), output):
-        pass
+    for reply in print_all(printer, in_order_of_par(lines_of(script)), output):
+        sender.learn(reply)
     return status
 
 
