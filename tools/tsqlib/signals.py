@@ -20,6 +20,7 @@ NUMBERS = (signal.SIGINT, signal.SIGTERM, signal.SIGHUP)
 # Interrupts a call of the main thread. Nothing else sends it here, and a process that has no handler ignores it.
 NUDGE = signal.SIGURG
 SECONDS_BETWEEN_NUDGES = 0.01
+# So many signals are taken at once.
 MOST_NOTED = 4096
 # A statement that is at work when a signal comes gets so long for its reply.
 SECONDS_FOR_REPLY = 1.0
@@ -123,10 +124,12 @@ class Nudges:
 
     def run(self) -> None:
         """Interrupts the main thread after each signal, until the end."""
-        while not self.is_ended:
-            select.select(self.wakes, [], [])
-            if any(number in NUMBERS for number in take_noted(self.wakes)):
-                self.nudge()
+        # If a second signal ends the main thread's wait for this one, the descriptors are closed already.
+        with suppress(OSError):
+            while not self.is_ended:
+                select.select(self.wakes, [], [])
+                if any(number in NUMBERS for number in take_noted(self.wakes)):
+                    self.nudge()
 
     def nudge(self) -> None:
         """Interrupts the main thread until handlers have run. Most have before the first nudge."""
