@@ -5,6 +5,7 @@ import random
 import tracemalloc
 import unittest
 from collections.abc import Callable
+from operator import itemgetter
 from unittest import mock
 
 from tsqlib import packed
@@ -18,7 +19,7 @@ def is_less(place: int, bound: int) -> Callable[[Row], bool]:
 
 class RowsTest(unittest.TestCase):
     def test_what_is_known_of_them(self) -> None:
-        rows = [[5, 1, None], [2**62, -(2**63), 7], [-1, None, 0]]
+        rows: list[Row] = [[5, 1, None], [2**62, -(2**63), 7], [-1, None, 0]]
         with mock.patch.object(packed, "MOST_IN_PART", 2):
             found = Rows(rows)
         self.assertEqual((list(found), list(found), len(found)), (rows, rows, 3))
@@ -43,7 +44,7 @@ class LeftTest(unittest.TestCase):
                 kept = [row for row in wanted if not matches(row)]
                 has_removed |= len(kept) < len(wanted)
                 wanted = kept
-        wanted.sort(key=lambda row: row[0])
+        wanted.sort(key=itemgetter(0))
         self.assertEqual(list(left), wanted)
         self.assertEqual(list(left), wanted, "they are read again")
         self.assertEqual(left.has_removed, has_removed)
@@ -53,8 +54,9 @@ class LeftTest(unittest.TestCase):
     def test_they_come_by_their_times_without_those_that_were_removed(self) -> None:
         for seed in range(20):
             for in_part, waiting, lateness in ((4, 8, 20), (16, 16, 400), (3, 1, 1), (4096, 1 << 16, 50)):
-                how = {"MOST_IN_PART": in_part, "MOST_WAITING": waiting}
-                with self.subTest(seed=seed, **how), mock.patch.multiple(packed, **how):
+                with self.subTest(seed=seed, in_part=in_part, waiting=waiting), mock.patch.multiple(
+                    packed, MOST_IN_PART=in_part, MOST_WAITING=waiting
+                ):
                     self.check(random.Random(seed), lateness)
 
     def test_none(self) -> None:

@@ -12,7 +12,7 @@ from typing import Any, NamedTuple
 Row = list[Any]
 # So many rows are packed as one, and so many wait at least until they are put in order.
 MOST_IN_PART = 4096
-MOST_WAITING = 1 << 16
+MOST_WAITING = 1 << 13
 
 
 class Part(NamedTuple):
