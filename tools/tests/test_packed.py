@@ -53,9 +53,9 @@ class LeftTest(unittest.TestCase):
 
     def test_they_come_by_their_times_without_those_that_were_removed(self) -> None:
         for seed in range(20):
-            for in_part, waiting, lateness in ((4, 8, 20), (16, 16, 400), (3, 1, 1), (4096, 1 << 16, 50)):
-                with self.subTest(seed=seed, in_part=in_part, waiting=waiting), mock.patch.multiple(
-                    packed, MOST_IN_PART=in_part, MOST_WAITING=waiting
+            for part, run, waiting, lateness in ((4, 9, 8, 20), (2, 64, 16, 400), (3, 3, 1, 1), (512, 1024, 4096, 50)):
+                with self.subTest(seed=seed, part=part, run=run, waiting=waiting), mock.patch.multiple(
+                    packed, MOST_IN_PART=part, MOST_IN_RUN=run, MOST_WAITING=waiting
                 ):
                     self.check(random.Random(seed), lateness)
 

@@ -10,17 +10,20 @@ from typing import Any, NamedTuple
 
 # The values of a row of a table: its time, and the others in declared order, each a number or None.
 Row = list[Any]
-# So many rows are packed as one, and so many wait at least until they are put in order.
-MOST_IN_PART = 4096
+# So many rows are packed as one, so many are put in order before, and so many wait at least until they are merged.
+MOST_IN_PART = 512
+MOST_IN_RUN = 1 << 14
 MOST_WAITING = 1 << 13
 
 
 class Part(NamedTuple):
-    """Rows, the least and the greatest of their times, and the number of the deletes before them."""
+    """Rows, the least and the greatest of their times, the number of the run that they are of, and how many deletes
+    were before them."""
 
     least: int
     most: int
     packed: bytes
+    run: int
     deletes: int
 
     def rows(self) -> list[Row]:
@@ -29,10 +32,10 @@ class Part(NamedTuple):
         return rows
 
 
-def part_of(rows: list[Row], deletes: int = 0) -> Part:
+def part_of(rows: list[Row], run: int = 0, deletes: int = 0) -> Part:
     """Rows as a part, of which there is one at least."""
     times = [row[0] for row in rows]
-    return Part(min(times), max(times), marshal.dumps(rows), deletes)
+    return Part(min(times), max(times), marshal.dumps(rows), run, deletes)
 
 
 class Rows:
@@ -63,6 +66,7 @@ class Left:
 
     def __init__(self) -> None:
         self.parts: list[Part] = []
+        self.runs = 0
         self.new: list[Row] = []
         self.deletes: list[Callable[[Row], bool]] = []
         # Whether a row that was read isn't left.
@@ -72,7 +76,7 @@ class Left:
         """Adds rows."""
         for part in rows.parts:
             self.new += part.rows()
-            if len(self.new) >= MOST_IN_PART:
+            if len(self.new) >= MOST_IN_RUN:
                 self.pack()
 
     def delete(self, matches: Callable[[Row], bool]) -> None:
@@ -81,10 +85,12 @@ class Left:
         self.deletes.append(matches)
 
     def pack(self) -> None:
-        """Packs the rows that came since."""
-        if self.new:
-            self.parts.append(part_of(self.new, len(self.deletes)))
-            self.new = []
+        """Packs the rows that came since, in the order of their times: so late ones are together in few parts."""
+        self.new.sort(key=itemgetter(0))
+        for start in range(0, len(self.new), MOST_IN_PART):
+            self.parts.append(part_of(self.new[start : start + MOST_IN_PART], self.runs, len(self.deletes)))
+        self.runs += 1
+        self.new = []
 
     def width(self) -> int:
         """How far the least and the greatest time lie apart, also those of rows that aren't left."""
@@ -102,15 +108,15 @@ class Left:
         return kept
 
     def __iter__(self) -> Iterator[Row]:
-        """The rows by their times, those of one time as they were inserted. If most parts have times apart from those
-        of others, few rows are unpacked at once."""
+        """The rows by their times, those of one time as they were inserted. Few are unpacked at once, unless very many
+        runs have rows of the same times."""
         self.pack()
-        parts = sorted(enumerate(self.parts), key=lambda it: it[1].least)
-        bounds = [part.least for _, part in parts[1:]]
+        parts = sorted(self.parts, key=itemgetter(0))
+        bounds = [part.least for part in parts[1:]]
         waiting: list[tuple[int, int, Row]] = []
         enough = MOST_WAITING
-        for place, (number, part) in enumerate(parts):
-            waiting += ((row[0], number, row) for row in self.kept(part))
+        for place, part in enumerate(parts):
+            waiting += ((row[0], part.run, row) for row in self.kept(part))
             if place < len(bounds) and len(waiting) < enough:
                 continue
             waiting.sort(key=itemgetter(0, 1))
