@@ -48,3 +48,18 @@ quit
 END
 echo "x: SELECT add_retention_policy('load', drop_after => INTERVAL '1 hour')" >script.sql
 HOME="$PWD" "$tsq" prompt <more.txt 2>&1
+
+# The unit of times is said once, and remembered by what is defined with an interval.
+mkdir units
+cat >units.txt <<'END'
+CREATE TABLE m (time BIGINT NOT NULL, v BIGINT);
+SELECT create_hypertable('m', 'time', chunk_time_interval => INTERVAL '1 day');
+\pset times s
+SELECT create_hypertable('m', 'time', chunk_time_interval => INTERVAL '1 day');
+\pset times ms
+\pset places 1
+INSERT INTO m VALUES ('2026-10-25 06:00', 1);
+END
+HOME="$PWD" "$tsq" prompt --in units <units.txt 2>&1
+printf "SELECT * FROM m WHERE time > '2026-10-25';\n" | HOME="$PWD" "$tsq" prompt --in units 2>&1
+cat units/tsctl.names

@@ -157,3 +157,15 @@ for form in "" --csv --json --json=answers "--csv --ranges"; do
   "$tsq" drops/ask.sql --in drops $form 2>&1
 done
 printf '\\x\nSELECT * FROM tens\n\\stale\n' | HOME="$PWD" "$tsq" prompt --in drops 2>&1
+
+# A definition with an interval decides the unit of times, once it is carried out. Without a unit a line says what to write.
+mkdir units
+echo "a: CREATE TABLE m (time BIGINT NOT NULL, v BIGINT)" | "$tsq" --in units
+echo "a: SELECT create_hypertable('m', 'time', chunk_time_interval => INTERVAL '1 day')" >hyper.sql
+echo "a: SELECT create_hypertable('n', 'time', chunk_time_interval => INTERVAL '1 day')" >refused.sql
+"$tsq" hyper.sql --in units 2>&1 || echo "status $?"
+"$tsq" refused.sql --in units --times s || echo "status $?"
+"$tsq" hyper.sql --in units --times ms
+cat units/tsctl.names
+echo "a: SELECT add_retention_policy('m', drop_after => '30 days')" | "$tsq" --in units --show 2>&1
+"$tsq" hyper.sql --in units --times s 2>&1 || echo "status $?"

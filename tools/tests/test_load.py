@@ -14,6 +14,7 @@ from tsqlib.content import Content
 from tsqlib.journal import last_base
 from tsqlib.main import main
 from tsqlib.names import Names
+from tsqlib.packed import Left
 from tsqlib.resume import Note, Notes
 from tsqlib.sending import Sender
 
@@ -180,7 +181,7 @@ class LoadTest(unittest.TestCase):
     def rows(self) -> Counter[Row]:
         """The rows of the table, with texts."""
         names = Names.read(self.folder)
-        rows = Content(programs.journal_in(self.folder)).rows.get(0, [])
+        rows = Content(programs.journal_in(self.folder)).rows.get(0, Left())
         return Counter((time, v, names.text_of("device", device) or device) for time, v, device in rows)
 
     def journals(self) -> Iterator[None]:

@@ -14,6 +14,7 @@ from unittest import mock
 from tsqlib.main import main, options_of, with_command
 from tsqlib.messages import Trouble
 from tsqlib.options import journal_of
+from tsqlib.signals import Stop
 from tsqlib.version import version
 
 TOOLS = Path(__file__).resolve().parents[1]
@@ -94,6 +95,8 @@ class EndingTest(unittest.TestCase):
     def test_what_ends_it_is_told(self) -> None:
         for error, status, told in (
             (Trouble("so it is"), 2, "tsq: so it is\n"),
+            (Trouble("tsq: so a part has said"), 2, "tsq: so a part has said\n"),
+            (Stop(15), 143, ""),
             (KeyboardInterrupt(), 130, ""),
             (MemoryError(), 7, "tsq: out of memory\n"),
             (OSError(2, "No such file", "x.csv"), 2, "tsq: x.csv: No such file\n"),

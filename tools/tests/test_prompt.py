@@ -21,6 +21,10 @@ from tsqlib.terminal import cut
 from tsqlib.typed import Typed
 
 SECONDS = 60
+# Signals that are sent to a prompt, and how long it may take until one is seen. A test ends after so many misses.
+ROUNDS = 200
+SECONDS_OF_MISS = 5
+MOST_MISSES = 3
 
 
 class TypedTest(unittest.TestCase):
@@ -111,9 +115,9 @@ class AtTerminal(InFolder):
             os.close(self.terminal)
         self.terminal = None
 
-    def wait(self, pattern: str) -> str:
+    def wait(self, pattern: str, seconds: float = SECONDS) -> str:
         """What is printed up to this, which is taken away."""
-        until = time.monotonic() + SECONDS
+        until = time.monotonic() + seconds
         while not (found := re.search(pattern, self.seen)):
             if not select.select([self.terminal], [], [], max(0.0, until - time.monotonic()))[0]:
                 self.fail(f"no {pattern} in {self.seen!r}")
@@ -282,11 +286,32 @@ class InterruptTest(AtTerminal):
         self.type("INSERT INTO COMMIT VALUES (1)\n")
         self.wait("E18 no_block")
         self.wait("tsq> ")
-        # Readline doesn't see a signal that comes after it has written the prompt and before it waits for a key.
-        time.sleep(0.5)
         os.kill(self.process, signal.SIGTERM)
         self.assertEqual(self.status(), 143)
         self.assertFalse(self.is_running("program"))
+
+    @unittest.skipUnless(hasattr(os, "sched_setaffinity"), "no process can be bound to a processor here")
+    def test_no_signal_is_missed_between_the_prompt_and_the_wait_for_a_key(self) -> None:
+        # On one processor a signal that is sent once the prompt is seen often comes before readline waits.
+        processors = os.sched_getaffinity(0)
+        self.addCleanup(os.sched_setaffinity, 0, processors)
+        os.sched_setaffinity(0, [min(processors)])
+        self.open()
+        self.wait("tsq> ")
+        misses = 0
+        for _ in range(ROUNDS):
+            os.kill(self.process, signal.SIGINT)
+            try:
+                self.wait("tsq> ", SECONDS_OF_MISS)
+            except AssertionError:
+                misses += 1
+                if misses > MOST_MISSES:
+                    break
+                self.type("\x03")
+                self.wait("tsq> ")
+        self.assertEqual(misses, 0)
+        os.kill(self.process, signal.SIGTERM)
+        self.assertEqual(self.status(), 143)
 
 
 if __name__ == "__main__":

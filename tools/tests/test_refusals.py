@@ -5,6 +5,8 @@ import tempfile
 import unittest
 
 from tests.serving import NEEDS
+from tsqlib.asking import answered
+from tsqlib.messages import Trouble
 from tsqlib.programs import Program
 from tsqlib.refusals import HINTS, around, explanation, instead_of, meanings, rows_instead
 from tsqlib.replies import Reply
@@ -112,6 +114,13 @@ class LinesTest(unittest.TestCase):
         text = "x" * 200 + "HERE" + "y" * 200
         shown, caret = around(text, 201)
         self.assertEqual((len(shown), shown[caret - 1 : caret + 3]), (106, "HERE"))
+
+
+class AskedTest(unittest.TestCase):
+    def test_a_refusal_of_a_question_names_no_session(self) -> None:
+        reply = Reply(Line(1, "tsq", "tsq: SELECT"), ["tsq: FAULT E05 syntax at 12"])
+        with self.assertRaisesRegex(Trouble, r"^FAULT E05 syntax at 12\n  \| tsq: SELECT\n"):
+            answered(reply)
 
 
 if __name__ == "__main__":

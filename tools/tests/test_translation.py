@@ -3,13 +3,17 @@ from __future__ import annotations
 
 import tempfile
 import unittest
+from argparse import Namespace
 from pathlib import Path
 
 from tsqlib.intervals import length_of, nanoseconds_of
+from tsqlib.messages import Trouble
 from tsqlib.names import Names, Unit
+from tsqlib.replies import Reply
 from tsqlib.schema import Output, Schema
+from tsqlib.sent import Sender
 from tsqlib.slots import AGE, LENGTH, TIME, VALUE, slots
-from tsqlib.statements import tokens_in
+from tsqlib.statements import Line, tokens_in
 from tsqlib.translation import NotSent, Translator
 from tsqlib.values import Bad
 
@@ -185,6 +189,75 @@ class TranslatorTest(unittest.TestCase):
         with self.assertRaises(NotSent):
             self.translator().translated("a: INSERT INTO m VALUES ('2026-13-25', 'pump-d', 5)")
         self.assertIsNone(Names.read(self.folder).number_of("dev", "pump-d"))
+
+
+class UnitTest(unittest.TestCase):
+    """The unit of times that a statement decides, and statements that need one."""
+
+    def setUp(self) -> None:
+        folder = tempfile.TemporaryDirectory()
+        self.addCleanup(folder.cleanup)
+        self.folder = Path(folder.name)
+
+    def sender(self, unit: Unit | None = None) -> Sender:
+        options = Namespace(times=unit, texts=[], show=False)
+        return Sender(options, schema(), Names.read(self.folder), "WHAT TO WRITE")
+
+    def remembered_after(self, text: str, head: str, unit: Unit | None = "s") -> Unit | None:
+        """The unit that a new folder remembers after a statement and its reply."""
+        (self.folder / "tsctl.names").unlink(missing_ok=True)
+        sender = self.sender(unit)
+        sent = sender.sent(1, text.encode())
+        self.assertIsNone(Names.read(self.folder).times, "it isn't known yet whether the statement is refused")
+        sender.learn(Reply(Line(1, "a", sent.decode()), [head]))
+        return Names.read(self.folder).times
+
+    def test_a_definition_decides_it(self) -> None:
+        view = "a: CREATE MATERIALIZED VIEW d WITH (timescaledb.continuous) AS SELECT time_bucket({}, time) AS b, " \
+            "count(*) FROM m GROUP BY b"
+        hyper = "a: SELECT create_hypertable('m', 'time', chunk_time_interval => {})"
+        policy = "a: SELECT add_continuous_aggregate_policy('c', start_offset => NULL, end_offset => {}, " \
+            "schedule_interval => 60)"
+        for text, head in (
+            (view, "a: VIEW @2"), (hyper, "a: HYPERTABLE @2"), (policy, "a: POLICY 1"),
+            ("a: SELECT add_retention_policy('m', drop_after => {})", "a: POLICY 1"),
+        ):  # fmt: skip
+            self.assertEqual(self.remembered_after(text.format("'1 day'"), head), "s", text)
+            self.assertIsNone(self.remembered_after(text.format("'1 day'"), "a: FAULT E06 no_table"), text)
+            self.assertIsNone(self.remembered_after(text.format(60), head), "a number says no unit")
+        for text, head in (
+            ("a: SELECT * FROM m WHERE time > '2026-10-25'", "a: ANSWER @2 rows 0 stale 0"),
+            ("a: DELETE FROM m WHERE time > '2026-10-25'", "a: COMMIT @3 +0 -1"),
+            ("a: SELECT drop_chunks('m', INTERVAL '1 day')", "a: COMMIT @3 +0 -1"),
+        ):
+            self.assertIsNone(self.remembered_after(text, head), text)
+
+    def test_later_statements_need_no_unit_again(self) -> None:
+        text = "a: SELECT create_hypertable('m', 'time', chunk_time_interval => INTERVAL '1 day')"
+        self.remembered_after(text, "a: HYPERTABLE @2", "ms")
+        sent = self.sender().sent(1, b"a: SELECT time_bucket('1 hour', time) AS b, sum(v) FROM m GROUP BY b")
+        self.assertEqual(sent, b"a: SELECT time_bucket(3600000, time) AS b, sum(v) FROM m GROUP BY b")
+        with self.assertRaisesRegex(Trouble, "says that times are in ms"):
+            self.sender("s")
+
+    def test_what_needs_a_unit_says_what_to_write(self) -> None:
+        for text in (
+            "a: SELECT create_hypertable('m', 'time', chunk_time_interval => INTERVAL '1 day')",
+            "a: CREATE MATERIALIZED VIEW d WITH (timescaledb.continuous) AS SELECT time_bucket('1 hour', time) AS b, "
+            "count(*) FROM m GROUP BY b",
+            "a: SELECT add_retention_policy('m', drop_after => '30 days')", "a: TICK now()",
+            "a: SELECT * FROM m WHERE time > '2026-10-25'", "a: SELECT drop_chunks('m', now() - INTERVAL '1 day')",
+        ):  # fmt: skip
+            with self.assertRaisesRegex(NotSent, "has no unit: WHAT TO WRITE says what times are"):
+                self.sender().sent(1, text.encode())
+
+    def test_what_has_no_number_in_any_unit_is_left_to_tsctl(self) -> None:
+        for text in (
+            b"a: SELECT time_bucket('1 month', time), count(*) FROM m GROUP BY 1",
+            b"a: SELECT * FROM m WHERE time > 'noon'", b"a: SELECT * FROM m WHERE dev = 'pump-a'",
+            b"a: SELECT create_hypertable('m', 'time', chunk_time_interval => 60)", b"a: SELECT drop_chunks('m', 5)",
+        ):  # fmt: skip
+            self.assertEqual(self.sender().sent(1, text), text)
 
 
 if __name__ == "__main__":

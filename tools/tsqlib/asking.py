@@ -41,7 +41,8 @@ class Shown:
 def answered(reply: Reply) -> Reply:
     """A reply that must be an answer."""
     if reply.fault():
-        raise Trouble("\n".join([*reply.heads, *explanation(reply, is_numbered=False)]))
+        # The session in front of a head has the program's own name.
+        raise Trouble("\n".join([*reply.texts(), *explanation(reply, is_numbered=False)]))
     if not reply.is_answer():
         raise Trouble("a picture is drawn of a SELECT")
     return reply

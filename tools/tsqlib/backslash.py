@@ -10,6 +10,7 @@ from typing import TYPE_CHECKING
 from . import describe
 from .messages import Trouble
 from .options import scale
+from .printing import unit_of
 
 if TYPE_CHECKING:
     from .prompt import Prompt
@@ -121,7 +122,12 @@ def set_format(prompt: Prompt, value: str) -> None:
 
 
 def set_times(prompt: Prompt, value: str) -> None:
-    prompt.options.times = one_of(value, dict(UNITS))
+    before, prompt.options.times = prompt.options.times, one_of(value, dict(UNITS))
+    try:
+        unit_of(prompt.options, prompt.names)
+    except Trouble:
+        prompt.options.times = before
+        raise
 
 
 def set_places(prompt: Prompt, value: str) -> None:

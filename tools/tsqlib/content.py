@@ -1,9 +1,17 @@
 """What a journal comes to: its tables and aggregates, the rows that are left, and what was refreshed."""
 from __future__ import annotations
 
+from collections.abc import Callable
+
 from .history import History, follow
 from .image import Image
-from .journal import Built, Bytes, Commit, Insert, Row
+from .journal import Built, Bytes, Commit, Insert, Test
+from .packed import Left, Row
+
+
+def matching(tests: list[Test]) -> Callable[[Row], bool]:
+    """Whether a row passes all of these tests."""
+    return lambda row: all(test.passed_by(row) for test in tests)
 
 
 class Content:
@@ -12,9 +20,8 @@ class Content:
 
     def __init__(self, file: Bytes) -> None:
         self.history: History | None = None
-        self.rows: dict[int, list[Row]] = {}
+        self.rows: dict[int, Left] = {}
         self.windows: dict[int, list[tuple[int, int]]] = {}
-        self.has_removed = False
         self.has_groups = False
         for history, event, _ in follow(file):
             self.history = history
@@ -38,13 +45,15 @@ class Content:
     def commit(self, event: Commit) -> None:
         """Lets the operations of a commit take effect, one after the other."""
         for operation in event.operations:
-            rows = self.rows.setdefault(operation.table, [])
+            rows = self.rows.setdefault(operation.table, Left())
             if isinstance(operation, Insert):
-                rows += operation.rows
-                continue
-            kept = [row for row in rows if not all(test.passed_by(row) for test in operation.tests)]
-            self.has_removed |= len(kept) < len(rows)
-            self.rows[operation.table] = kept
+                rows.insert(operation.rows)
+            else:
+                rows.delete(matching(operation.tests))
+
+    def has_removed(self) -> bool:
+        """Whether rows were removed, once those that are left were read."""
+        return any(rows.has_removed for rows in self.rows.values())
 
     def refreshed(self, view: int) -> list[tuple[int, int]]:
         """The windows of an aggregate in order, those that touch or overlap as one."""

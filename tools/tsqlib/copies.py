@@ -18,6 +18,7 @@ from types import FrameType
 from typing import NoReturn
 
 from .messages import Trouble
+from .signals import interrupted
 
 MOST_COPIES = 16
 LOCK = "held"
@@ -109,13 +110,14 @@ def leave(number: int, frame: FrameType | None) -> NoReturn:
 
 @contextmanager
 def cleaned_up() -> Iterator[None]:
-    """Lets a signal that ends the program remove its copies first. It is for the main thread."""
+    """Lets a signal that ends the program remove its copies first, and at once. It is for the main thread."""
     olds = {number: signal.getsignal(number) for number in ENDS}
     taken = [number for number, old in olds.items() if old is signal.SIG_DFL]
     for number in taken:
         signal.signal(number, leave)
     try:
-        yield
+        with interrupted():
+            yield
     finally:
         for number in taken:
             signal.signal(number, signal.SIG_DFL)

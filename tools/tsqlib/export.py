@@ -3,7 +3,6 @@ from __future__ import annotations
 
 import argparse
 from collections.abc import Iterable, Iterator
-from operator import itemgetter
 from pathlib import Path
 from typing import NamedTuple
 
@@ -18,6 +17,7 @@ from .log import DAMAGED
 from .messages import Trouble, say
 from .names import Names, Unit
 from .options import JOURNAL, NAME, Commands, journal_of, journal_option, scale_option, snapshot_option, times_option
+from .packed import Left
 from .postgres import column_name, interval, quoted, text_literal, time_literal
 from .values import NANOSECONDS
 
@@ -120,12 +120,14 @@ def create_hypertable(number: int, table: Relation, interval_of_chunks: int, tar
         yield f"SELECT set_integer_now_func({literal}, {text_literal(name)}) \\g /dev/null"
 
 
-def chunks_of(table: Relation, rows: list[Row], target: Target) -> int:
+def chunks_of(table: Relation, rows: Left, target: Target) -> int:
     """The chunk interval. One that makes very many chunks is told, since each is a table there."""
     assert table.hyper
     length = target.chunk or table.hyper.interval
+    if target.is_plain or rows.width() // length + 2 <= MOST_CHUNKS:
+        return length
     count = len({row[0] // length for row in rows})
-    if count > MOST_CHUNKS and not target.is_plain:
+    if count > MOST_CHUNKS:
         say(f"{table.name}: {count} chunks of {length}, each of which is a table there; --chunk N makes fewer")
     return length
 
@@ -224,7 +226,7 @@ def tables(content: Content, history: History, target: Target) -> Iterator[str]:
         yield from create_table(table, target)
         if not table.hyper:
             continue
-        rows = sorted(content.rows.get(number, []), key=itemgetter(0))
+        rows = content.rows.get(number, Left())
         length = chunks_of(table, rows, target)
         if target.is_plain:
             yield f"CREATE INDEX ON {target.relation(table.name)} ({column_names(table)[0]});"
@@ -261,7 +263,7 @@ def statements(
 
 def tell_left_out(content: Content, history: History) -> None:
     """Says where an aggregate may show something of rows that are no longer there."""
-    if content.has_removed and history.views:
+    if content.has_removed() and history.views:
         say("rows were removed: what an aggregate still shows of them is exported by `--stale` only")
     elif content.has_groups:
         say("what an aggregate still shows of rows that were removed before the image is exported by `--stale` only")
@@ -311,6 +313,7 @@ def export(options: argparse.Namespace) -> int:
     # tsctl is asked first, so that nothing is printed if it doesn't answer.
     stale = list(stale_tables(history, journal, target)) if options.stale else []
     policies = list(policies_of(options.policies, history, target)) if options.policies else []
+    del journal
     for line in statements(content, history, target, stale, policies):
         print(line)
     tell_kinds(target.kinds)

@@ -6,8 +6,9 @@ from typing import Any, TypeVar
 
 from .image import LAST_POSITION, Image, read_image, require, require_valid
 from .journal import (
-    Built, Bytes, Commit, Cut, Damaged, Event, Hyper, Insert, Mode, Row, Table, View, Wrong, event, is_base, payloads,
+    Built, Bytes, Commit, Cut, Damaged, Event, Hyper, Insert, Mode, Table, View, Wrong, event, is_base, payloads,
 )  # fmt: skip
+from .packed import Rows
 
 MOST_RELATIONS, MOST_COLUMNS = 64, 16
 MOST_WIDTH, MOST_INTERVAL = 2**40, 2**50
@@ -128,15 +129,14 @@ class History:
         return f"COMMIT ops {len(new.operations)}"
 
     @staticmethod
-    def require_rows(table: Relation, rows: list[Row]) -> None:
+    def require_rows(table: Relation, rows: Rows) -> None:
         """There are rows, and their values are those that the table takes."""
         columns = table.numbered()
         # The first one is the time, which is never NULL.
-        musts = [place for place, (_, must) in enumerate(columns) if must and place > 0]
+        musts = {place for place, (_, must) in enumerate(columns) if must and place > 0}
         require(rows)
-        require({len(columns)}.issuperset(map(len, rows)))
-        for place in musts:
-            require(all(row[place] is not None for row in rows))
+        require(rows.widths == {len(columns)})
+        require(not musts & rows.empty)
 
     def span(self, cut: Cut) -> str:
         """The aggregate and the window of a refresh, as they are printed."""

@@ -3,6 +3,7 @@ from __future__ import annotations
 
 from bisect import bisect_right
 from collections.abc import Iterable, Sequence
+from itertools import pairwise
 from typing import TYPE_CHECKING, Any, NamedTuple
 
 from .journal import (
@@ -197,8 +198,8 @@ def require_commits(history: History, commits: list[Commit]) -> None:
         insert = only_insert(new)
         require(low <= insert.table)
         history.add(new)
-        rows = [(row[0], in_order(row[1:])) for row in insert.rows]
-        require(all(one <= other for one, other in zip(rows, rows[1:])))
+        rows = ((row[0], in_order(row[1:])) for row in insert.rows)
+        require(all(one <= other for one, other in pairwise(rows)))
         low = insert.table + 1
 
 
@@ -238,7 +239,7 @@ def require_mark(view: View, mark: int | None) -> None:
     require(mark is None or LEAST_TIME < mark and mark - view.width <= MOST_TIME)
 
 
-def require_view(position: int, view: View, rows: list[Row], saved: SavedView) -> None:
+def require_view(position: int, view: View, rows: Iterable[Row], saved: SavedView) -> None:
     """What is kept of an aggregate over a table with these rows."""
     lasts = [(last.start, last.end) for last in saved.lasts]
     require_spans(view, lasts)
@@ -247,16 +248,16 @@ def require_view(position: int, view: View, rows: list[Row], saved: SavedView) -
     require(all(has_lasts(saved.lasts, span) for span in saved.dirty))
     require_mark(view, saved.mark)
     require(rises([(group.start, in_order(group.keys)) for group in saved.groups]))
-    buckets = [group.start for group in saved.groups]
+    mark = view.first() if saved.mark is None else saved.mark
     for group in saved.groups:
+        require(group.start < mark)
         require((group.start - view.offset) % view.width == 0 and lies_in(saved.dirty, group.start))
         for part in group.parts:
             require_part(part)
     for row in rows:
         bucket = row[0] - (row[0] - view.offset) % view.width
         if lies_in(lasts, bucket) and not lies_in(saved.dirty, bucket) and all(it.passed_by(row) for it in view.tests):
-            buckets.append(bucket)
-    require(all(saved.mark is not None and bucket < saved.mark for bucket in buckets))
+            require(bucket < mark)
 
 
 def require_refreshes(history: History, image: Image) -> None:

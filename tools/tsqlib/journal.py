@@ -8,6 +8,8 @@ from collections.abc import Callable, Iterator
 from functools import cache
 from typing import Any, NamedTuple, TypeVar
 
+from .packed import MOST_IN_PART, Row as Row, Rows
+
 MAGIC, VERSION_2, BASE = b"TSCTLJ0", b"2", b"\x08"
 LEAST_TIME, MOST_TIME = -(2**62), 2**62 - 1
 NAME = re.compile(rb"[a-z_][a-z0-9_]{0,62}")
@@ -19,8 +21,6 @@ FUNCTIONS = ["count(*)", "count", "sum", "min", "max", "avg"]
 TABLE, HYPER, VIEW, MODE, COMMIT, CUT, BUILT = range(1, 8)
 # The bytes of a file, or of a part of it, which may be mapped.
 Bytes = bytes | memoryview
-# The values of a row of a table: its time, and the others in declared order, each a number or None.
-Row = list[Any]
 Item = TypeVar("Item")
 
 
@@ -58,7 +58,7 @@ class Insert(NamedTuple):
     """Rows, each a list of its time and the other values in declared order."""
 
     table: int
-    rows: list[Row]
+    rows: Rows
 
 
 class Delete(NamedTuple):
@@ -225,23 +225,36 @@ class Fields:
         return self.i64() if self.flag() else None
 
     def row(self) -> Row:
-        time = self.i64()
-        if not LEAST_TIME <= time <= MOST_TIME:
+        """A row, whose values are read in place, since there are many."""
+        row: Row = [self.i64()]
+        if not LEAST_TIME <= row[0] <= MOST_TIME:
             raise Wrong
-        return [time, *self.few(self.value)]
+        count, payload, at = self.u8(), self.payload, self.at
+        try:
+            for _ in range(count):
+                is_there, at = payload[at], at + 1
+                if is_there == 1:
+                    row.append(I64.unpack_from(payload, at)[0])
+                    at += I64.size
+                elif is_there == 0:
+                    row.append(None)
+                else:
+                    raise Wrong
+        except (IndexError, struct.error):
+            raise Wrong from None
+        self.at = at
+        return row
 
-    def rows(self) -> list[Row]:
+    def rows(self) -> Iterator[Row]:
         """Rows of a table, which mostly are rows without NULL, one after the other."""
         left = self.u32()
-        rows: list[Row] = []
         while left:
-            found = self.rows_without_null(left)
-            rows += found
+            found = self.rows_without_null(min(left, MOST_IN_PART))
+            yield from found
             left -= len(found)
             if left:
-                rows.append(self.row())
+                yield self.row()
                 left -= 1
-        return rows
 
     def rows_without_null(self, most: int) -> list[Row]:
         """The rows up to the first one that has another count of values, or NULL, or isn't whole."""
@@ -274,7 +287,7 @@ class Fields:
 
     def operation(self) -> Insert | Delete:
         if self.one_of([True, False]):
-            return Insert(self.u32(), self.rows())
+            return Insert(self.u32(), Rows(self.rows()))
         return Delete(self.u32(), self.many(self.test))
 
     def table(self) -> Table:

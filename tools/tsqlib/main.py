@@ -11,6 +11,7 @@ from collections.abc import Collection
 from importlib import import_module
 
 from .messages import Trouble, say
+from .signals import Stop
 from .version import version
 
 # The commands, in the order of the help. Each has a module of its name, which is read where the command is meant.
@@ -109,6 +110,8 @@ def done(words: list[str]) -> int:
         return TROUBLE
     except KeyboardInterrupt:
         return INTERRUPTED
+    except Stop as stop:
+        return stop.status()
     except MemoryError:
         say("out of memory")
         return OUT_OF_MEMORY

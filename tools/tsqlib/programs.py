@@ -32,6 +32,7 @@ from typing import IO, Any
 
 from .messages import Trouble, say
 from .replies import Keep, Reply, cells_of, ranges_of, reply_to
+from .signals import awakened, take_noted
 from .statements import MOST_LINE, line_of
 
 TOP = Path(__file__).resolve().parents[2]
@@ -72,8 +73,9 @@ class Program:
     """A running `tsctl run`, which is given a line when it has answered the one before."""
 
     def __init__(self, folder: str | Path = ".", is_given_up: Callable[[], bool] = lambda: False) -> None:
-        """Starts it in a folder. While a reply is awaited, `is_given_up` is asked a few times a second whether it is
-        still wanted; if it isn't, `ask` raises `Interrupted`, and the program can only be ended."""
+        """Starts it in a folder. While a reply is awaited, `is_given_up` is asked a few times a second, and at each
+        signal, whether it is still wanted; if it isn't, `ask` raises `Interrupted`, and the program can only be
+        ended."""
         self.is_given_up = is_given_up
         # In a process group apart: Ctrl-C is for this process, which ends the program when it is time.
         how: dict[str, Any] = {"stdin": subprocess.PIPE, "stdout": subprocess.PIPE, "start_new_session": True}
@@ -103,9 +105,13 @@ class Program:
 
     def read_some(self) -> bytes:
         """What it has printed, as soon as there is anything; nothing when its output has ended."""
-        while not select.select([self.printed], [], [], SECONDS_BETWEEN_LOOKS)[0]:
-            if self.is_given_up():
-                raise Interrupted
+        seconds = 0.0
+        with awakened() as wakes:
+            while self.printed not in select.select([self.printed, *wakes], [], [], seconds)[0]:
+                take_noted(wakes)
+                if self.is_given_up():
+                    raise Interrupted
+                seconds = SECONDS_BETWEEN_LOOKS
         return os.read(self.printed.fileno(), CHUNK)
 
     def whole_lines(self) -> Iterator[str]:

@@ -27,7 +27,7 @@ from .programs import Ended
 from .schema import Schema, learn_folder
 from .scripts import looks_like_rest
 from .sent import Sender
-from .signals import Stop
+from .signals import Stop, interrupted, line_typed
 from .statements import SESSION, line_of
 from .talk import ME, Stopped, Talk
 from .terminal import FAINT, colored
@@ -43,6 +43,8 @@ except ImportError:
 HISTORY = os.path.expanduser("~/.tsq_history")
 MOST_KEPT = 1000
 FAILED = 1
+# What is typed here to say the unit of times.
+SAYS_UNIT = "\\pset times s, ms or us"
 
 
 def add_command(commands: Commands) -> None:
@@ -79,7 +81,7 @@ class Prompt:
         self.names = Names.read(talk.folder)
         self.printer = Printer(schema, style_of(options, self.names), options.form, is_script=False)
         self.printer.drops = JournalDrops(talk.follower.origin if talk.follower else talk.folder)
-        self.sender = Sender(options, schema, self.names)
+        self.sender = Sender(options, schema, self.names, SAYS_UNIT)
         self.typed = Typed()
         self.is_timing = False
         self.last_query = ""
@@ -135,6 +137,7 @@ class Prompt:
         begun = time.monotonic()
         reply = self.talk.ask(raw)
         taken = time.monotonic() - begun
+        self.sender.learn(reply)
         self.printer.print(reply)
         if reply.is_answer():
             self.last_query = statement
@@ -157,7 +160,7 @@ class Prompt:
     def restyle(self) -> None:
         """Takes what the options say of answers."""
         self.printer.style = style_of(self.options, self.names)
-        self.sender = Sender(self.options, self.schema, self.names)
+        self.sender = Sender(self.options, self.schema, self.names, SAYS_UNIT)
 
     def check_scales(self) -> None:
         """Says which scale is of a column that no table and no aggregate has. A query may name one by AS."""
@@ -176,7 +179,7 @@ class Prompt:
                 say(f"given up: {held}")
             return True
         try:
-            return input(f"Leaving gives up {held}. Leave? [y/N] ").strip().lower() in ("y", "yes")
+            return line_typed(f"Leaving gives up {held}. Leave? [y/N] ").strip().lower() in ("y", "yes")
         except EOFError:
             print()
             return True
@@ -189,7 +192,7 @@ def converse(prompt: Prompt) -> None:
     """Reads what is typed until the input ends or `\\q` is typed. Ctrl-C gives up what is typed."""
     while True:
         try:
-            if not prompt.run_text(input(prompt.text())):
+            if not prompt.run_text(line_typed(prompt.text())):
                 return
         except EOFError:
             print()
@@ -281,7 +284,7 @@ def prompt(options: Namespace) -> int:
     learn_folder(schema, folder)
     for number in (signal.SIGTERM, signal.SIGHUP):
         signal.signal(number, leave)
-    with talk_over(folder, options.snapshot) as talk:
+    with interrupted(), talk_over(folder, options.snapshot) as talk:
         conversation = Prompt(options, talk, schema)
         try:
             conversation.check_scales()

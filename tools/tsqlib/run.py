@@ -22,7 +22,7 @@ from .replies import Reply, replies_of
 from .schema import Schema, learn_folder
 from .scripts import Given, given_from, given_of
 from .sent import Sender
-from .signals import Signals, Stop
+from .signals import Signals, Stop, interrupted
 from .statements import Line, in_order_of_par, line_of, lines_of
 from .translation import NotSent
 
@@ -97,7 +97,9 @@ class Conversation:
             self.has_left_out = True
             return
         if line_of(raw, number):
-            self.printer.print(self.ask(number, raw))
+            reply = self.ask(number, raw)
+            self.sender.learn(reply)
+            self.printer.print(reply)
             sys.stdout.flush()
 
     def ask(self, number: int, raw: bytes) -> Reply:
@@ -115,7 +117,8 @@ def run_script(options: Namespace, printer: Printer) -> int:
     if isinstance(given, list):
         check_scales(options, printer.schema, given)
     sender = Sender(options, printer.schema, printer.names())
-    with folder_of(options, given) as folder, Signals() as signals, Program(folder, signals.is_given_up) as program:
+    with folder_of(options, given) as folder, Signals() as signals, interrupted(), \
+            Program(folder, signals.is_given_up) as program:
         status = Conversation(program, printer, signals, sender).converse(given)
     if unused := printer.unused_scale():
         say(f"--scale {unused}: no answer has had such a column to scale")
@@ -157,17 +160,17 @@ def of_par(script: bytes) -> bytes:
     return b"\n".join(lines)
 
 
-def print_all(printer: Printer, lines: list[Line], output: bytes) -> Iterator[bool]:
-    """Prints the replies to these lines, and gives of each whether it is a refusal."""
+def print_all(printer: Printer, lines: list[Line], output: bytes) -> Iterator[Reply]:
+    """Prints the replies to these lines, and gives each of them."""
     for reply in replies_of(lines, output.decode("ascii", "replace").split("\n")[:-1]):
         printer.print(reply)
-        yield bool(reply.fault())
+        yield reply
 
 
 def print_kept(options: Namespace, printer: Printer, script: bytes) -> int:
     """Prints the replies that a file has, which are those to all lines; gives the status that tsctl ended with."""
     lines = in_order_of_par(lines_of(script)) if options.par else lines_of(script)
-    refused = list(print_all(printer, lines, programs.read(options.replies)))
+    refused = [bool(reply.fault()) for reply in print_all(printer, lines, programs.read(options.replies))]
     if len(refused) < len(lines):
         raise Trouble(f"{options.replies} has no reply to line {lines[len(refused)].number} of the script")
     return int(any(refused))
@@ -181,8 +184,8 @@ def run_par(options: Namespace, printer: Printer, script: bytes) -> int:
     except NotSent as error:
         raise Trouble(f"nothing was run: {error}") from None
     status, output = programs.call(["par"], script, options.folder or ".")
-    for _ in print_all(printer, in_order_of_par(lines_of(script)), output):
-        pass
+    for reply in print_all(printer, in_order_of_par(lines_of(script)), output):
+        sender.learn(reply)
     return status
 
 

@@ -37,19 +37,21 @@ class Stopped(Exception):
 
 
 class Patience:
-    """Counts Ctrl-C while a reply is awaited. A notice is said at the first one, if that isn't enough."""
+    """Counts Ctrl-C while a reply is awaited. If there is a notice, the first one lets it be said, and the second one
+    ends the waiting; else the first one does."""
 
     def __init__(self) -> None:
         self.count = 0
+        self.most = 0
         self.notice = ""
 
     def is_given_up(self) -> bool:
         """Whether the reply is awaited no longer."""
-        if self.count == 1 and self.notice:
-            say(self.notice)
-            self.notice = ""
-            self.count = 0
-        return self.count > 0
+        if self.notice and self.count == 1:
+            # It is taken out before it is said: the next one may come meanwhile.
+            notice, self.notice = self.notice, ""
+            say(notice)
+        return self.count > self.most
 
     def add(self, _number: int, _frame: FrameType | None) -> None:
         """Counts one."""
@@ -58,7 +60,7 @@ class Patience:
     @contextmanager
     def counting(self, notice: str) -> Iterator[None]:
         """Counts while the body runs."""
-        self.count, self.notice = 0, notice
+        self.count, self.most, self.notice = 0, int(bool(notice)), notice
         old = signal.signal(signal.SIGINT, self.add)
         try:
             yield

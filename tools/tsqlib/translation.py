@@ -23,41 +23,57 @@ NAME_CALLS = (
     "create_hypertable", "drop_chunks", "refresh_continuous_aggregate", "add_continuous_aggregate_policy",
     "add_retention_policy", "calendar_bucket",
 )  # fmt: skip
+# Calls that define something by lengths of time.
+DEFINING_CALLS = ("create_hypertable", "add_continuous_aggregate_policy", "add_retention_policy")
 
 
 class NotSent(Exception):
     """Why a statement wasn't given to tsctl."""
 
 
+def is_definition(tokens: list[Token]) -> bool:
+    """Whether a statement makes a hypertable, an aggregate or a policy."""
+    is_call = len(tokens) > 1 and tokens[0].is_word("select") and tokens[1].is_word(*DEFINING_CALLS)
+    return is_call or bool(tokens) and tokens[0].is_word("create")
+
+
 class Translator:
     """Translates statements by what is known of a folder: its columns, the unit of its times, and its texts.
 
-    `new_texts` are the columns whose texts get numbers when they are inserted, even if they have none yet.
+    `new_texts` are the columns whose texts get numbers when they are inserted, even if they have none yet. `asked_by`
+    is what to write to say the unit of times: if it is given, a statement that needs one isn't sent without.
     """
 
     def __init__(
         self, schema: Schema, names: Names, unit: Unit | None, new_texts: frozenset[str] = frozenset(),
-        now: Callable[[], int] = time.time_ns,
+        now: Callable[[], int] = time.time_ns, asked_by: str = "",
     ) -> None:  # fmt: skip
         self.schema = schema
         self.names = names
         self.unit = unit
         self.new_texts = new_texts
         self.now = now
+        self.asked_by = asked_by
+        # Whether the last statement defines something, by times or lengths of time in this unit.
+        self.defines = False
         # Without a unit and texts all is left to tsctl.
         self.is_at_work = unit is not None or bool(new_texts) or names.path.exists()
 
     def is_needed(self, text: str) -> bool:
         """Whether a line may have something to translate."""
-        return self.is_at_work and ("'" in text or bool(NOW.search(text)))
+        return (self.is_at_work or bool(self.asked_by)) and ("'" in text or bool(NOW.search(text)))
 
     def translated(self, text: str) -> str:
         """A line with its session, in which all is a number that stands for one. It may end as NotSent."""
+        self.defines = False
         if not self.is_needed(text):
             return text
         found = SESSION.match(text)
         tokens = tokens_in(text, found.end() if found else 0)
         body = tokens[:-1] if tokens and tokens[-1].is_symbol(";") else tokens
+        if not self.is_at_work:
+            self.require_unit(body)
+            return text
         changes = self.changes(body)
         for start, end, number in reversed(changes):
             text = text[:start] + number + text[end:]
@@ -75,6 +91,7 @@ class Translator:
             if number is not None:
                 found.append((part[0].start, part[-1].end, number))
                 done.update(range(slot.first, slot.last))
+                self.defines |= slot.kind != VALUE and is_definition(tokens)
         self.require_names(tokens, done)
         if new:
             return self.with_new(tokens, new)
@@ -88,6 +105,24 @@ class Translator:
         for column, text in dict.fromkeys(new):
             say(f"{column} {self.names.number_of(column, text)} is {text!r} from now on")
         return self.changes(tokens)
+
+    def keep_unit(self) -> None:
+        """Lets the folder remember the unit, once a statement was carried out that defines something by it."""
+        if self.unit and not self.names.times:
+            self.names.remember(times=self.unit)
+
+    def require_unit(self, tokens: list[Token]) -> None:
+        """That no date and no length of time is there whose number depends on the unit, which isn't known."""
+        finest = Translator(self.schema, self.names, "us", now=self.now)
+        for slot in sorted(slots(tokens, self.schema)):
+            part = tokens[slot.first : slot.last]
+            try:
+                needs_unit = slot.kind != VALUE and finest.number_in(slot, part, None) is not None
+            except NotSent:
+                # It is left to tsctl, as it has no number in any unit.
+                continue
+            if needs_unit:
+                self.number_in(slot, part, None)
 
     def require_names(self, tokens: list[Token], done: set[int]) -> None:
         """That what is left in quotes is the name of a relation or of a unit."""
@@ -110,7 +145,7 @@ class Translator:
             if slot.kind == VALUE:
                 return self.value_of(slot.column, part, new)
             if self.unit is None:
-                raise Bad("has no unit: --times s, ms or us says what times are")
+                raise Bad(f"has no unit: {self.asked_by or '--times s, ms or us'} says what times are")
             return str(self.length(part) if slot.kind == LENGTH else self.time(part, slot.kind == AGE))
         except Bad as bad:
             raise NotSent(f"{' '.join(token.text for token in part)} {bad}") from None
