@@ -8,7 +8,7 @@ from sources import CRATES, TOP, crate_names
 
 PAGE_WORDS = {
     "README.md": 1200,
-    "CHANGES.md": 1490,
+    "CHANGES.md": 1560,
     "crates/README.md": 1300,
     "docs/ARCHITECTURE.md": 2060,
     "docs/COLUMNS.md": 1100,
