@@ -23,7 +23,7 @@ PAGE_WORDS = {
     "docs/RECIPES.md": 4600,
     "docs/RELIABILITY.md": 1770,
     "docs/SERVE.md": 1300,
-    "docs/SQL.md": 9690,
+    "docs/SQL.md": 9700,
     "docs/TSQ.md": 2350,
 }
 CRATES_WORDS = 12000
