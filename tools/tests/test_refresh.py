@@ -70,7 +70,7 @@ class RefreshTest(unittest.TestCase):
                          {bucket: row for bucket, row in before.items() if int(bucket) < 200})  # fmt: skip
         self.assertEqual((after["200"], after["300"]), (["2", "13"], ["2", "15"]))
         self.assertEqual(self.stale("tens"), [(0, 130)])
-        self.assertEqual(self.refresh("tens")[1][0], "tens: nothing is stale that a refresh could mend")
+        self.assertEqual(self.refresh("tens")[1][0], "tens: nothing is stale that a refresh could bring up to date")
 
     def test_leaves_a_bucket_that_a_dropped_chunk_ends_in(self) -> None:
         self.run_script("a: INSERT INTO m VALUES (190, 1)\na: CALL refresh_continuous_aggregate('sixties', NULL, "

@@ -4,6 +4,8 @@ from __future__ import annotations
 import os
 from pathlib import Path
 
+from .messages import Trouble
+
 LOCKS = Path("/proc/locks")
 PROCESSES = Path("/proc")
 
@@ -20,6 +22,12 @@ def held_by(folder: str | Path) -> int | None:
         return None
     found = [lock for lock in map(lock_of, lines) if lock and lock[1] == journal.st_ino]
     return next((process for process, _ in found if may_have(process, journal)), None)
+
+
+def require_free(folder: str | Path, way_on: str) -> None:
+    """Refuses a folder that another process holds, and says what to do. A run there would end with a disk fault."""
+    if (holder := held_by(folder)) is not None:
+        raise Trouble(f"process {holder} holds {folder}: {way_on}")
 
 
 def lock_of(line: str) -> tuple[int, int] | None:

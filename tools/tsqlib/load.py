@@ -8,6 +8,7 @@ from typing import TextIO
 from zoneinfo import ZoneInfo
 
 from .cells import time_text
+from .holder import require_free
 from .intake import AGAIN, ONCE, PLAIN, Intake, Manner
 from .messages import Trouble, say
 from .names import Names, Unit
@@ -178,6 +179,7 @@ def width_of_blocks(options: argparse.Namespace, unit: Unit | None, table: Hyper
 
 def load_into(options: argparse.Namespace, text: TextIO, files: ExitStack) -> int:
     """Commits the rows of a file into a folder."""
+    require_free(options.into, "end it first")
     names = Names.read(options.into)
     table = hypertable_of(options.into, options.table)
     scales = dict_of_scales(options)

@@ -10,7 +10,7 @@ from .aggregates import Aggregate, aggregate_in
 from .asking import answered, replies_to, select_text
 from .dropped import parted
 from .follower import open_snapshot
-from .holder import held_by
+from .holder import require_free
 from .messages import Trouble, say
 from .moments import Clock, zone_of
 from .names import Names
@@ -92,7 +92,7 @@ def mend(folder: str, view: str, low: int | None, clock: Clock) -> int:
             text = reply.texts()[0]
             print(f"{clock.span(span)}: {text}")
     if not late:
-        print(f"{aggregate.name}: nothing is stale that a refresh could mend")
+        print(f"{aggregate.name}: nothing is stale that a refresh could bring up to date")
     print_left(dropped, aggregate, clock)
     return status
 
@@ -105,8 +105,7 @@ def refresh(arguments: argparse.Namespace) -> int:
     low = clock.read(arguments.low) if arguments.low else None
     if arguments.show:
         return show(folder, arguments.view, low, clock)
-    if (holder := held_by(folder)) is not None:
-        raise Trouble(f"process {holder} holds {folder}: end it, or give it the statements that --show prints")
+    require_free(folder, "end it, or give it the statements that --show prints")
     try:
         return mend(folder, arguments.view, low, clock)
     except Ended as ended:

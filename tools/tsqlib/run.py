@@ -11,8 +11,9 @@ from contextlib import AbstractContextManager, nullcontext
 from pathlib import Path
 
 from . import programs
-from .follower import folder_to_ask
+from .follower import asks_only, folder_to_ask
 from .dropped import JournalDrops
+from .holder import require_free
 from .messages import Trouble, say
 from .names import Names
 from .options import Commands, snapshot_option, style_options
@@ -29,6 +30,8 @@ from .translation import NotSent
 
 # The status if an option named what isn't there.
 UNUSED = 2
+# What to do while another process holds the folder.
+WAY_ON = "end it first; beside it `tsq SCRIPT` answers a file of queries from a copy"
 
 
 def add_command(commands: Commands) -> None:
@@ -128,12 +131,16 @@ def run_script(options: Namespace, printer: Printer) -> int:
 
 def folder_of(options: Namespace, given: Iterable[Given]) -> AbstractContextManager[Path]:
     """The folder in which a script runs: a copy if one is asked for, or if the script only asks and another process
-    holds the folder. What comes bit by bit runs where it is meant to."""
+    holds the folder. Others, and what comes bit by bit, need a folder that nobody else holds."""
+    folder = Path(options.folder or ".")
     if isinstance(given, list):
-        return folder_to_ask(options.folder, b"\n".join(line.raw for line in given), options.snapshot)
-    if options.snapshot:
+        script = b"\n".join(line.raw for line in given)
+        if options.snapshot or asks_only(script):
+            return folder_to_ask(folder, script, options.snapshot)
+    elif options.snapshot:
         raise Trouble("--snapshot takes a script from a file")
-    return nullcontext(Path(options.folder or "."))
+    require_free(folder, WAY_ON)
+    return nullcontext(folder)
 
 
 def check_scales(options: Namespace, schema: Schema, given: list[Given]) -> None:
@@ -178,6 +185,7 @@ def print_kept(options: Namespace, printer: Printer, script: bytes) -> int:
 
 def run_par(options: Namespace, printer: Printer, script: bytes) -> int:
     """Runs a script by `tsctl par`; gives the exit status."""
+    require_free(options.folder or ".", WAY_ON)
     sender = Sender(options, printer.schema, printer.names())
     try:
         script = b"\n".join(sender.sent(number, raw) for number, raw in enumerate(of_par(script).split(b"\n"), 1))

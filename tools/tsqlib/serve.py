@@ -15,8 +15,9 @@ from . import programs
 from .access import Access, access_of
 from .copies import cleaned_up
 from .dictionary import Dictionary
-from .follower import Follower, held_by
+from .follower import Follower
 from .following import Following
+from .holder import require_free
 from .messages import Trouble, say
 from .metrics import Metrics
 from .options import Commands, folder_option, scale_option, times_option
@@ -235,8 +236,7 @@ def sessions_of(options: Namespace, folder: str, ends: ExitStack) -> Sessions:
     if options.follow:
         follower = ends.enter_context(Follower(folder))
         return Following(follower, options.longest)
-    if holder := held_by(folder):
-        raise Trouble(f"process {holder} holds {folder}: `tsq serve --follow` reads beside it")
+    require_free(folder, "`tsq serve --follow` reads beside it")
     return Sessions(folder, options.longest)
 
 
