@@ -216,6 +216,8 @@ class BackupTest(unittest.TestCase):
         for sums in (
             Sums(7, 9, "1", ("a" * 64,)),
             Sums(0, 2 * BLOCK + 1, "2", ("a" * 64, "b" * 64, "c" * 64), "d" * 64),
+            Sums(0, 9, "1", ("a" * 64,), "d" * 64, "e" * 64),
+            Sums(0, 9, "1", ("a" * 64,), load="e" * 64),
         ):
             path.write_text(sums.text())
             self.assertEqual(read_sums(path), sums)

@@ -12,6 +12,7 @@ from .follower import JOURNAL, NAMES, Moved, Source, copy_bytes, write
 from .holder import held_by
 from .messages import Trouble, say
 from .options import Commands
+from .resume import content_at
 from .sums import Sums, sums_of
 
 SUMS = "tsctl.sums"
@@ -24,7 +25,7 @@ def add_command(commands: Commands) -> None:
     """`tsq backup`."""
     parser = commands.add_parser("backup", help="copy a folder's journal, also while another process writes")
     parser.add_argument("folder", metavar="FOLDER")
-    parser.add_argument("file", metavar="FILE", help="the copy; FILE.sums and FILE.names come beside it")
+    parser.add_argument("file", metavar="FILE", help="the copy; FILE.sums, .names and .load come beside it")
     parser.set_defaults(call=backup)
 
 
@@ -102,11 +103,13 @@ def copied(folder: Path, file: Path, new: Path) -> Sums:
         end = copy_journal(folder, target)
         position = checked_position(new)
         names = names_of(folder)
-        sums = sums_of(target, end, position, names)
+        load = content_at(folder, position)
+        sums = sums_of(target, end, position, names, load)
     finally:
         os.close(target)
-    if names is not None:
-        keep(beside(file, "names"), names)
+    for word, content in (("names", names), ("load", load)):
+        if content is not None:
+            keep(beside(file, word), content)
     keep(beside(file, "sums"), sums.text().encode())
     os.rename(new, file)
     return sums
@@ -129,7 +132,7 @@ def tell_ending(folder: Path, end: int) -> int:
 def backup(arguments: argparse.Namespace) -> int:
     """Copies a journal, checks the copy, and gives it its name."""
     folder, file = Path(arguments.folder), Path(arguments.file)
-    for path in (file, beside(file, "sums"), beside(file, "names")):
+    for path in (file, *(beside(file, word) for word in ("sums", "names", "load"))):
         if path.exists():
             raise Trouble(f"{path} is there already: a copy takes a name of its own")
     new = file.with_name(f".{file.name}.{os.getpid()}")
@@ -142,6 +145,7 @@ def backup(arguments: argparse.Namespace) -> int:
     keep_sums(folder, sums)
     print(f"{file}: @{sums.position}, {sums.size + 1} bytes, checked by tsctl check")
     print(beside(file, "sums"))
-    if sums.names:
-        print(beside(file, "names"))
+    for word, sum_of in (("names", sums.names), ("load", sums.load)):
+        if sum_of:
+            print(beside(file, word))
     return tell_ending(folder, sums.size)

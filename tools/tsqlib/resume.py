@@ -216,6 +216,33 @@ def line_of(note: Note) -> bytes:
     return json.dumps(asdict(note)).encode() + b"\n"
 
 
+def content_at(folder: Path, position: int) -> bytes | None:
+    """The file of a folder as it was when the journal was at a position; nothing without a file. It is read after the
+    journal, so later lines are left out. A damaged file, and that of version 0.15, stay as they are."""
+    try:
+        content = (folder / FILE).read_bytes()
+    except FileNotFoundError:
+        return None
+    if not content.startswith(HEADER):
+        return content
+    kept: dict[Key, bytes] = {}
+    try:
+        for line in content.split(b"\n")[1:-1]:
+            note = note_of(line)
+            if is_known_at(note, position) or note.key() not in kept and not is_absent(note, position):
+                kept.pop(note.key(), None)
+                kept[note.key()] = line + b"\n"
+    except (ValueError, TypeError, KeyError):
+        return content
+    return HEADER + b"".join(kept.values())
+
+
+def is_known_at(note: Note, position: int) -> bool:
+    """Whether a note tells nothing that is after a position of the journal."""
+    last = note.commits[-1][1] if note.commits else 0
+    return last <= position and (note.coming is None or note.coming.position <= position)
+
+
 # ---- what the journal has of it
 
 

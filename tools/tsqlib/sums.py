@@ -7,6 +7,7 @@
     block 0 9f86d081...
     block 65536 60303ae2...
     names 2c26b46b...
+    load fcde2b2e...
 
 `bytes` is the place of the commit byte that ended the journal. What is before it stays as it is, so the sums hold of a
 journal that has grown as well as of its copy. But a checkpoint raises the version, which is byte 7.
@@ -26,25 +27,30 @@ BLOCK = 1 << 16
 VERSION_PLACE = 7
 VERSION_2 = "2"
 HEADER = "tsctl.sums 1"
-LINE = re.compile(r"(position|bytes|version) ([0-9]{1,19})|block ([0-9]{1,19}) ([0-9a-f]{64})|names ([0-9a-f]{64})")
+LINE = re.compile(
+    r"(position|bytes|version) ([0-9]{1,19})|block ([0-9]{1,19}) ([0-9a-f]{64})|(names|load) ([0-9a-f]{64})"
+)
 
 
 @dataclass(frozen=True)
 class Sums:
     """The sums of a journal at a position, whose bytes are those before `size`. `version` is its version byte, and
-    `names` the sum of the dictionary that was beside it, if there was one."""
+    `names` and `load` are the sums of the files that were beside it, if there were any: the dictionary, and what was
+    loaded."""
 
     position: int
     size: int
     version: str
     blocks: tuple[str, ...]
     names: str | None = None
+    load: str | None = None
 
     def text(self) -> str:
         """The sums as a file has them."""
         lines = [HEADER, f"position {self.position}", f"version {self.version}", f"bytes {self.size}"]
         lines += [f"block {place * BLOCK} {sum_of}" for place, sum_of in enumerate(self.blocks)]
-        return "".join(f"{line}\n" for line in lines + [f"names {self.names}"] * (self.names is not None))
+        lines += [f"{word} {sum_of}" for word, sum_of in (("names", self.names), ("load", self.load)) if sum_of]
+        return "".join(f"{line}\n" for line in lines)
 
 
 def digest(content: bytes) -> str:
@@ -59,11 +65,12 @@ def blocks_of(file: int, size: int) -> Iterator[bytes]:
         yield os.pread(file, wanted, start)
 
 
-def sums_of(file: int, size: int, position: int, names: bytes | None) -> Sums:
-    """The sums of a journal that is read."""
+def sums_of(file: int, size: int, position: int, names: bytes | None, load: bytes | None) -> Sums:
+    """The sums of a journal that is read, and of what is beside it."""
     version = os.pread(file, 1, VERSION_PLACE).decode("latin-1")
     blocks = tuple(map(digest, blocks_of(file, size)))
-    return Sums(position, size, version if version in "12" else "1", blocks, None if names is None else digest(names))
+    beside = (None if content is None else digest(content) for content in (names, load))
+    return Sums(position, size, version if version in "12" else "1", blocks, *beside)
 
 
 def read_sums(path: Path) -> Sums | None:
@@ -76,7 +83,7 @@ def read_sums(path: Path) -> Sums | None:
         raise Trouble(f"{path}: {getattr(error, 'strerror', None) or 'is damaged'}") from None
     numbers: dict[str, str] = {}
     blocks: list[str] = []
-    names = None
+    beside: dict[str, str] = {}
     for line in lines[1:]:
         found = LINE.fullmatch(line)
         if not found or found[3] and int(found[3]) != len(blocks) * BLOCK:
@@ -85,10 +92,12 @@ def read_sums(path: Path) -> Sums | None:
             numbers[found[1]] = found[2]
         elif found[4]:
             blocks.append(found[4])
-        names = found[5] or names
+        elif found[5]:
+            beside[found[5]] = found[6]
     if lines[:1] != [HEADER] or set(numbers) != {"position", "bytes", "version"}:
         raise Trouble(f"{path} is damaged")
-    sums = Sums(int(numbers["position"]), int(numbers["bytes"]), numbers["version"], tuple(blocks), names)
+    position, size = int(numbers["position"]), int(numbers["bytes"])
+    sums = Sums(position, size, numbers["version"], tuple(blocks), beside.get("names"), beside.get("load"))
     if len(blocks) != -(-sums.size // BLOCK):
         raise Trouble(f"{path} is damaged")
     return sums

@@ -9,13 +9,16 @@ from typing import NamedTuple
 
 from .backup import SUMS, WRONG, beside
 from .ending import ending_of
-from .follower import JOURNAL, NAMES
+from .follower import JOURNAL
 from .frames import FIRST, walk
 from .holder import held_by
 from .journal import MAGIC
 from .messages import Trouble
 from .options import Commands
 from .sums import Sums, changed, digest, read_sums
+
+
+WITHOUT_LOAD = "restore without it, and load with --once, which leaves out rows that are there"
 
 
 class Found(NamedTuple):
@@ -26,11 +29,10 @@ class Found(NamedTuple):
 
 
 class Places(NamedTuple):
-    """A journal, its sums and its dictionary, and the folder that it is in if it isn't a copy."""
+    """A journal and its sums, and the folder that it is in if it isn't a copy."""
 
     journal: Path
     sums: Path
-    names: Path
     folder: Path | None
 
 
@@ -47,8 +49,8 @@ def places_of(arguments: argparse.Namespace) -> Places:
     file = Path(arguments.file)
     sums = Path(arguments.sums) if arguments.sums else None
     if file.is_dir():
-        return Places(file / JOURNAL, sums or file / SUMS, file / NAMES, file)
-    return Places(file, sums or beside(file, "sums"), beside(file, "names"), None)
+        return Places(file / JOURNAL, sums or file / SUMS, file)
+    return Places(file, sums or beside(file, "sums"), None)
 
 
 def compared(file: int, sums: Sums, is_copy: bool) -> Iterator[Found]:
@@ -94,19 +96,20 @@ def end_found(file: int, folder: Path | None) -> Iterator[Found]:
         yield Found(f"end: at {end}, and nothing but zeros after it")
 
 
-def names_found(names: Path, sums: Sums, is_copy: bool) -> Iterator[Found]:
-    """How the dictionary is. That beside a journal goes on growing, so only that of a copy is compared."""
-    if sums.names is None or not is_copy:
+def beside_found(copy: Path, word: str, sum_of: str | None, remedy: str) -> Iterator[Found]:
+    """How a file beside a copy is. Those beside a journal go on growing, so they aren't compared."""
+    if sum_of is None:
         return
+    path = beside(copy, word)
     try:
-        is_same = digest(names.read_bytes()) == sums.names
+        is_same = digest(path.read_bytes()) == sum_of
     except OSError as error:
-        yield Found(f"{names}: {error.strerror}", "take the dictionary of another copy")
+        yield Found(f"{path}: {error.strerror}", remedy)
         return
     if is_same:
-        yield Found(f"names: {names} is as it was")
+        yield Found(f"{word}: {path} is as it was")
     else:
-        yield Found(f"{names} has changed", "take the dictionary of another copy")
+        yield Found(f"{path} has changed", remedy)
 
 
 def all_found(places: Places) -> Iterator[Found]:
@@ -121,7 +124,9 @@ def all_found(places: Places) -> Iterator[Found]:
             yield Found(f"sums: without {places.sums}, which `tsq backup` writes, changed bytes can't be detected")
         else:
             yield from compared(file, sums, places.folder is None)
-            yield from names_found(places.names, sums, places.folder is None)
+            if places.folder is None:
+                yield from beside_found(places.journal, "names", sums.names, "take the dictionary of another copy")
+                yield from beside_found(places.journal, "load", sums.load, WITHOUT_LOAD)
         yield from end_found(file, places.folder)
     finally:
         os.close(file)
