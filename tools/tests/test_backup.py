@@ -209,6 +209,28 @@ class BackupTest(unittest.TestCase):
         self.flip(self.journal, places[-1], 3)
         self.assertIn("tsctl writes 0 or 1", self.call("verify", self.folder, "--sums", self.top / "none")[1][1])
 
+    # ---- what was loaded
+
+    def test_a_restored_copy_remembers_its_loads(self) -> None:
+        readings = self.top / "readings.csv"
+        readings.write_text("time,v\n1,5\n150,6\n")
+        words = ("--table", "m", "--header")
+        self.assertEqual(self.call("load", readings, "--into", self.folder, *words)[0], 0)
+        lines = self.backup()
+        self.assertEqual([Path(line).name for line in lines[1:]], ["copy.sums", "copy.names", "copy.load"])
+        self.assertFalse(self.is_wrong(self.copy))
+        restored = self.top / "restored"
+        restored.mkdir()
+        shutil.copy(self.copy, restored / "tsctl.journal")
+        shutil.copy(f"{self.copy}.load", restored / "tsctl.load")
+        status, lines = self.call("load", readings, "--into", restored, *words)
+        self.assertEqual((status, lines[0]), (0, "tsq: this input was loaded already; --again loads it once more"))
+        self.assertEqual(self.run_script("a: SELECT * FROM m\n", restored),
+                         b"a: ANSWER @5 rows 2 stale 0\n1|5\n150|6\n")  # fmt: skip
+        Path(f"{self.copy}.load").write_text("another")
+        self.assertTrue(self.is_wrong(self.copy))
+        self.assertIn(f"WRONG: {self.copy}.load has changed", self.call("verify", self.copy)[1])
+
     # ---- the file of sums
 
     def test_sums_are_read_as_they_were_written(self) -> None:

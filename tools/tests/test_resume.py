@@ -9,7 +9,7 @@ from unittest import mock
 
 from tsqlib import resume
 from tsqlib.messages import Trouble
-from tsqlib.resume import BEGUN, FINISHED, Block, Note, Notes, is_absent
+from tsqlib.resume import BEGUN, FINISHED, Block, Note, Notes, content_at, is_absent
 
 OLD = {"name": "f.csv", "input": "ab", "done": 1, "position": 3, "rows": 2, "duplicates": 0, "commits": [[3, 4]]}
 # What the file has, and what is said of it.
@@ -96,6 +96,35 @@ class NotesTest(unittest.TestCase):
         self.assertEqual(notes.notes, {})
         notes.write(note(1))
         self.assertEqual(self.read(), [note(1)])
+
+    def test_as_it_was_at_a_position(self) -> None:
+        self.assertIsNone(content_at(self.folder, 7))
+        notes, load = Notes.read(self.folder), note(1, BEGUN)
+        notes.write(note(2))
+        for position in (4, 5):
+            load.begin(position, [str(position)], 0)
+            notes.write(load)
+            load.take(position + 1)
+        load.state = FINISHED
+        notes.write(load)
+        content = self.file.read_bytes()
+        # What is known of it: which block comes, and the commits before.
+        cases: list[tuple[int, list[tuple[int | None, list[tuple[int, int]]]]]] = [
+            (3, []), (4, [(4, [])]), (5, [(5, [(5, 5)])]), (6, [(None, [(5, 6)])]), (7, [(None, [(5, 6)])]),
+        ]  # fmt: skip
+        for position, known in cases:
+            found = content_at(self.folder, position)
+            assert found
+            self.file.write_bytes(found)
+            loads = [it for it in self.read() if it.name == load.name]
+            self.file.write_bytes(content)
+            told = [(it.coming.position if it.coming else None, it.commits) for it in loads]
+            self.assertEqual(told, known, position)
+        self.file.write_bytes(resume.HEADER + resume.line_of(load))
+        self.assertEqual(content_at(self.folder, 5), self.file.read_bytes(), "a load refuses what tells more")
+        for damaged in (b"{}", resume.HEADER + b"x\n"):
+            self.file.write_bytes(damaged)
+            self.assertEqual(content_at(self.folder, 5), damaged)
 
     def test_absent(self) -> None:
         found = note(1, BEGUN)

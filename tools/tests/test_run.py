@@ -149,6 +149,32 @@ class EndingTest(InFolder):
 
 
 @NEEDS
+class HeldTest(InFolder):
+    def test_the_process_that_holds_the_folder_is_named(self) -> None:
+        programs.call(["run"], SETUP, self.folder)
+        query, row = b"a: SELECT * FROM m\n", b"a: INSERT INTO m VALUES (3, 9)\n"
+        (self.folder / "query.sql").write_bytes(query)
+        (self.folder / "row.sql").write_bytes(row)
+        (self.folder / "rows.csv").write_bytes(b"4,9\n")
+        load = ["load", "rows.csv", "--into", ".", "--table", "m", "--columns", "time,v"]
+        with Program(self.folder) as holder:
+            holder.ask(b"a: COMMIT")
+            held = f"tsq: process {holder.process.pid} holds .: "
+            cases: list[tuple[list[str], bytes]] = [
+                ([], query), ([], row), (["row.sql"], b""), (["--par"], query), (load, b""),
+            ]  # fmt: skip
+            for words, script in cases:
+                with self.subTest(words=words, script=script):
+                    status, out, said = self.run_tsq(*words, script=script)
+                    self.assertEqual((status, out, said.startswith(f"{held}end it first")), (2, "", True), said)
+                    self.assertNotIn("disk fault", said)
+            status, out, said = self.run_tsq("query.sql")
+            self.assertEqual((status, said), (0, f"{held}answers are those of a copy at @3\n"))
+            self.assertIn("   2  8\n", out)
+        self.assertEqual(self.run_tsq(script=row)[1], "a: COMMIT @4 +1 -0\n")
+
+
+@NEEDS
 class ProgramTest(InFolder):
     def test_replies_have_the_number_of_their_line(self) -> None:
         with Program(self.folder) as program:
