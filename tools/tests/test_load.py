@@ -15,7 +15,7 @@ from tsqlib.journal import last_base
 from tsqlib.main import main
 from tsqlib.names import Names
 from tsqlib.packed import Left
-from tsqlib.resume import Note, Notes
+from tsqlib.resume import Note, Notes, content_at
 from tsqlib.sending import Sender
 
 SCHEMA = b"""a: CREATE TABLE m (v BIGINT, time BIGINT NOT NULL, device BIGINT NOT NULL)
@@ -279,6 +279,40 @@ class LoadTest(unittest.TestCase):
         self.assertIn("has something else there", self.said)
         self.assertEqual(self.load(*WORDS, "--again"), 0)
         self.assertEqual(self.rows(), LOADED + Counter({(1, 1, "a"): 6}))
+
+    def test_a_copy_that_was_taken_meanwhile_continues(self) -> None:
+        copies: list[tuple[int, bytes]] = []
+        commit = Sender.commit
+
+        def kept(sender: Sender, rows: list[str]) -> int:
+            position = commit(sender, rows)
+            copies.append((position, programs.journal_in(self.folder)))
+            return position
+
+        with mock.patch.object(Sender, "commit", kept):
+            self.assertEqual(self.load(*WORDS), 0)
+        whole = (self.folder / "tsctl.load").read_bytes()
+        for position, journal in copies:
+            with self.subTest(position=position):
+                (self.folder / "tsctl.load").write_bytes(whole)
+                found = content_at(self.folder, position)
+                assert found
+                (self.folder / "tsctl.load").write_bytes(found)
+                (self.folder / "tsctl.journal").write_bytes(journal)
+                self.assertEqual(self.load(*WORDS), 0, self.said)
+                self.assertEqual(self.rows(), LOADED)
+
+    def test_a_scale_that_the_folder_remembers_stays(self) -> None:
+        content, words = "time,device,v\n1,1,2.50\n", ("--table", "m", "--header")
+        self.assertEqual(self.load(*words, content=content), 2)
+        self.assertIn("`2.50` has more digits than are kept: --scale v=1 keeps them", self.said)
+        self.assertEqual(self.load(*words, "--scale", "v=1", content=content), 0, self.said)
+        stays = "a scale stays, so round the values, or use another name or folder"
+        self.assertEqual(self.load(*words, content="time,device,v\n2,1,2.55\n"), 2)
+        self.assertIn(f"`2.55` has more digits than are kept: tsctl.names has scale 1: {stays}", self.said)
+        self.assertNotIn("keeps them", self.said)
+        self.assertEqual(self.load(*words, "--scale", "v=2", content="time,device,v\n2,1,2.55\n"), 2)
+        self.assertIn(f"tsctl.names has scale 1 for v, not 2: {stays}", self.said)
 
     def test_others_load_meanwhile(self) -> None:
         ask = Sender.position

@@ -26,6 +26,8 @@ FILE = "tsctl.names"
 HEADER = b"tsctl.names 1\n"
 LEAST, MOST = -(2**63), 2**63 - 1
 MOST_SCALE = 30
+# What to do if rows need another scale than the one that a folder remembers.
+SCALE_STAYS = "a scale stays, so round the values, or use another name or folder"
 NAME = r"[a-z_][a-z0-9_]{0,62}"
 FACT = re.compile(rf"times (s|ms|us)|scale ({NAME}) ([0-9]{{1,2}})|text ({NAME}) (-?[0-9]{{1,19}}) (\".*\")")
 
@@ -95,7 +97,7 @@ class Names:
         """Why these scales and this unit can't be remembered; nothing if they can."""
         for column, scale in scales.items():
             if self.scales.get(column, scale) != scale:
-                return f"{FILE} has scale {self.scales[column]} for {column}, not {scale}"
+                return f"{FILE} has scale {self.scales[column]} for {column}, not {scale}: {SCALE_STAYS}"
         if times and self.times and times != self.times:
             return f"{FILE} has times in {self.times}, not {times}"
         return None

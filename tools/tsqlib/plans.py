@@ -144,7 +144,7 @@ def plan_of(options: argparse.Namespace, text: TextIO, names: Names, table: Hype
     columns = {
         name: Column(
             name, place, given.get(name, names.scale_of(name)), times if name == time else None,
-            texts.get(name), bool(table and name in table.not_null),
+            texts.get(name), bool(table and name in table.not_null), name in names.scales,
         )
         for place, name in enumerate(loaded) if name
     }  # fmt: skip

@@ -7,7 +7,7 @@ from dataclasses import dataclass
 from datetime import datetime, timedelta, timezone, tzinfo
 
 from .journal import LEAST_TIME, MOST_TIME
-from .names import Names, Unit
+from .names import FILE, SCALE_STAYS, Names, Unit
 
 LEAST, MOST = -(2**63), 2**63 - 1
 EPOCH = datetime(1970, 1, 1, tzinfo=timezone.utc)
@@ -102,7 +102,8 @@ class Texts:
 
 @dataclass(frozen=True)
 class Column:
-    """A column that is loaded, and how its cells become numbers. `place` is that of its cell in a row of the file."""
+    """A column that is loaded, and how its cells become numbers. `place` is that of its cell in a row of the file, and
+    `is_fixed` says that the folder remembers the scale, so that no other one may be given."""
 
     name: str
     place: int
@@ -110,9 +111,10 @@ class Column:
     times: Times | None = None
     texts: Texts | None = None
     is_not_null: bool = False
+    is_fixed: bool = False
 
 
-def number_of(text: str, scale: int, name: str) -> int:
+def number_of(text: str, scale: int, name: str, is_fixed: bool = False) -> int:
     """The whole number that a cell is, times ten to the power of `scale`."""
     found = NUMBER.fullmatch(text)
     if not found or not (found[2] or found[3]):
@@ -121,7 +123,8 @@ def number_of(text: str, scale: int, name: str) -> int:
     digits, power = int(found[2] + part or "0"), scale + int(found[4] or 0) - len(part)
     number, rest = divmod(digits, 10 ** max(0, -power))
     if rest:
-        raise Bad("has more digits than are kept" + f": --scale {name}={scale - power} keeps them" * bool(name))
+        fixed, wider = f"{FILE} has scale {scale}: {SCALE_STAYS}", f"--scale {name}={scale - power} keeps them"
+        raise Bad("has more digits than are kept" + f": {fixed if is_fixed else wider}" * bool(name))
     value: int = (-number if found[1] == "-" else number) * 10 ** max(0, power)
     return value
 
@@ -170,7 +173,10 @@ def value_of(column: Column, text: str) -> int:
     """The value of a cell that isn't NULL."""
     if column.texts:
         return column.texts.number_of(text)
-    value = column.times.of(text) if column.times else number_of(text, column.scale, column.name)
+    if column.times:
+        value = column.times.of(text)
+    else:
+        value = number_of(text, column.scale, column.name, column.is_fixed)
     least, most = (LEAST_TIME, MOST_TIME) if column.times else (LEAST, MOST)
     if not least <= value <= most:
         raise Bad("is out of the range of times" if column.times else "isn't a number of 64 bits")
