@@ -12,6 +12,7 @@ from tsqlib.answers import (
 )  # fmt: skip
 from tsqlib.dropped import with_drops
 from tsqlib.names import Names
+from tsqlib.printing import dated
 from tsqlib.replies import Reply
 from tsqlib.schema import Output
 from tsqlib.statements import Line
@@ -55,6 +56,22 @@ class AnswersTest(unittest.TestCase):
         # What is asked for goes before what is remembered.
         scaled = csv_lines(REPLY, OUTPUT, Style(padded=False, fractions=False, scales={"mean": 0}, names=self.names()))
         self.assertTrue(scaled[1].endswith("21.5,false,false"))
+
+    def test_values_of_a_scaled_column_have_its_digits(self) -> None:
+        output = Output(["time", "v", "mean"], frozenset([0]), 0, 0, False, ("time", "v", "v"))
+        rows = [["0", "2289", "4577/2"], ["1", "2290", "2290/1"], ["2", "-5", "7/3"], ["3", "null", "null"]]
+        reply = Reply(Line(1, "a", "a: SELECT"), ["a: ANSWER @9 rows 4 stale 0"], rows)
+        style = Style(scales={"v": 2, "mean": 2})
+        self.assertEqual(table(reply, output, style), [
+            "time      v    mean",
+            "----  -----  ------",
+            "   0  22.89  22.885  4577/200",
+            "   1  22.90  22.900  229/10",
+            "   2  -0.05   0.023  7/300",
+            "   3   null    null",
+        ])  # fmt: skip
+        found = csv_lines(reply, output, style._replace(places=12, padded=False, fractions=False))
+        self.assertEqual(found[1:], ["0,22.89,22.885", "1,22.9,22.9", "2,-0.05,0.023333333333", "3,,"])
 
     def test_json(self) -> None:
         plain = self.rows(Style("s", 12, False, False))
@@ -110,6 +127,17 @@ class AnswersTest(unittest.TestCase):
             ((0, 60), "s", "1970-01-01 00:00:00..1970-01-01 00:01:00"),
         ):
             self.assertEqual(range_text(bounds, unit), wanted)
+
+    def test_windows_of_refreshes_have_dates(self) -> None:
+        dates = "1970-01-01 00:00:00..1970-01-01 01:00:00"
+        for head, wanted in (
+            ("a: REFRESH 5 @6 snap 5 0..3600", f"a: REFRESH 5 @6 snap 5 {dates}"),
+            ("a: REFRESH 5 @6 snap 5 min..0", "a: REFRESH 5 @6 snap 5 min..1970-01-01 00:00:00"),
+            ("a: CUT 5 0..3600", f"a: CUT 5 {dates}"),
+            ("a: SNAP 5 @5", "a: SNAP 5 @5"),
+            ("a: ANSWER @6 rows 0 stale 0", "a: ANSWER @6 rows 0 stale 0"),
+        ):
+            self.assertEqual((dated(head, "s"), dated(head, None)), (wanted, head))
 
 
 if __name__ == "__main__":

@@ -8,7 +8,7 @@ from bisect import bisect_right
 from collections.abc import Iterable
 from typing import Any, NamedTuple
 
-from .cells import date, decimal, divided, time_text
+from .cells import date, decimal, divided, shifted, time_text
 from .names import Names
 from .replies import Range, Reply
 from .schema import Output, Schema, distinct
@@ -101,7 +101,18 @@ def number_text(text: str, style: Style) -> str:
     """The decimal of a fraction; a text that is none stays as it is."""
     if "/" not in text:
         return text
-    digits = decimal(text, style.places)
+    return padded(decimal(text, style.places), style)
+
+
+def scaled_text(text: str, power: int, style: Style) -> str:
+    """The decimal of a cell that is divided by ten so many times. One that isn't an average has so many digits."""
+    if text == "null" or "/" in text:
+        return text if text == "null" else number_text(divided(text, power), style)
+    return padded(shifted(text, power), style)
+
+
+def padded(digits: str, style: Style) -> str:
+    """A decimal with the zeros at its end, or without them."""
     return digits if style.padded or "." not in digits else digits.rstrip("0").rstrip(".")
 
 
@@ -115,7 +126,8 @@ def column_texts(
     if named := named_texts(texts, unit, style):
         return texts, named, True
     if not is_time and (power := style.scale_of(name, unit)):
-        texts = [text if text == "null" else divided(text, power) for text in texts]
+        fractions = [text if text == "null" else divided(text, power) for text in texts]
+        return fractions, [scaled_text(text, power, style) for text in texts], False
     return texts, [number_text(text, style) for text in texts], False
 
 

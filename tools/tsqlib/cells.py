@@ -14,6 +14,11 @@ def divided(text: str, power: int) -> str:
     return f"{value.numerator}/{value.denominator}"
 
 
+def shifted(text: str, power: int) -> str:
+    """A whole number divided by ten so many times, with so many digits after the point."""
+    return decimal(divided(text, power), power)
+
+
 def digits_after_point(divisor: int) -> int | None:
     """How many digits a fraction in lowest terms has after the point, and nothing if they don't end."""
     counts = []

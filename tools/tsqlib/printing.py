@@ -1,6 +1,7 @@
 """Prints replies, for people or for other programs."""
 from __future__ import annotations
 
+import re
 import sys
 from argparse import Namespace
 from collections.abc import Callable
@@ -8,7 +9,7 @@ from pathlib import Path
 
 from .answers import (
     Style, answer_object, csv_lines, csv_ranges, expanded, is_stale, json_lines, json_ranges, output_for, range_lines,
-    table,
+    range_text, table,
 )  # fmt: skip
 from .dropped import JournalDrops
 from .messages import Trouble, say
@@ -22,8 +23,19 @@ Write = Callable[[Reply, Output, Style], list[str]]
 FORMS: dict[str, Write] = {"csv": csv_lines, "json": json_lines}
 RANGES: dict[str, Write] = {"csv": csv_ranges, "json": json_ranges}
 SCHEMA_MADE = ("TABLE @", "HYPERTABLE @", "VIEW @", "MODE @")
+# A line that ends with the window of a refresh.
+WINDOW = re.compile(r"(.*\b(?:REFRESH \d+ @\d+ snap \d+|CUT \d+) )(min|-?\d+)\.\.(-?\d+)")
 # Lines of a table above its rows.
 HEADING = 2
+
+
+def dated(head: str, unit: str | None) -> str:
+    """The first line of a reply, whose window of a refresh has dates if times are dates."""
+    found = WINDOW.fullmatch(head) if unit else None
+    if not found:
+        return head
+    low = None if found[2] == "min" else int(found[2])
+    return found[1] + range_text((low, int(found[3])), unit)
 
 
 class Printer:
@@ -66,7 +78,7 @@ class Printer:
     def print_for_people(self, reply: Reply, output: Output | None) -> None:
         """The reply as it is, a refusal with what it means, an answer as a table."""
         for head, text in zip(reply.heads, reply.texts()):
-            print(colored(head, RED) if text.startswith("FAULT ") else head)
+            print(colored(head, RED) if text.startswith("FAULT ") else dated(head, self.style.unit))
         if reply.fault():
             for line in explanation(reply, self.is_script, self.schema):
                 print(*wrapped(line), sep="\n")
