@@ -181,7 +181,7 @@ def instead_of(reply: Reply, schema: Schema) -> str | None:
     elif found[0] in ("E04", "E05") and found[2]:
         met = place_of(reply, int(found[2]))
         part = next((part for holds, part in HINTS if holds(met)), None)
-    return next((f"{what}: {instead}" for what, instead in rows_instead() if part and part in what), None)
+    return next((f"{what}. Instead: {instead}" for what, instead in rows_instead() if part and part in what), None)
 
 
 # ---- lines
