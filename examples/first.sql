@@ -1,4 +1,4 @@
--- Temperatures by minutes. A row comes late, the next answer says which minute it made stale, and a refresh mends that.
+-- Temperatures by minutes. A row arrives late, the next answer names its minute as stale, and a refresh updates that.
 a: CREATE TABLE temps (time BIGINT NOT NULL, celsius BIGINT)
 a: SELECT create_hypertable('temps', 'time', chunk_time_interval => 3600)
 a: INSERT INTO temps VALUES (10, 20), (70, 22)

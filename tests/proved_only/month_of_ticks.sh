@@ -1,7 +1,7 @@
 #!/usr/bin/env bash
 # A month of readings, one in each hour, with a tick after each: a refresh of the last day every hour, and once a day
-# what is older than a week is dropped. One reading comes five hours late, and the next tick mends its hour; another
-# comes two days late, and no tick does. Shown are the first day's last tick, the late readings, and the end.
+# what is older than a week is dropped. One reading arrives five hours late, and the next tick refreshes its hour; another
+# arrives two days late, and no tick does. Shown are the first day's last tick, the late readings, and the end.
 set -euo pipefail
 {
   echo "m: CREATE TABLE readings (at BIGINT NOT NULL, v BIGINT)"
