@@ -1,6 +1,6 @@
 -- The outcomes of calls at positions of a history.
 use Rattle.std.proofs.Common.{◌≡◌, ℕ, suc, Bool, true, false, cond, ◌==◌, Option, Some, None, sym, refl, ap, ◌∙◌, subst, arith, ne_eqb}
-use Rattle.std.specs.Prelude.{length, nat_lt, is_some, unwrap_or}
+use Rattle.std.specs.Prelude.{length, nat_lt, is_some, unwrap_or, Ok, Err}
 use Rattle.std.proofs.lemmas.Bool.{cond-false, cond-true}
 use Rattle.ts_model.specs.declared.events.Event.{Event}
 use Rattle.ts_model.specs.declared.events.Event.TheVariants.{Table, Hyper, View, Mode, Commit, Cut, Built}
@@ -11,7 +11,7 @@ use Rattle.ts_model.specs.declared.refreshes.Pending.TheVariants.{Waiting, Finis
 use Rattle.ts_model.specs.Allowed.{allowed}
 use Rattle.ts_model.specs.Calls.{Act, commit_result, finish_of, makes, act_of_event, new_relation, act_with_number, refusal, refuses, returns}
 use Rattle.ts_model.specs.Numbers.{no_number, name_taken, too_many, history_full}
-use Rattle.ts_model.specs.History.{History, position}
+use Rattle.ts_model.specs.History.{History, event_at, position}
 use Rattle.ts_model.specs.Limits.{most_relations}
 use Rattle.ts_model.specs.Pending.{pending}
 use Rattle.ts_model.specs.Roster.{hyper_of, is_taken, roster}
@@ -21,9 +21,8 @@ use Rattle.engine_core.specs.Acts.{making_event, unless, with_answer}
 use Rattle.engine_core.specs.Effects.{effect_of}
 use Rattle.engine_core.proofs.ActLaws.{free_where_allowed, room_where_free}
 use Rattle.audit_past.specs.Pasts.{CameTo}
-use Rattle.audit_past.specs.declared.history_view.PastOutcome.{PastOutcome}
-use Rattle.audit_past.specs.declared.history_view.PastOutcome.TheVariants.{Made, Returned, Refused, Otherwise}
-use Rattle.audit.specs.Calls.{came_as, numbered_only}
+use Rattle.audit_past.specs.declared.history_view.CallAt.{CallAt}
+use Rattle.audit.specs.Calls.{came_as, done_as, numbered_only}
 
 -- ---- refusals have codes
 
@@ -80,26 +79,26 @@ act_free h e free =
     ap (λ o. unless o (act_of_event h e (effect_of h e))) free
     ∙ cond-true (has_room h) (makes e (effect_of h e)) (refuses (refusal history_full h 0)) (room_where_free h e free)
 
-pub came_made : (h : History) (e : Event) (next : Option Event) (b : Committed) → call_refusal h e ≡ None → next ≡ Some e → b ≡ effect_of h e → CameTo (making_event e h) next (Made b)
-came_made h e next b free is does = subst (λ act. CameTo act next (Made b)) (sym (act_free h e free)) (is, does)
+pub came_made : (h : History) (e : Event) (all : History) (at to : ℕ) (b : Committed) → call_refusal h e ≡ None → event_at all (suc at) ≡ Some e → b ≡ effect_of h e → to ≡ suc at → CameTo (making_event e h) all at (Some (record { came = Ok b; at = to }))
+came_made h e all at to b free is does next =
+    subst (λ act. CameTo act all at (Some (record { came = Ok b; at = to }))) (sym (act_free h e free))
+    (is, ap (λ x. record { came = Ok x; at = to }) does ∙ ap (λ n. record { came = Ok (effect_of h e); at = n }) next)
 
-pub came_otherwise : (h : History) (e : Event) (next : Option Event) → call_refusal h e ≡ None → (next ≡ Some e → ⊥) → CameTo (making_event e h) next Otherwise
-came_otherwise h e next free other = subst (λ act. CameTo act next Otherwise) (sym (act_free h e free)) other
+pub came_otherwise : (h : History) (e : Event) (all : History) (at : ℕ) → call_refusal h e ≡ None → (event_at all (suc at) ≡ Some e → ⊥) → CameTo (making_event e h) all at None
+came_otherwise h e all at free other = subst (λ act. CameTo act all at None) (sym (act_free h e free)) other
 
-pub came_refused : (h : History) (e : Event) (next : Option Event) (r : Refusal) → call_refusal h e ≡ Some r → CameTo (making_event e h) next (Refused r)
-came_refused h e next r is = subst (λ act. CameTo act next (Refused r)) (sym (ap (λ o. unless o (act_of_event h e (effect_of h e))) is)) refl
+pub came_refused : (h : History) (e : Event) (all : History) (at : ℕ) (r : Refusal) (met : Option (CallAt Committed)) → call_refusal h e ≡ Some r → met ≡ Some (record { came = Err r; at = at }) → CameTo (making_event e h) all at met
+came_refused h e all at r met is same = subst (λ act. CameTo act all at met) (sym (ap (λ o. unless o (act_of_event h e (effect_of h e))) is)) same
 
 -- ---- other results
 
-pub came_with : {A B : Type 0} (f : A → B) (act : Act A) (next : Option Event) (came : PastOutcome A) → CameTo act next came → CameTo (with_answer f act) next (came_as f came)
-came_with f (refuses r) next came is = ap (came_as f) is
-came_with f (returns a) next came is = ap (came_as f) is
-came_with f (makes e a) next (Made b) is = (is.0, ap f is.1)
-came_with f (makes e a) next (Returned b) is = absurd is
-came_with f (makes e a) next (Refused r) is = absurd is
-came_with f (makes e a) next Otherwise is = is
+came_with : {A B : Type 0} (f : A → B) (act : Act A) (all : History) (at : ℕ) (met : Option (CallAt A)) → CameTo act all at met → CameTo (with_answer f act) all at (came_as f met)
+came_with f (refuses r) all at met is = ap (came_as f) is
+came_with f (returns a) all at met is = ap (came_as f) is
+came_with f (makes e a) all at (Some m) is = (is.0, ap (λ (x : CallAt _). record { came = done_as f x.came; at = x.at }) is.1)
+came_with f (makes e a) all at None is = is
 
--- a call with the act of an event, and a function of its result
-pub came_to : {A B : Type 0} (f : A → B) (act : Act A) (whole : Act B) (next : Option Event) (came : PastOutcome A) (result : PastOutcome B) → whole ≡ with_answer f act → result ≡ came_as f came → CameTo act next came → CameTo whole next result
-came_to f act whole next came result act_is is c =
-    subst (λ r. CameTo whole next r) (sym is) (subst (λ a. CameTo a next (came_as f came)) (sym act_is) (came_with f act next came c))
+-- a call whose act is that of an event, with something else returned
+pub came_to : {A B : Type 0} (f : A → B) (act : Act A) (whole : Act B) (all : History) (at : ℕ) (met : Option (CallAt A)) (result : Option (CallAt B)) → whole ≡ with_answer f act → result ≡ came_as f met → CameTo act all at met → CameTo whole all at result
+came_to f act whole all at met result act_is is c =
+    subst (λ r. CameTo whole all at r) (sym is) (subst (λ a. CameTo a all at (came_as f met)) (sym act_is) (came_with f act all at met c))

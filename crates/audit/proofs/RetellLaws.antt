@@ -15,12 +15,12 @@ use Rattle.ts_sessions.specs.Places.{Places, Turn, no_places}
 use Rattle.ts_sessions.specs.Replies.{reply_to}
 use Rattle.ts_sessions.specs.Script.{SessionLine}
 use Rattle.audit_past.specs.ReplaySteps.{IsToldLine, state_of}
-use Rattle.audit_past.specs.Replay.{Told, Tells}
+use Rattle.audit_looks.specs.Replay.{Told, Tells}
 use Rattle.ts_sessions.specs.declared.sessions.Session.{Session}
 use Rattle.audit_past.specs.declared.lines.ReplayedLine.{ReplayedLine}
 use Rattle.ts_sessions.proofs.GivenNames.{replies_named}
 use Rattle.ts_sessions.proofs.GivesLaws.{gives_events}
-use Rattle.audit_past.proofs.ReplayLaws.{told_is_given}
+use Rattle.audit_looks.proofs.ReplayLaws.{told_is_given}
 use Rattle.audit_looks.specs.Replies.{looks_in}
 use Rattle.transcript.specs.declared.transcripts.Exchange.{Exchange}
 use Rattle.audit.specs.Lines.{line_of}

@@ -13,8 +13,8 @@ use Rattle.ts_sessions.specs.Places.{Places, Turn}
 use Rattle.ts_sessions.specs.Procedures.{Procedure}
 use Rattle.ts_sessions.specs.Replies.{reply_to}
 use Rattle.ts_sessions.specs.Script.{text_of}
-use Rattle.audit_past.specs.Replay.{Told, Tells}
-use Rattle.audit_past.specs.ReplayLaws.{IsToldByReply, RepliesTellTheirLooks, ToldIsGiven, ToldOnce}
+use Rattle.audit_looks.specs.Replay.{Told, Tells}
+use Rattle.audit_looks.specs.ReplayLaws.{IsToldByReply, RepliesTellTheirLooks, ToldIsGiven, ToldOnce}
 use Rattle.audit_looks.specs.Laws.{TextsTellLooks}
 use Rattle.audit_looks.specs.Replies.{is_line_end, looks_in}
 use Rattle.engine_core.proofs.TimelineLaws.{allowed_fits}

@@ -1,6 +1,6 @@
--- The laws on which an audit relies.
-use Rattle.audit_past.proofs.LookLaws.{replies_tell}
-use Rattle.audit_past.proofs.ReplayLaws.{told_is_given, told_once}
+-- The laws that an audit rests on.
+use Rattle.audit_looks.proofs.LookLaws.{replies_tell}
+use Rattle.audit_looks.proofs.ReplayLaws.{told_is_given, told_once}
 use Rattle.audit_looks.proofs.TextLaws.{texts_tell as texts_tell_looks}
 use Rattle.audit.proofs.TellerLaws.{Laws}
 

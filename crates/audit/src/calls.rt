@@ -1,14 +1,14 @@
 //! The outcome of a call that creates an event, at a position of a history.
-ghost use Rattle.std.specs.Prelude.{◌≡◌, ◌≤◌, suc, None};
+ghost use Rattle.std.specs.Prelude.{◌≡◌, ◌≤◌, None, Some, Err};
 ghost use Rattle.event_check.specs.Checks.{PendingIs, call_refusal};
 ghost use Rattle.ts_model.specs.declared.outcomes.CutDone.TheVariants.{Cut as CutMade};
-ghost use Rattle.ts_model.specs.History.{event_at, position, prefix};
+ghost use Rattle.ts_model.specs.History.{position, prefix};
 ghost use Rattle.engine_core.specs.Acts.{making_event};
 ghost use Rattle.engine_core.specs.Histories.{history_of};
 ghost use Rattle.audit_past.specs.Pasts.{CameTo};
 ghost use Rattle.audit.specs.Calls.{came_as, numbered_only};
 
-use audit_past::PastOutcome;
+use audit_past::CallAt;
 use engine_core::Timeline;
 use event_check::refusal_of;
 use ts_bucket::Span;
@@ -16,14 +16,14 @@ use ts_model::codes::NO_NUMBER;
 use ts_model::{Committed, CutDone, Event, Pending, Refusal};
 
 /// The outcome of the call that creates this event.
-pub(crate) fn call(timeline: &Timeline<'_>, at: u64, event: &Event) -> PastOutcome<Committed>
+pub(crate) fn call(timeline: &Timeline<'_>, at: u64, event: &Event) -> Option<CallAt<Committed>>
     requires known { timeline.now.start ≤ at }
     requires within { at ≤ position (history_of timeline.now.past) }
     ensures came { CameTo (making_event event.now (prefix (history_of timeline.now.past) at))
-        (event_at (history_of timeline.now.past) (suc at)) result }
+        (history_of timeline.now.past) at result }
 {
     match refusal_at(timeline, at, event) {
-        Some(refusal) => PastOutcome::Refused(refusal),
+        Some(refusal) => refuse(refusal, at),
         None => compare_event(timeline, at, event),
     }
 }
@@ -73,55 +73,71 @@ fn numbered_only(refusal: Option<Refusal>) -> Option<Refusal>
 }
 
 /// Whether an event that no call refuses is the next one of the history, and what it does.
-fn compare_event(timeline: &Timeline<'_>, at: u64, event: &Event) -> PastOutcome<Committed>
+fn compare_event(timeline: &Timeline<'_>, at: u64, event: &Event) -> Option<CallAt<Committed>>
     requires known { timeline.now.start ≤ at }
     requires within { at ≤ position (history_of timeline.now.past) }
     requires free { call_refusal (prefix (history_of timeline.now.past) at) event.now ≡ None }
     ensures came { CameTo (making_event event.now (prefix (history_of timeline.now.past) at))
-        (event_at (history_of timeline.now.past) (suc at)) result }
+        (history_of timeline.now.past) at result }
 {
+    // A position that is read has 64 bits.
+    let _end = timeline.length();
     match timeline.event_after(at) {
         Some(next) => {
             if *next == *event {
-                PastOutcome::Made(timeline.effect_after(at))
+                Some(CallAt {
+                    came: Ok(timeline.effect_after(at)),
+                    at: at + 1,
+                })
             } else {
-                PastOutcome::Otherwise
+                None
             }
         }
-        None => PastOutcome::Otherwise,
+        None => None,
     }
 }
 
-/// The same outcome with the event's number only.
-pub(crate) fn event_number(came: PastOutcome<Committed>) -> PastOutcome<u64>
-    ensures { result ≡ came_as (λ c. c.pos) came }
+/// The outcome of a refused call.
+pub(crate) fn refuse<A>(refusal: Refusal, at: u64) -> Option<CallAt<A>>
+    ensures { result ≡ Some (record { came = Err refusal; at = at }) }
 {
-    match came {
-        PastOutcome::Made(effect) => PastOutcome::Made(effect.pos),
-        PastOutcome::Returned(effect) => PastOutcome::Returned(effect.pos),
-        PastOutcome::Refused(refusal) => PastOutcome::Refused(refusal),
-        PastOutcome::Otherwise => PastOutcome::Otherwise,
+    Some(CallAt {
+        came: Err(refusal),
+        at,
+    })
+}
+
+/// The same outcome with the event's number only.
+pub(crate) fn event_number(met: Option<CallAt<Committed>>) -> Option<CallAt<u64>>
+    ensures { result ≡ came_as (λ c. c.pos) met }
+{
+    match met {
+        Some(met) => match met.came {
+            Ok(effect) => Some(CallAt {
+                came: Ok(effect.pos),
+                at: met.at,
+            }),
+            Err(refusal) => refuse(refusal, met.at),
+        },
+        None => None,
     }
 }
 
 /// The same outcome with a cut over this span.
-pub(crate) fn cut_over(came: PastOutcome<Committed>, span: Span) -> PastOutcome<CutDone>
-    ensures { result ≡ came_as (λ c. CutMade c.pos span) came }
+pub(crate) fn cut_over(met: Option<CallAt<Committed>>, span: Span) -> Option<CallAt<CutDone>>
+    ensures { result ≡ came_as (λ c. CutMade c.pos span) met }
 {
-    match came {
-        PastOutcome::Made(effect) => PastOutcome::Made(cut_made(effect, span)),
-        PastOutcome::Returned(effect) => PastOutcome::Returned(cut_made(effect, span)),
-        PastOutcome::Refused(refusal) => PastOutcome::Refused(refusal),
-        PastOutcome::Otherwise => PastOutcome::Otherwise,
-    }
-}
-
-/// The result of a cut whose event did this.
-fn cut_made(effect: Committed, span: Span) -> CutDone
-    ensures { result ≡ CutMade effect.pos span }
-{
-    CutDone::Cut {
-        pos: effect.pos,
-        span,
+    match met {
+        Some(met) => match met.came {
+            Ok(effect) => Some(CallAt {
+                came: Ok(CutDone::Cut {
+                    pos: effect.pos,
+                    span,
+                }),
+                at: met.at,
+            }),
+            Err(refusal) => refuse(refusal, met.at),
+        },
+        None => None,
     }
 }

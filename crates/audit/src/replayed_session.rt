@@ -12,7 +12,7 @@ ghost use Rattle.audit.specs.ReplayedSessions.{GoesBehind, IsAt, RetellsTo};
 
 use crate::lines::line_of;
 use audit_looks::looks_of_reply;
-use audit_past::{Past, ReplayedLine, replay};
+use audit_past::{Past, ReplayPoint, ReplayedLine, replay};
 use std::alloc::Global;
 use std::thread::Threads;
 use transcript::{Exchange, SessionTranscript};
@@ -110,8 +110,10 @@ where
             alloc,
             &mut self.session,
             past,
-            self.at,
-            looks.as_slice(),
+            ReplayPoint {
+                at: self.at,
+                looks: looks.as_slice(),
+            },
             line.text,
             line.skip,
             steps,

@@ -4,3 +4,5 @@ mod WordLaws
 mod HeadLaws
 mod QuietLaws
 pub mod TextLaws
+pub mod ReplayLaws
+pub mod LookLaws

@@ -1,3 +1,5 @@
 pub mod Lines
 pub mod Replies
 pub mod Laws
+pub mod Replay
+pub mod ReplayLaws

@@ -1,5 +1,3 @@
-pub mod ReplayLaws
-pub mod LookLaws
 pub mod TellWalks
 pub mod TellDeeds
 pub mod TellViews

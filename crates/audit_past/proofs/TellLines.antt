@@ -21,7 +21,7 @@ use Rattle.ts_sessions.specs.Held.{Carries, bytes_queued, waiting_bytes}
 use Rattle.ts_sessions.specs.Places.{Places, Turn, refuses}
 use Rattle.ts_sessions.specs.Procedures.{Procedure, ends}
 use Rattle.audit_past.specs.ReplaySteps.{IsReached, IsToldLine, ReachesTo, RepliesTo, ended_of}
-use Rattle.audit_past.specs.Replay.{Tells}
+use Rattle.audit_looks.specs.Replay.{Tells}
 use Rattle.ts_sessions.proofs.HoldLaws.{change_queues}
 use Rattle.ts_sessions.proofs.SessionLaws.{carried_places}
 use Rattle.audit_past.proofs.TellStatements.{ends_told, reaches_as}

@@ -94,32 +94,32 @@ module _ {T J : Type 0} (shown : Shown T J) (bytes : ℕ) (all : History) (at : 
   outside_as : (like : Stmt) (procedure : Procedure (Turn Places)) → stmt ≡ like → here_in p bytes like none ≡ procedure → ReachesTo shown bytes all at procedure ps p result → ReachesTo shown bytes all at (named_here p bytes stmt) ps p result
   outside_as like procedure e same k = reaches_as shown bytes all at (named_here p bytes stmt) procedure ps p result (here_is p bytes stmt none outside ∙ ap (λ s. here_in p bytes s none) e ∙ same) k
 
-  pub begin_told : (next : Next T J) → stmt ≡ stmts.Begin → next ≡ begin_write_block → ((bytes : ℕ) → NextStands shown bytes all at next → ReachesTo shown bytes all at (rest_next p 0 (prefix all at) next) ps p result) → ReachesTo shown bytes all at (named_here p bytes stmt) ps p result
+  pub begin_told : (next : Next T J) → stmt ≡ stmts.Begin → next ≡ begin_write_block → ((bytes : ℕ) → NextStands shown bytes all at next → ReachesTo shown bytes all at (rest_next p 0 next) ps p result) → ReachesTo shown bytes all at (named_here p bytes stmt) ps p result
   begin_told next e is k =
       outside_as stmts.Begin (here_in p bytes stmts.Begin none) e refl
       (unprinted_reaches shown bytes all at (λ h. false) (λ h. ends (turns (enters (writing [] 0) p) said.Begin)) ps p result (λ h. refl)
-      (subst (λ (n : Next T J). ReachesTo shown bytes all at (rest_next p 0 (prefix all at) n) ps p result) is (k bytes (begin_stands shown bytes all at next is))))
+      (subst (λ (n : Next T J). ReachesTo shown bytes all at (rest_next p 0 n) ps p result) is (k bytes (begin_stands shown bytes all at next is))))
 
-  pub read_told : stmt ≡ stmts.BeginRead → ReachesTo shown bytes all at (rest_next {T = T} {J = J} p 0 (prefix all at) (nexts.Deed (deeds.Look looks_for.BeginRead))) ps p result → ReachesTo shown bytes all at (named_here p bytes stmt) ps p result
-  read_told e k = outside_as stmts.BeginRead (rest {T = T} {J = J} p 0 (prefix all at) (deeds.Look looks_for.BeginRead)) e refl k
+  pub read_told : stmt ≡ stmts.BeginRead → ReachesTo shown bytes all at (rest_next {T = T} {J = J} p 0 (nexts.Deed (deeds.Look looks_for.BeginRead))) ps p result → ReachesTo shown bytes all at (named_here p bytes stmt) ps p result
+  read_told e k = outside_as stmts.BeginRead (rest {T = T} {J = J} p 0 (deeds.Look looks_for.BeginRead)) e refl k
 
-  snap_is : (number : Option ℤ) (m : Option ℕ) → refresh_meant p number ≡ m → here_in p bytes (stmts.Snap number) none ≡ rest {T = T} {J = J} p 0 (prefix all at) (hold_of m)
+  snap_is : (number : Option ℤ) (m : Option ℕ) → refresh_meant p number ≡ m → here_in p bytes (stmts.Snap number) none ≡ rest {T = T} {J = J} p 0 (hold_of m)
   snap_is number None i = ap (λ m. looks (λ h. ends (snaps p h m))) i
   snap_is number (Some c) i = ap (λ m. looks (λ h. ends (snaps p h m))) i
 
-  pub snap_told : (number : Option ℤ) (deed : Deed T J) → stmt ≡ stmts.Snap number → deed ≡ hold_of (refresh_meant p number) → ReachesTo shown bytes all at (rest_next p 0 (prefix all at) (nexts.Deed deed)) ps p result → ReachesTo shown bytes all at (named_here p bytes stmt) ps p result
+  pub snap_told : (number : Option ℤ) (deed : Deed T J) → stmt ≡ stmts.Snap number → deed ≡ hold_of (refresh_meant p number) → ReachesTo shown bytes all at (rest_next p 0 (nexts.Deed deed)) ps p result → ReachesTo shown bytes all at (named_here p bytes stmt) ps p result
   snap_told number deed e is k =
-      outside_as (stmts.Snap number) (rest {T = T} {J = J} p 0 (prefix all at) (hold_of (refresh_meant p number))) e (snap_is number (refresh_meant p number) refl)
-      (subst (λ (d : Deed T J). ReachesTo shown bytes all at (rest p 0 (prefix all at) d) ps p result) is k)
+      outside_as (stmts.Snap number) (rest {T = T} {J = J} p 0 (hold_of (refresh_meant p number))) e (snap_is number (refresh_meant p number) refl)
+      (subst (λ (d : Deed T J). ReachesTo shown bytes all at (rest p 0 d) ps p result) is k)
 
   pub finish_told : (number : Option ℤ) → stmt ≡ stmts.Finish number → ReachesTo shown bytes all at (looks (λ h. finishes p h (refresh_meant p number))) ps p result → ReachesTo shown bytes all at (named_here p bytes stmt) ps p result
   finish_told number e k = outside_as (stmts.Finish number) (looks (λ h. finishes p h (refresh_meant p number))) e refl k
 
 module _ {T J : Type 0} (shown : Shown T J) (bytes : ℕ) (all : History) (at : ℕ) (ps : List ℕ) (p : Places) (number : Option ℤ) where
-  pub finish_unmeant : (result : Result (Option (StatementOutcome T J)) NoMemory) → refresh_meant p number ≡ None → ReachesTo shown bytes all at (rest_next {T = T} {J = J} p 0 (prefix all at) (nexts.Deed (deeds.Look looks_for.Unknown))) ps p result → ReachesTo shown bytes all at (looks (λ h. finishes p h (refresh_meant p number))) ps p result
+  pub finish_unmeant : (result : Result (Option (StatementOutcome T J)) NoMemory) → refresh_meant p number ≡ None → ReachesTo shown bytes all at (rest_next {T = T} {J = J} p 0 (nexts.Deed (deeds.Look looks_for.Unknown))) ps p result → ReachesTo shown bytes all at (looks (λ h. finishes p h (refresh_meant p number))) ps p result
   finish_unmeant result e k = reaches_as shown bytes all at (looks (λ h. finishes p h (refresh_meant p number))) (looks (λ h. finishes p h None)) ps p result (ap (λ m. looks (λ h. finishes p h m)) e) k
 
-  pub finish_unheld : (c : ℕ) (result : Result (Option (StatementOutcome T J)) NoMemory) → refresh_meant p number ≡ Some c → held_for c p.held ≡ None → ReachesTo shown bytes all at (rest_next {T = T} {J = J} p 0 (prefix all at) (nexts.Deed (deeds.Look (looks_for.Refuse c lacks.Snapshot)))) ps p result → ReachesTo shown bytes all at (looks (λ h. finishes p h (refresh_meant p number))) ps p result
+  pub finish_unheld : (c : ℕ) (result : Result (Option (StatementOutcome T J)) NoMemory) → refresh_meant p number ≡ Some c → held_for c p.held ≡ None → ReachesTo shown bytes all at (rest_next {T = T} {J = J} p 0 (nexts.Deed (deeds.Look (looks_for.Refuse c lacks.Snapshot)))) ps p result → ReachesTo shown bytes all at (looks (λ h. finishes p h (refresh_meant p number))) ps p result
   finish_unheld c result e f k = reaches_as shown bytes all at (looks (λ h. finishes p h (refresh_meant p number))) (looks (λ h. finishes_held p h c None)) ps p result (ap (λ m. looks (λ h. finishes p h m)) e ∙ ap (λ o. looks (λ h. finishes_held p h c o)) f) k
 
   pub finish_held : (c at_snap : ℕ) (result : Result (Option (StatementOutcome T J)) NoMemory) → refresh_meant p number ≡ Some c → held_for c p.held ≡ Some at_snap → ReachesTo shown bytes all at (looks (λ h. finishes_held p h c (Some at_snap))) ps p result → ReachesTo shown bytes all at (looks (λ h. finishes p h (refresh_meant p number))) ps p result
@@ -166,7 +166,7 @@ module _ {T J : Type 0} (shown : Shown T J) (bytes : ℕ) (all : History) (look 
   names_printed kinds.Asks e r q = refl
   names_printed other e r q = absurd (true≢false (sym e))
 
-  pub names_told : (next : Next T J) (result : Result (Option (StatementOutcome T J)) NoMemory) → IsLeftOf shown p bytes stmt (prefix all look) next → ((read : ℕ) → ReachesTo shown bytes all look (rest_next p read (prefix all look) next) ps p result) → ReachesTo shown bytes all at (named_here p bytes stmt) ps p result
+  pub names_told : (next : Next T J) (result : Result (Option (StatementOutcome T J)) NoMemory) → IsLeftOf shown p bytes stmt (prefix all look) next → ((read : ℕ) → ReachesTo shown bytes all look (rest_next p read next) ps p result) → ReachesTo shown bytes all at (named_here p bytes stmt) ps p result
   names_told next result l k =
       let f : History → Procedure (Turn Places) = λ h. turn_of_names p bytes stmt (read_at none h) in
       let first = look_tells all at look (λ h. prints none (kind_of stmt) (roster h) (refusal_of (position h) (roster h) stmt)) f ps told (names_printed (kind_of stmt) names (roster (prefix all look)) (refusal_of (position (prefix all look)) (roster (prefix all look)) stmt)) in
@@ -206,10 +206,10 @@ held_look all at look ps p c snap e = look_tells all at look (λ h. true) (λ h.
 pub held_nothing : (all : History) (at look : ℕ) (ps : List ℕ) (p : Places) (c snap : ℕ) → next_look all at ps ≡ Some look → ((q : Places) (read : ℕ) (qs : List ℕ) → TellsNothing all look (tells_held all look c snap q read) qs) → TellsNothing all at (looks (λ h. finishes_held p h c (Some snap))) ps
 held_nothing all at look ps p c snap e n = nothing_then all at look (looks (λ h. finishes_held p h c (Some snap))) (tells_held all look c snap p 0) ps (later_looks ps) (held_look all at look ps p c snap e) (n p 0 (later_looks ps))
 
-pub held_told : {T J : Type 0} (shown : Shown T J) (bytes : ℕ) (all : History) (at look : ℕ) (ps later : List ℕ) (p : Places) (c snap : ℕ) (w : StepOutcome T J) (result : Result (Option (StatementOutcome T J)) NoMemory) → next_look all at ps ≡ Some look → later ≡ later_looks ps → IsWent shown all look 1 (tells_held all look c snap) w → ((read : ℕ) → ReachesTo shown bytes all w.at (with_line w.said (rest_next p read (prefix all w.at) w.next)) later p result) → ReachesTo shown bytes all at (looks (λ h. finishes_held p h c (Some snap))) ps p result
+pub held_told : {T J : Type 0} (shown : Shown T J) (bytes : ℕ) (all : History) (at look : ℕ) (ps later : List ℕ) (p : Places) (c snap : ℕ) (w : StepOutcome T J) (result : Result (Option (StatementOutcome T J)) NoMemory) → next_look all at ps ≡ Some look → later ≡ later_looks ps → IsWent shown all look 1 (tells_held all look c snap) w → ((read : ℕ) → ReachesTo shown bytes all w.at (with_line w.said (rest_next p read w.next)) later p result) → ReachesTo shown bytes all at (looks (λ h. finishes_held p h c (Some snap))) ps p result
 held_told shown bytes all at look ps later p c snap w result e same went k =
     let first = looks (λ h. finishes_held p h c (Some snap)) in
-    let left = with_line w.said (rest_next p (went.read_then 0) (prefix all w.at) w.next) in
+    let left = with_line w.said (rest_next p (went.read_then 0) w.next) in
     let low : at ≤ look = (look_lies all at look ps e).low in
     let up : look ≤ w.at = went.low in
     reaches_then shown bytes all at w.at first left ps (later_looks ps) p result
@@ -242,37 +242,33 @@ module _ {T J : Type 0} (shown : Shown T J) (bytes : ℕ) (all : History) (at : 
   close_as : (b : Block) → p.block ≡ b → stmt ≡ stmts.Commit → ReachesTo shown bytes all at (close_in p b) ps p result → ReachesTo shown bytes all at (named_here p bytes stmt) ps p result
   close_as b e i k = reaches_as shown bytes all at (named_here p bytes stmt) (close_in p b) ps p result (ap (named_here p bytes) i ∙ ap (close_in p) e) k
 
-  pub close_writing : (ops : List Op) (n : ℕ) (next : Next T J) → p.block ≡ writing ops n → stmt ≡ stmts.Commit → next ≡ end_of_block (writing ops n) → ReachesTo shown bytes all at (rest_next p 0 (prefix all at) next) ps p result → ReachesTo shown bytes all at (named_here p bytes stmt) ps p result
+  pub close_writing : (ops : List Op) (n : ℕ) (next : Next T J) → p.block ≡ writing ops n → stmt ≡ stmts.Commit → next ≡ end_of_block (writing ops n) → ReachesTo shown bytes all at (rest_next p 0 next) ps p result → ReachesTo shown bytes all at (named_here p bytes stmt) ps p result
   close_writing ops n next e i is k =
       close_as (writing ops n) e i
-      (closing_by (λ (m : Next T J). ReachesTo shown bytes all at (rest_next p 0 (prefix all at) m) ps p result → ReachesTo shown bytes all at (close_in p (writing ops n)) ps p result) ops n
+      (closing_by (λ (m : Next T J). ReachesTo shown bytes all at (rest_next p 0 m) ps p result → ReachesTo shown bytes all at (close_in p (writing ops n)) ps p result) ops n
       (λ none_wait. subst (λ os. ReachesTo shown bytes all at (ends (turns (enters none p) said.CommitEmpty)) ps p result → ReachesTo shown bytes all at (close_in p (writing os n)) ps p result) (sym none_wait) (unprinted_reaches shown bytes all at (λ h. false) (λ h. ends (turns (enters none p) said.CommitEmpty)) ps p result (λ h. refl)))
       (λ op more some_wait. subst (λ os. ReachesTo shown bytes all at (looks (λ h. commits p (enters none p) h (op ∷ more))) ps p result → ReachesTo shown bytes all at (close_in p (writing os n)) ps p result) (sym some_wait) (λ r. r))
-      (subst (λ (m : Next T J). ReachesTo shown bytes all at (rest_next p 0 (prefix all at) m) ps p result) is k))
+      (subst (λ (m : Next T J). ReachesTo shown bytes all at (rest_next p 0 m) ps p result) is k))
 
-  pub close_reading : (begun : ℕ) (next : Next T J) → p.block ≡ reading begun → stmt ≡ stmts.Commit → next ≡ end_of_block (reading begun) → ReachesTo shown bytes all at (rest_next p 0 (prefix all at) next) ps p result → ReachesTo shown bytes all at (named_here p bytes stmt) ps p result
+  pub close_reading : (begun : ℕ) (next : Next T J) → p.block ≡ reading begun → stmt ≡ stmts.Commit → next ≡ end_of_block (reading begun) → ReachesTo shown bytes all at (rest_next p 0 next) ps p result → ReachesTo shown bytes all at (named_here p bytes stmt) ps p result
   close_reading begun next e i is k =
-      close_as (reading begun) e i (unprinted_reaches shown bytes all at (λ h. false) (λ h. ends (turns (enters none p) said.End)) ps p result (λ h. refl) (subst (λ (m : Next T J). ReachesTo shown bytes all at (rest_next p 0 (prefix all at) m) ps p result) is k))
+      close_as (reading begun) e i (unprinted_reaches shown bytes all at (λ h. false) (λ h. ends (turns (enters none p) said.End)) ps p result (λ h. refl) (subst (λ (m : Next T J). ReachesTo shown bytes all at (rest_next p 0 m) ps p result) is k))
 
   -- a block is given up
-  pub given_up_told : (b : Block) (next : Next T J) → p.block ≡ b → ((h : History) → prints b kinds.RollsBack (roster h) (refusal_of (position h) (roster h) stmts.Rollback) ≡ false) → stmt ≡ stmts.Rollback → next ≡ said_once (given_up p.block) (changes.Enters opens.Nothing) → ReachesTo shown bytes all at (rest_next p 0 (prefix all at) next) ps p result → ReachesTo shown bytes all at (named_here p bytes stmt) ps p result
+  pub given_up_told : (b : Block) (next : Next T J) → p.block ≡ b → ((h : History) → prints b kinds.RollsBack (roster h) (refusal_of (position h) (roster h) stmts.Rollback) ≡ false) → stmt ≡ stmts.Rollback → next ≡ said_once (given_up p.block) (changes.Enters opens.Nothing) → ReachesTo shown bytes all at (rest_next p 0 next) ps p result → ReachesTo shown bytes all at (named_here p bytes stmt) ps p result
   given_up_told b next e never i is k =
       reaches_as shown bytes all at (named_here p bytes stmt) (sees (λ h. prints b kinds.RollsBack (roster h) (refusal_of (position h) (roster h) stmts.Rollback)) (λ h. ends (turns (enters none p) (given_up p.block)))) ps p result (ap (named_here p bytes) i ∙ ap (λ x. sees (λ h. prints x kinds.RollsBack (roster h) (refusal_of (position h) (roster h) stmts.Rollback)) (λ h. ends (turns (enters none p) (given_up p.block)))) e)
-      (unprinted_reaches shown bytes all at (λ h. prints b kinds.RollsBack (roster h) (refusal_of (position h) (roster h) stmts.Rollback)) (λ h. ends (turns (enters none p) (given_up p.block))) ps p result never (subst (λ (m : Next T J). ReachesTo shown bytes all at (rest_next p 0 (prefix all at) m) ps p result) is k))
+      (unprinted_reaches shown bytes all at (λ h. prints b kinds.RollsBack (roster h) (refusal_of (position h) (roster h) stmts.Rollback)) (λ h. ends (turns (enters none p) (given_up p.block))) ps p result never (subst (λ (m : Next T J). ReachesTo shown bytes all at (rest_next p 0 m) ps p result) is k))
 
   -- a query in a read block
-  pub query_read : (begun : ℕ) (next : Next T J) → p.block ≡ reading begun → looks_at_names (kind_of stmt) ≡ true → block_refusal p.block (kind_of stmt) ≡ None → IsLeftOf shown p bytes stmt (prefix all begun) next → ((read : ℕ) → ReachesTo shown bytes all at (rest_next p read (prefix all at) next) ps p result) → ReachesTo shown bytes all at (named_here p bytes stmt) ps p result
+  pub query_read : (begun : ℕ) (next : Next T J) → p.block ≡ reading begun → looks_at_names (kind_of stmt) ≡ true → block_refusal p.block (kind_of stmt) ≡ None → IsLeftOf shown p bytes stmt (prefix all begun) next → ((read : ℕ) → ReachesTo shown bytes all at (rest_next p read next) ps p result) → ReachesTo shown bytes all at (named_here p bytes stmt) ps p result
   query_read begun next e names pass l k =
       reaches_as shown bytes all at (named_here p bytes stmt) (here_in p bytes stmt (reading begun)) ps p result (here_is p bytes stmt (reading begun) e)
       (unprinted_reaches shown bytes all at (λ h. false) (λ h. turn_of_names p bytes stmt (prefix h begun)) ps p result (λ h. refl)
-      (reaches_as shown bytes all at (turn_of_names p bytes stmt (prefix all begun)) (rest_next p l.read (prefix all at) next) ps p result (left_is ∙ rest_is next (subst (λ b. LeftIn b next) e l.left) l.rest) (k l.read)))
+      (reaches_as shown bytes all at (turn_of_names p bytes stmt (prefix all begun)) (rest_next p l.read next) ps p result (left_is ∙ sym l.rest) (k l.read)))
     where
       left_is : turn_of_names p bytes stmt (prefix all begun) ≡ left_of shown p bytes stmt (prefix all begun)
       left_is = named_left shown p bytes p.block (prefix all begun) stmt names pass (λ i. absurd (reads_none begun (sym e ∙ i)))
-
-      rest_is : (n : Next T J) → LeftIn (reading begun) n → rest_next p l.read (prefix all begun) n ≡ left_of shown p bytes stmt (prefix all begun) → left_of shown p bytes stmt (prefix all begun) ≡ rest_next p l.read (prefix all at) n
-      rest_is (nexts.Deed d) in_block i = absurd in_block
-      rest_is (nexts.End t) in_block i = sym i
 
 -- the next step of a query fits the history
 pub query_stands : {T J : Type 0} (shown : Shown T J) (bytes : ℕ) (all : History) (at begun : ℕ) (b : Block) (next : Next T J) → b ≡ reading begun → LeftIn b next → NextFits shown bytes next (state_of all) → NextStands shown bytes all at next
@@ -295,26 +291,26 @@ module _ {T J : Type 0} (shown : Shown T J) (bytes : ℕ) (all : History) (at : 
   opening_stands bytes stmts.Rollback next e = given_up_stands shown bytes all at (given_up p.block) next (sym (same_next _ next e))
   opening_stands bytes other next e = absurd cc
 
-  commit_told : (b : Block) (next : Next T J) (result : Result (Option (StatementOutcome T J)) NoMemory) → p.block ≡ b → block_refusal b kinds.Commits ≡ None → next ≡ end_of_block b → ReachesTo shown bytes all at (rest_next p 0 (prefix all at) next) ps p result → ReachesTo shown bytes all at (named_here p bytes stmts.Commit) ps p result
+  commit_told : (b : Block) (next : Next T J) (result : Result (Option (StatementOutcome T J)) NoMemory) → p.block ≡ b → block_refusal b kinds.Commits ≡ None → next ≡ end_of_block b → ReachesTo shown bytes all at (rest_next p 0 next) ps p result → ReachesTo shown bytes all at (named_here p bytes stmts.Commit) ps p result
   commit_told none next result i pass e k = absurd cc
   commit_told (writing ops n) next result i pass e k = close_writing shown bytes all at ps p stmts.Commit result ops n next i refl e k
   commit_told (reading begun) next result i pass e k = close_reading shown bytes all at ps p stmts.Commit result begun next i refl e k
 
-  rollback_told : (b : Block) (next : Next T J) (result : Result (Option (StatementOutcome T J)) NoMemory) → p.block ≡ b → block_refusal b kinds.RollsBack ≡ None → next ≡ said_once (given_up p.block) (changes.Enters opens.Nothing) → ReachesTo shown bytes all at (rest_next p 0 (prefix all at) next) ps p result → ReachesTo shown bytes all at (named_here p bytes stmts.Rollback) ps p result
+  rollback_told : (b : Block) (next : Next T J) (result : Result (Option (StatementOutcome T J)) NoMemory) → p.block ≡ b → block_refusal b kinds.RollsBack ≡ None → next ≡ said_once (given_up p.block) (changes.Enters opens.Nothing) → ReachesTo shown bytes all at (rest_next p 0 next) ps p result → ReachesTo shown bytes all at (named_here p bytes stmts.Rollback) ps p result
   rollback_told none next result i pass e k = absurd cc
   rollback_told (writing ops n) next result i pass e k = given_up_told shown bytes all at ps p stmts.Rollback result (writing ops n) next i (λ h. refl) refl e k
   rollback_told (reading begun) next result i pass e k = given_up_told shown bytes all at ps p stmts.Rollback result (reading begun) next i (λ h. refl) refl e k
 
   -- the first step of a statement that resolves no names
-  pub opening_told : (stmt : Stmt) (next : Next T J) (result : Result (Option (StatementOutcome T J)) NoMemory) → opening_of p stmt ≡ openings.Next next → block_refusal p.block (kind_of stmt) ≡ None → ((n : ℕ) → NextStands shown n all at next → ReachesTo shown n all at (rest_next p 0 (prefix all at) next) ps p result) → ReachesTo shown bytes all at (named_here p bytes stmt) ps p result
+  pub opening_told : (stmt : Stmt) (next : Next T J) (result : Result (Option (StatementOutcome T J)) NoMemory) → opening_of p stmt ≡ openings.Next next → block_refusal p.block (kind_of stmt) ≡ None → ((n : ℕ) → NextStands shown n all at next → ReachesTo shown n all at (rest_next p 0 next) ps p result) → ReachesTo shown bytes all at (named_here p bytes stmt) ps p result
   opening_told (stmts.Snap number) next result e pass k =
       let is : next ≡ nexts.Deed (hold_of (refresh_meant p number)) = sym (same_next _ next e) in
       snap_told shown bytes all at ps p (stmts.Snap number) result (snaps_outside p.block pass) number (hold_of (refresh_meant p number)) refl refl
-      (subst (λ (n : Next T J). ReachesTo shown bytes all at (rest_next p 0 (prefix all at) n) ps p result) is (k bytes (opening_stands bytes (stmts.Snap number) next e)))
+      (subst (λ (n : Next T J). ReachesTo shown bytes all at (rest_next p 0 n) ps p result) is (k bytes (opening_stands bytes (stmts.Snap number) next e)))
   opening_told stmts.Begin next result e pass k = begin_told shown bytes all at ps p stmts.Begin result (begins_none p.block pass) next refl (sym (same_next _ next e)) k
   opening_told stmts.BeginRead next result e pass k =
       read_told shown bytes all at ps p stmts.BeginRead result (begins_outside p.block pass) refl
-      (subst (λ (n : Next T J). ReachesTo shown bytes all at (rest_next p 0 (prefix all at) n) ps p result) (sym (same_next _ next e)) (k bytes (opening_stands bytes stmts.BeginRead next e)))
+      (subst (λ (n : Next T J). ReachesTo shown bytes all at (rest_next p 0 n) ps p result) (sym (same_next _ next e)) (k bytes (opening_stands bytes stmts.BeginRead next e)))
   opening_told stmts.Commit next result e pass k = commit_told p.block next result refl pass (sym (same_next _ next e)) (k bytes (opening_stands bytes stmts.Commit next e))
   opening_told stmts.Rollback next result e pass k = rollback_told p.block next result refl pass (sym (same_next _ next e)) (k bytes (opening_stands bytes stmts.Rollback next e))
   opening_told other next result e pass k = absurd cc

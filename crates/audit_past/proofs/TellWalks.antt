@@ -20,12 +20,9 @@ use Rattle.ts_sessions.specs.declared.deeds.Deed.{Deed}
 use Rattle.ts_sessions.specs.declared.deeds.Deed.TheVariants as deeds
 use Rattle.ts_sessions.specs.declared.deeds.Next.{Next}
 use Rattle.ts_sessions.specs.declared.deeds.Next.TheVariants as nexts
-use Rattle.audit_past.specs.declared.deed_replays.CallAt.{CallAt}
 use Rattle.audit_past.specs.declared.deed_replays.OutcomeAt.{OutcomeAt}
 use Rattle.audit_past.specs.declared.deed_replays.StatementOutcome.{StatementOutcome}
-use Rattle.audit_past.specs.declared.history_view.PastOutcome.{PastOutcome}
-use Rattle.audit_past.specs.declared.history_view.PastOutcome.TheVariants as came
-use Rattle.ts_sessions.specs.declared.follows.Followed.{Followed}
+use Rattle.audit_past.specs.declared.history_view.CallAt.{CallAt}
 use Rattle.ts_sessions.specs.Calls.{IsFollowed, OutcomeFits, left_after, meets_left}
 use Rattle.ts_sessions.specs.Deeds.{DeedFits, EndFits, Joins, NextFits, with_line, left_next, rest_next}
 use Rattle.ts_sessions.specs.Holding.{block_on}
@@ -34,11 +31,11 @@ use Rattle.ts_sessions.specs.Places.{Places, Turn}
 use Rattle.ts_sessions.specs.Procedures.{Procedure, sees, ends, followed_by, looks, tries_at}
 use Rattle.ts_sessions.specs.Sessions.{ChangeHolds, turn_of}
 use Rattle.ts_sessions.specs.Step.{after_line}
-use Rattle.audit_past.specs.Replay.{Tells, may_look}
-use Rattle.audit_past.specs.ReplaySteps.{AsksThere, CameWithin, IsMet, IsReached, IsWent, NextStands, TellsBy, TellsNothing, later_looks, met_of, next_look, state_of}
+use Rattle.audit_looks.specs.Replay.{Tells, may_look}
+use Rattle.audit_past.specs.ReplaySteps.{AsksThere, IsMet, IsReached, IsWent, NextStands, TellsBy, TellsNothing, later_looks, next_look, state_of}
 use Rattle.ts_sessions.proofs.DeedWalks.{joined_turn, led_turn}
 use Rattle.ts_sessions.proofs.GivesLaws.{numbered}
-use Rattle.audit_past.proofs.ReplayLaws.{tells_as}
+use Rattle.audit_looks.proofs.ReplayLaws.{tells_as}
 
 -- ---- events
 
@@ -193,53 +190,35 @@ look_again {A} all at look shown f (p ∷ ps) e s =
 
 -- ---- calls
 
-pub came_within : {A : Type 0} (act : Act A) (all : History) (at : ℕ) (c : PastOutcome A) → CameTo act (event_at all (suc at)) c → CameWithin at (position all) c
-came_within (refuses r) all at c w = subst (CameWithin at (position all)) (sym w) tt
-came_within (returns a) all at c w = subst (CameWithin at (position all)) (sym w) tt
-came_within (makes e a) all at (came.Made b) w = numbered all (suc at) e w.0
-came_within (makes e a) all at (came.Returned b) w = absurd w
-came_within (makes e a) all at (came.Refused r) w = absurd w
-came_within (makes e a) all at came.Otherwise w = tt
+-- what a call leads to at its history
+met_tells : {A B : Type 0} (all : History) (at : ℕ) (h : History) (act : Act A) (m : CallAt A) (k : Result A Refusal → Procedure B) (ps : List ℕ) → CameTo act all at (Some m) → TellsBy all at (followed_by (tries_at h act) k) ps m.at (k m.came) ps
+met_tells {A} all at h (refuses r) m k ps w = subst (λ (x : CallAt A). TellsBy all at (k (Err r)) ps x.at (k x.came) ps) (sym (same_Some m _ w)) (tells_same all at (k (Err r)) ps)
+met_tells {A} all at h (returns a) m k ps w = subst (λ (x : CallAt A). TellsBy all at (k (Ok a)) ps x.at (k x.came) ps) (sym (same_Some m _ w)) (tells_same all at (k (Ok a)) ps)
+met_tells {A} all at h (makes e a) m k ps w =
+    subst (λ (x : CallAt A). TellsBy all at (followed_by (tries_at h (makes e a)) k) ps x.at (k x.came) ps) (sym w.1)
+    (record { given = λ s. s ++ (suc at, e) ∷ []; tells = λ s r t. inl (w.0, t) })
 
--- the rest after a call at its history
-pub call_tells : {A B : Type 0} (all : History) (at : ℕ) (h : History) (act : Act A) (c : PastOutcome A) (m : CallAt A) (k : Result A Refusal → Procedure B) (ps : List ℕ) → CameTo act (event_at all (suc at)) c → met_of at c ≡ Some m → TellsBy all at (followed_by (tries_at h act) k) ps m.at (k m.came) ps
-call_tells {A} {B} all at h (refuses r) c m k ps w is =
-    let e : record { came = Err r; at = at } ≡ m = same_Some _ m (sym (ap (met_of at) w) ∙ is) in
-    subst (λ (x : CallAt A). TellsBy all at (k (Err r)) ps x.at (k x.came) ps) e (tells_same all at (k (Err r)) ps)
-call_tells {A} {B} all at h (returns a) c m k ps w is =
-    let e : record { came = Ok a; at = at } ≡ m = same_Some _ m (sym (ap (met_of at) w) ∙ is) in
-    subst (λ (x : CallAt A). TellsBy all at (k (Ok a)) ps x.at (k x.came) ps) e (tells_same all at (k (Ok a)) ps)
-call_tells {A} {B} all at h (makes e a) (came.Made b) m k ps w is =
-    let procedure = followed_by (tries_at h (makes e a)) k in
-    subst (λ (x : CallAt A). TellsBy all at procedure ps x.at (k x.came) ps) (same_Some (record { came = Ok b; at = suc at }) m is)
-    (record {
-      given = λ s. s ++ (suc at, e) ∷ [];
-      tells = λ s r t. inl (w.0, subst (λ x. Tells all (suc at) (s ++ (suc at, e) ∷ []) (k (Ok x)) ps r) w.1 t);
-    })
-call_tells all at h (makes e a) (came.Returned b) m k ps w is = absurd w
-call_tells all at h (makes e a) (came.Refused r) m k ps w is = absurd w
-call_tells all at h (makes e a) came.Otherwise m k ps w is = absurd (true≢false (sym (ap is_some is)))
+met_lies : {A : Type 0} (act : Act A) (all : History) (at : ℕ) (m : CallAt A) → at ≤ position all → CameTo act all at (Some m) → LiesWithin all at m.at
+met_lies {A} (refuses r) all at m le w = subst (λ (x : CallAt A). LiesWithin all at x.at) (sym (same_Some m _ w)) (record { low = omega arith; high = le })
+met_lies {A} (returns a) all at m le w = subst (λ (x : CallAt A). LiesWithin all at x.at) (sym (same_Some m _ w)) (record { low = omega arith; high = le })
+met_lies {A} (makes e a) all at m le w = subst (λ (x : CallAt A). LiesWithin all at x.at) (sym w.1) (record { low = omega arith; high = numbered all (suc at) e w.0 })
+
+pub call_lies : {A : Type 0} (act : Act A) (all : History) (at : ℕ) (c : Option (CallAt A)) (m : CallAt A) → at ≤ position all → CameTo act all at c → c ≡ Some m → LiesWithin all at m.at
+call_lies act all at c m le w is = met_lies act all at m le (subst (CameTo act all at) is w)
 
 -- a call whose event isn't that of the history
-pub call_nothing : {A B : Type 0} (all : History) (at : ℕ) (h : History) (act : Act A) (c : PastOutcome A) (k : Result A Refusal → Procedure B) (ps : List ℕ) → CameTo act (event_at all (suc at)) c → met_of at c ≡ None → TellsNothing all at (followed_by (tries_at h act) k) ps
-call_nothing all at h (refuses r) c k ps w is = absurd (true≢false (ap is_some (sym (ap (met_of at) w) ∙ is)))
-call_nothing all at h (returns a) c k ps w is = absurd (true≢false (ap is_some (sym (ap (met_of at) w) ∙ is)))
-call_nothing all at h (makes e a) (came.Made b) k ps w is = absurd (true≢false (ap is_some is))
-call_nothing all at h (makes e a) (came.Returned b) k ps w is = absurd w
-call_nothing all at h (makes e a) (came.Refused r) k ps w is = absurd w
-call_nothing all at h (makes e a) came.Otherwise k ps w is = λ s. inr (w, refl)
+unmet : {A B : Type 0} (all : History) (at : ℕ) (h : History) (act : Act A) (k : Result A Refusal → Procedure B) (ps : List ℕ) → CameTo act all at None → TellsNothing all at (followed_by (tries_at h act) k) ps
+unmet all at h (refuses r) k ps w = absurd (true≢false (sym (ap is_some w)))
+unmet all at h (returns a) k ps w = absurd (true≢false (sym (ap is_some w)))
+unmet all at h (makes e a) k ps w = λ s. inr (w, refl)
 
-pub met_lies : {A : Type 0} (all : History) (at : ℕ) (c : PastOutcome A) (m : CallAt A) → at ≤ position all → CameWithin at (position all) c → met_of at c ≡ Some m → LiesWithin all at m.at
-met_lies {A} all at (came.Made b) m le w is = subst (λ (x : CallAt A). LiesWithin all at x.at) (same_Some _ m is) (record { low = omega arith; high = w })
-met_lies {A} all at (came.Returned b) m le w is = subst (λ (x : CallAt A). LiesWithin all at x.at) (same_Some _ m is) (record { low = omega arith; high = le })
-met_lies {A} all at (came.Refused r) m le w is = subst (λ (x : CallAt A). LiesWithin all at x.at) (same_Some _ m is) (record { low = omega arith; high = le })
-met_lies all at came.Otherwise m le w is = absurd (true≢false (sym (ap is_some is)))
+pub call_nothing : {A B : Type 0} (all : History) (at : ℕ) (h : History) (act : Act A) (c : Option (CallAt A)) (k : Result A Refusal → Procedure B) (ps : List ℕ) → CameTo act all at c → c ≡ None → TellsNothing all at (followed_by (tries_at h act) k) ps
+call_nothing all at h act c k ps w is = unmet all at h act k ps (subst (CameTo act all at) is w)
 
 -- ---- what fits a history fits a longer one
 
 pub asks_there : {T J : Type 0} (shown : Shown T J) (d : Deed T J) (h : History) → DeedFits shown d (state_of h) → AsksThere d h
 asks_there shown (deeds.Cut asked then) h k = k
-asks_there shown (deeds.Fill new made) h k = k.1
 asks_there shown other h k = tt
 
 change_on : {T J : Type 0} (shown : Shown T J) (fits_on : (job : J) (g h : History) → Begins g h → shown.fits job g → shown.fits job h) (g h : History) (c : Change T J) → Begins g h → ((bytes : ℕ) → ChangeHolds shown bytes c g) → (bytes : ℕ) → ChangeHolds shown bytes c h
@@ -260,11 +239,12 @@ next_stands shown fits_on all at (nexts.End t) k bytes = record { change = chang
 -- ---- store calls
 
 -- a call that may create an event
-pub met_by : {A T J : Type 0} (shown : Shown T J) (all : History) (at before : ℕ) (act : Act A) (c : PastOutcome A) (m : CallAt A) (k : Places → ℕ → Result A Refusal → Procedure (Turn Places)) (outcome : CallOutcome T) → at ≤ position all → CameTo act (event_at all (suc at)) c → met_of at c ≡ Some m → ((p : Places) (read : ℕ) → k p read m.came ≡ left_after p read (prefix all m.at) outcome) → OutcomeFits shown (prefix all m.at) outcome → meets_left outcome ≡ before → IsMet shown all at before (λ p read. followed_by (tries_at (prefix all at) act) (k p read)) (record { outcome = outcome; at = m.at })
-met_by shown all at before act c m k outcome le w is same fits left =
-    let lies = met_lies all at c m le (came_within act all at c w) is in
+pub met_by : {A T J : Type 0} (shown : Shown T J) (all : History) (at before : ℕ) (act : Act A) (c : Option (CallAt A)) (m : CallAt A) (k : Places → ℕ → Result A Refusal → Procedure (Turn Places)) (line : Option Said) (outcome : CallOutcome T) → at ≤ position all → CameTo act all at c → c ≡ Some m → ((p : Places) (read : ℕ) → k p read m.came ≡ with_line line (left_after p read (prefix all m.at) outcome)) → OutcomeFits shown (prefix all m.at) outcome → meets_left outcome ≤ before → IsMet shown all at before (λ p read. followed_by (tries_at (prefix all at) act) (k p read)) (record { said = line; outcome = outcome; at = m.at })
+met_by shown all at before act c m k line outcome le w is same fits left =
+    let met = subst (CameTo act all at) is w in
+    let lies = met_lies act all at m le met in
     record {
-      tells = λ p read ps. subst (λ d. TellsBy all at (followed_by (tries_at (prefix all at) act) (k p read)) ps m.at d ps) (same p read) (call_tells all at (prefix all at) act c m (k p read) ps w is);
+      tells = λ p read ps. subst (λ d. TellsBy all at (followed_by (tries_at (prefix all at) act) (k p read)) ps m.at d ps) (same p read) (met_tells all at (prefix all at) act m (k p read) ps met);
       fits = fits;
       left_so = left;
       low = lies.low;
@@ -272,7 +252,7 @@ met_by shown all at before act c m k outcome le w is same fits left =
     }
 
 -- a call that creates none
-pub met_here : {T J : Type 0} (shown : Shown T J) (all : History) (at before : ℕ) (procedure : Places → ℕ → Procedure (Turn Places)) (outcome : CallOutcome T) → at ≤ position all → ((p : Places) (read : ℕ) → procedure p read ≡ left_after p read (prefix all at) outcome) → OutcomeFits shown (prefix all at) outcome → meets_left outcome ≡ before → IsMet shown all at before procedure (record { outcome = outcome; at = at })
+pub met_here : {T J : Type 0} (shown : Shown T J) (all : History) (at before : ℕ) (procedure : Places → ℕ → Procedure (Turn Places)) (outcome : CallOutcome T) → at ≤ position all → ((p : Places) (read : ℕ) → procedure p read ≡ left_after p read (prefix all at) outcome) → OutcomeFits shown (prefix all at) outcome → meets_left outcome ≤ before → IsMet shown all at before procedure (record { said = None; outcome = outcome; at = at })
 met_here shown all at before procedure outcome le same fits left = record {
   tells = λ p read ps. subst (λ d. TellsBy all at (procedure p read) ps at d ps) (same p read) (tells_same all at (procedure p read) ps);
   fits = fits;
@@ -282,12 +262,15 @@ met_here shown all at before procedure outcome le same fits left = record {
 }
 
 -- what follows a call
-pub met_follows : {T J : Type 0} (shown : Shown T J) (fits_on : (job : J) (g h : History) → Begins g h → shown.fits job g → shown.fits job h) (all : History) (at before : ℕ) (procedure : Places → ℕ → Procedure (Turn Places)) (m : OutcomeAt T) (f : Followed T J) (from to : ℕ) → IsMet shown all at before procedure m → IsFollowed shown (prefix all m.at) m.outcome f from to → IsWent shown all at before procedure (record { said = f.said; next = f.next; at = m.at })
-met_follows shown fits_on all at before procedure m f from to i w = record {
+pub met_follows : {T J : Type 0} (shown : Shown T J) (fits_on : (job : J) (g h : History) → Begins g h → shown.fits job g → shown.fits job h) (all : History) (at before : ℕ) (procedure : Places → ℕ → Procedure (Turn Places)) (m : OutcomeAt T) (next : Next T J) (from to : ℕ) → IsMet shown all at before procedure m → IsFollowed shown (prefix all m.at) m.outcome next from to → IsWent shown all at before procedure (record { said = m.said; next = next; at = m.at })
+met_follows shown fits_on all at before procedure m next from to i w = record {
   read_then = w.read_then;
-  tells = λ p read ps. subst (λ d. TellsBy all at (procedure p read) ps m.at d ps) (sym (w.rest_so p read)) (i.tells p read ps);
-  stands = next_stands shown fits_on all m.at f.next (λ bytes. w.fits (state_of (prefix all m.at)) bytes refl);
+  tells = λ p read ps. subst (λ d. TellsBy all at (procedure p read) ps m.at (with_line m.said d) ps) (sym (w.rest_so p read)) (i.tells p read ps);
+  stands = next_stands shown fits_on all m.at next (λ bytes. w.fits (state_of (prefix all m.at)) bytes refl);
   low = i.low;
   high = i.high;
-  shorter = subst (λ n. left_next f.next < n) i.left_so w.shorter;
+  shorter =
+      let fewer : left_next next < meets_left m.outcome = w.shorter in
+      let most : meets_left m.outcome ≤ before = i.left_so in
+      omega (arith, fewer, most);
 }

@@ -1,4 +1,2 @@
-pub mod Replay
 pub mod Pasts
-pub mod ReplayLaws
 pub mod ReplaySteps

@@ -1,15 +1,12 @@
 -- The outcome of a store call at a position of a whole history.
-use Rattle.std.specs.Prelude.{◌≡◌, Option, Some}
-use Rattle.ts_model.specs.declared.events.Event.{Event}
+use Rattle.std.specs.Prelude.{◌≡◌, ℕ, suc, Option, Some, None, Ok, Err}
 use Rattle.ts_model.specs.Calls.{Act, refuses, returns, makes}
-use Rattle.audit_past.specs.declared.history_view.PastOutcome.{PastOutcome}
-use Rattle.audit_past.specs.declared.history_view.PastOutcome.TheVariants.{Made, Returned, Refused, Otherwise}
+use Rattle.ts_model.specs.History.{History, event_at}
+use Rattle.audit_past.specs.declared.history_view.CallAt.{CallAt}
 
--- a call with this effect has this outcome, if this is the next event of the history, or if there is none
-abbrev pub CameTo : {A : Type 0} → Act A → Option Event → PastOutcome A → Type 0
-CameTo (refuses r) next c = c ≡ Refused r
-CameTo (returns a) next c = c ≡ Returned a
-CameTo (makes e a) next (Made b) = (next ≡ Some e) × (b ≡ a)
-CameTo (makes e a) next (Returned b) = ⊥
-CameTo (makes e a) next (Refused r) = ⊥
-CameTo (makes e a) next Otherwise = next ≡ Some e → ⊥
+-- a call that does this at a position of the history has this outcome, or none
+abbrev pub CameTo : {A : Type 0} → Act A → History → ℕ → Option (CallAt A) → Type 0
+CameTo (refuses r) all at met = met ≡ Some (record { came = Err r; at = at })
+CameTo (returns a) all at met = met ≡ Some (record { came = Ok a; at = at })
+CameTo (makes e a) all at (Some m) = (event_at all (suc at) ≡ Some e) × (m ≡ record { came = Ok a; at = suc at })
+CameTo (makes e a) all at None = event_at all (suc at) ≡ Some e → ⊥

@@ -1,5 +1,5 @@
 -- The parts of the replay of a statement over a whole history.
-use Rattle.std.specs.Prelude.{◌≡◌, ℕ, suc, ◌≤◌, ◌<◌, Bool, true, false, ◌&&◌, nat_le, cond, List, [], ◌∷◌, Option, Some, None, Result, Ok, Err, ⊤}
+use Rattle.std.specs.Prelude.{◌≡◌, ℕ, ◌≤◌, ◌<◌, false, ◌&&◌, nat_le, cond, List, [], ◌∷◌, Option, Some, None, Result, Ok, Err, ⊤}
 use Rattle.ts_schema.specs.declared.memory.NoMemory.{NoMemory}
 use Rattle.ts_model.specs.declared.events.Event.{Event}
 use Rattle.ts_model.specs.declared.outcomes.Refusal.{Refusal}
@@ -12,19 +12,15 @@ use Rattle.ts_sessions.specs.declared.deeds.Deed.{Deed}
 use Rattle.ts_sessions.specs.declared.deeds.Deed.TheVariants as deeds
 use Rattle.ts_sessions.specs.declared.deeds.Next.{Next}
 use Rattle.ts_sessions.specs.declared.deeds.Next.TheVariants as nexts
-use Rattle.audit_past.specs.declared.deed_replays.CallAt.{CallAt}
 use Rattle.audit_past.specs.declared.deed_replays.OutcomeAt.{OutcomeAt}
 use Rattle.audit_past.specs.declared.deed_replays.StatementOutcome.{StatementOutcome}
 use Rattle.audit_past.specs.declared.deed_replays.StepOutcome.{StepOutcome}
-use Rattle.audit_past.specs.declared.history_view.PastOutcome.{PastOutcome}
-use Rattle.audit_past.specs.declared.history_view.PastOutcome.TheVariants.{Made, Returned, Refused, Otherwise}
 use Rattle.ts_sessions.specs.Calls.{OutcomeFits, left_after, meets_left}
-use Rattle.ts_sessions.specs.Deeds.{EndFits, IsAsked, Joins, with_line, left_next, rest, rest_next, said_once}
+use Rattle.ts_sessions.specs.Deeds.{EndFits, IsAsked, Joins, with_line, left_next, rest_next, said_once}
 use Rattle.ts_sessions.specs.Places.{Block, Places, Turn}
 use Rattle.ts_sessions.specs.Procedures.{Procedure, sees, adds, ends, followed_by, tries_at}
 use Rattle.ts_sessions.specs.Sessions.{IsReply, places_after, turn_of}
-use Rattle.ts_sessions.specs.Sound.{IsThere}
-use Rattle.audit_past.specs.Replay.{Told, Tells}
+use Rattle.audit_looks.specs.Replay.{Told, Tells}
 use Rattle.stmt_syntax.specs.declared.statements.Stmt.{Stmt}
 use Rattle.audit_past.specs.declared.lines.ReplayedLine.{ReplayedLine}
 use Rattle.ts_model.specs.Roster.{roster}
@@ -57,31 +53,9 @@ after_look h (ends a) = ends a
 
 -- ---- store calls
 
--- the position of a store call is its read position. A call that fills an aggregate reads at the creation of the
--- aggregate, to find its number
-abbrev pub meets_at : {T J : Type 0} → History → ℕ → List ℕ → Deed T J → Option ℕ
-meets_at all at ps (deeds.Fill new made) = Some at
-meets_at all at ps other = next_look all at ps
-
--- whether a store call fills an aggregate
-abbrev pub fills_view : {T J : Type 0} → Deed T J → Bool
-fills_view (deeds.Fill new made) = true
-fills_view other = false
-
--- the read positions that are left after a store call
-abbrev pub looks_then : {T J : Type 0} → List ℕ → Deed T J → List ℕ
-looks_then ps (deeds.Fill new made) = ps
-looks_then ps other = later_looks ps
-
--- the rest of a statement whose store call is made at this history
-abbrev pub rest_at : {T J : Type 0} → Places → ℕ → History → Deed T J → Procedure (Turn Places)
-rest_at {T} {J} p read h (deeds.Fill new made) = rest {T = T} {J = J} p read h (deeds.Fill new made)
-rest_at {T} {J} p read h other = after_look h (rest {T = T} {J = J} p read h other)
-
--- the aggregate to refresh or fill exists
+-- the aggregate to refresh exists
 abbrev pub AsksThere : {T J : Type 0} → Deed T J → History → Type 0
 AsksThere (deeds.Cut asked then) h = IsAsked h asked
-AsksThere (deeds.Fill new made) h = IsThere h new.name
 AsksThere other h = ⊤
 
 -- ---- calls
@@ -89,18 +63,6 @@ AsksThere other h = ⊤
 -- the rest after a call with this effect at a history, by its outcome
 abbrev pub does_at : {A B : Type 0} → History → (History → Act A) → (Result A Refusal → Procedure B) → Procedure B
 does_at h act k = followed_by (tries_at h (act h)) k
-
--- an event that a call creates lies within the history
-abbrev pub CameWithin : {A : Type 0} → ℕ → ℕ → PastOutcome A → Type 0
-CameWithin at end (Made a) = suc at ≤ end
-CameWithin at end other = ⊤
-
--- the outcome of a call at a position, and the position after it
-abbrev pub met_of : {A : Type 0} → ℕ → PastOutcome A → Option (CallAt A)
-met_of at (Made a) = Some (record { came = Ok a; at = suc at })
-met_of at (Returned a) = Some (record { came = Ok a; at = at })
-met_of at (Refused r) = Some (record { came = Err r; at = at })
-met_of at Otherwise = None
 
 -- ---- outcomes
 
@@ -136,9 +98,9 @@ TellsNothing all at procedure ps = (so_far : List (ℕ × Event)) → Tells all 
 pub record IsMet {T J : Type 0} (shown : Shown T J) (all : History) (at before : ℕ)
     (procedure : Places → ℕ → Procedure (Turn Places)) (m : OutcomeAt T) : Type 0 where
   pub tells : (p : Places) (read : ℕ) (ps : List ℕ) → TellsBy all at (procedure p read) ps m.at
-      (left_after p read (prefix all m.at) m.outcome) ps
+      (with_line m.said (left_after p read (prefix all m.at) m.outcome)) ps
   pub fits : OutcomeFits shown (prefix all m.at) m.outcome
-  pub left_so : meets_left m.outcome ≡ before
+  pub left_so : meets_left m.outcome ≤ before
   pub low : at ≤ m.at
   pub high : m.at ≤ position all
 
@@ -153,7 +115,7 @@ pub record IsWent {T J : Type 0} (shown : Shown T J) (all : History) (at before 
     (procedure : Places → ℕ → Procedure (Turn Places)) (w : StepOutcome T J) : Type 0 where
   pub read_then : ℕ → ℕ
   pub tells : (p : Places) (read : ℕ) (ps : List ℕ) → TellsBy all at (procedure p read) ps w.at
-      (with_line w.said (rest_next p (read_then read) (prefix all w.at) w.next)) ps
+      (with_line w.said (rest_next p (read_then read) w.next)) ps
   pub stands : (bytes : ℕ) → NextStands shown bytes all w.at w.next
   pub low : at ≤ w.at
   pub high : w.at ≤ position all

@@ -1,39 +1,34 @@
 //! Replays store calls over a history: what each does at its position there.
-ghost use Rattle.std.specs.Prelude.{◌≡◌, ℕ, suc, ◌<◌, ◌≤◌, ◌^◌, true, IsTrue, IfOk};
+ghost use Rattle.std.specs.Prelude.{◌≡◌, ℕ, ◌<◌, ◌≤◌, ◌^◌, None, length, IsTrue, IfOk};
 ghost use Rattle.std.specs.Thread.{IsSync};
-ghost use Rattle.ts_model.specs.History.{History, event_at, position as position_of, prefix};
+ghost use Rattle.ts_model.specs.History.{History, position as position_of, prefix};
 ghost use Rattle.ts_model.specs.Allowed.{all_allowed};
-ghost use Rattle.ts_model.specs.Calls.{act_of_finish as finishing_of};
-ghost use Rattle.ts_sessions.specs.Deeds.{at_in, cut_in, turn_of_finish, with_line, left, rest_next};
-ghost use Rattle.audit_past.specs.Pasts.{CameTo};
+ghost use Rattle.ts_model.specs.Calls.{act_of_finish as finishing_of, making_view};
+ghost use Rattle.ts_model.specs.Roster.{roster as roster_of};
+ghost use Rattle.ts_sessions.specs.declared.calls.CallOutcome.TheVariants as outcomes;
+ghost use Rattle.ts_sessions.specs.Deeds.{at_in, cut_in, turn_of_finish, with_line, left, rest, rest_next};
 ghost use Rattle.ts_sessions.specs.Places.{Places, Turn};
 ghost use Rattle.ts_sessions.specs.Procedures.{Procedure, ends};
-ghost use Rattle.audit_past.specs.ReplaySteps.{AsksThere, CameWithin, GoesTo, LedTo, MeetsAt, NextStands, ReachesTo, does_at, fills_view, later_looks, looks_then, meets_at, met_of, next_look as look_told, rest_at};
+ghost use Rattle.ts_sessions.specs.Step.{after_view};
+ghost use Rattle.audit_past.specs.ReplaySteps.{AsksThere, GoesTo, LedTo, MeetsAt, NextStands, ReachesTo, after_look, does_at, later_looks, next_look as look_told};
 
-use crate::history_view::{Past, PastOutcome};
+use crate::history_view::{Past, ReplayPoint};
 use result_text::Said;
 use std::alloc::Global;
 use std::thread::Threads;
-use ts_model::{Refusal, Shown};
+use ts_model::{Refusal, Shown, ViewDef};
 use ts_schema::{NoMemory, Steps};
 use ts_sessions::calls::CallOutcome;
 use ts_sessions::changes::Completion;
-use ts_sessions::deeds::{Deed, FinishSource, Next, prepend_line};
-use ts_sessions::events::{all_of, new_view, view_number};
+use ts_sessions::deeds::{ChangeLine, Deed, FinishSource, Next, prepend_line};
+use ts_sessions::events::{new_view, whole_refresh};
 use ts_sessions::follows::follow;
-
-/// The outcome of a call at a position.
-#[derive(Drop)]
-pub(crate) struct CallAt<A> {
-    /// What it did, or why it was refused.
-    pub came: Result<A, Refusal>,
-    /// The position after it.
-    pub at: u64,
-}
 
 /// The outcome of a store call at a position.
 #[derive(Drop)]
 pub(crate) struct OutcomeAt<T> {
+    /// A line that is replied before the statement ends.
+    pub said: Option<Said>,
     /// The outcome.
     pub outcome: CallOutcome<T>,
     /// The position after it.
@@ -66,14 +61,15 @@ where
     pub last: u64,
 }
 
-/// Continues a statement after a store call, with the remaining read positions. `None`: the history explains no
-/// such statement.
+/// Replays the rest of a statement, after a line that is already replied. `None`: the history explains no such
+/// statement.
 pub(crate) fn go_on<R: Threads + Sync, P: Past, L>(
     rt: &R,
     alloc: Global,
     past: &P,
-    looks: &[u64],
-    went: StepOutcome<P::Shot>,
+    point: ReplayPoint<'_>,
+    said: Option<Said>,
+    next: Next<P::Shot>,
     steps: &mut Steps<L>,
 ) -> Result<Option<StatementOutcome<P::Shot>>, NoMemory>
 where
@@ -81,35 +77,35 @@ where
     requires sync { IsSync R.row }
     requires counts { steps.old < 2 ^ 64 }
     requires allowed { IsTrue (all_allowed (P.all past.now)) }
-    requires known { P.from past.now ≤ went.at }
-    requires within { went.at ≤ position_of (P.all past.now) }
-    requires stands { (bytes : ℕ) × NextStands P.Shot.Shown bytes (P.all past.now) went.at went.next }
-    ensures { (p : Places) (read bytes : ℕ) → NextStands P.Shot.Shown bytes (P.all past.now) went.at went.next
-        → ReachesTo P.Shot.Shown bytes (P.all past.now) went.at
-        (with_line went.said (rest_next p read (prefix (P.all past.now) went.at) went.next)) looks.now p result }
+    requires known { P.from past.now ≤ point.at }
+    requires within { point.at ≤ position_of (P.all past.now) }
+    requires stands { (bytes : ℕ) × NextStands P.Shot.Shown bytes (P.all past.now) point.at next }
+    ensures { (p : Places) (read bytes : ℕ) → NextStands P.Shot.Shown bytes (P.all past.now) point.entry.at next
+        → ReachesTo P.Shot.Shown bytes (P.all past.now) point.entry.at (with_line said (rest_next p read next))
+        point.entry.looks.now p result }
 {
-    let StepOutcome { said, next, at } = went;
     match next {
         Next::End(completion) => led_by(
             said,
             Some(StatementOutcome {
                 completion,
-                last: at,
+                last: point.at,
             }),
         ),
-        Next::Deed(deed) => match place_of(past, at, looks, &deed) {
+        Next::Deed(deed) => match next_look(past, point.at, point.looks) {
             None => Ok(None),
-            Some(at) => {
-                let looks = looks_after(looks, &deed);
-                match act(rt, alloc, past, at, deed, steps)? {
-                    None => Ok(None),
-                    Some(went) => {
-                        let _so_far = steps.count();
-                        let reached = go_on(rt, alloc, past, looks, went, steps)?;
-                        led_by(said, reached)
-                    }
+            Some(look) => match act(rt, alloc, past, look, deed, steps)? {
+                None => Ok(None),
+                Some(went) => {
+                    let _so_far = steps.count();
+                    let later = ReplayPoint {
+                        at: went.at,
+                        looks: after_next(point.looks),
+                    };
+                    let reached = go_on(rt, alloc, past, later, went.said, went.next, steps)?;
+                    led_by(said, reached)
                 }
-            }
+            },
         },
     }
 }
@@ -158,40 +154,7 @@ pub(crate) fn after_next(looks: &[u64]) -> &[u64]
     }
 }
 
-/// The position of a store call: its read position, or `at` if it fills an aggregate.
-fn place_of<P: Past>(past: &P, at: u64, looks: &[u64], deed: &Deed<P::Shot>) -> Option<u64>
-where
-    <P::Shot as Shown>::Job: Drop,
-    ensures { result ≡ meets_at (P.all past.now) at looks.now deed.now }
-{
-    match fills(deed) {
-        true => Some(at),
-        false => next_look(past, at, looks),
-    }
-}
-
-/// The read positions that are left after a store call.
-fn looks_after<'a, T: Shown + Drop>(looks: &'a [u64], deed: &Deed<T>) -> &'a [u64]
-where
-    T::Job: Drop,
-    ensures { result.now ≡ looks_then looks.now deed.now }
-{
-    match fills(deed) {
-        true => looks,
-        false => after_next(looks),
-    }
-}
-
-/// Whether a store call fills a new aggregate.
-fn fills<T: Shown + Drop>(deed: &Deed<T>) -> bool
-where
-    T::Job: Drop,
-    ensures { result ≡ fills_view deed.now }
-{
-    matches!(deed, Deed::Fill { .. })
-}
-
-/// Performs a store call at a position of the history, and follows its outcome.
+/// Makes a store call at a position of the history, and follows its outcome.
 pub(crate) fn act<R: Threads + Sync, P: Past, L>(
     rt: &R,
     alloc: Global,
@@ -209,7 +172,7 @@ where
     requires within { at ≤ position_of (P.all past.now) }
     requires asks { AsksThere deed (prefix (P.all past.now) at) }
     ensures { GoesTo P.Shot.Shown (P.all past.now) at (left deed)
-        (λ p read. rest_at p read (prefix (P.all past.now) at) deed) result }
+        (λ p read. after_look (prefix (P.all past.now) at) (rest p read deed)) result }
 {
     let met = call(past, at, deed)?;
     follow_met(rt, alloc, met, steps)
@@ -232,10 +195,10 @@ where
     match met {
         None => Ok(None),
         Some(met) => {
-            let followed = follow(rt, alloc, met.outcome, steps)?;
+            let next = follow(rt, alloc, met.outcome, steps)?;
             Ok(Some(StepOutcome {
-                said: followed.said,
-                next: followed.next,
+                said: met.said,
+                next,
                 at: met.at,
             }))
         }
@@ -255,74 +218,40 @@ where
     requires within { at ≤ position_of (P.all past.now) }
     requires asks { AsksThere deed (prefix (P.all past.now) at) }
     ensures { IfOk result (MeetsAt P.Shot.Shown (P.all past.now) at (left deed)
-        (λ p read. rest_at p read (prefix (P.all past.now) at) deed)) }
+        (λ p read. after_look (prefix (P.all past.now) at) (rest p read deed))) }
 {
     match deed {
         Deed::Make(making) => {
             let line = making.line();
-            let came = past.make(at, making);
-            match with_place(past, at, came) {
+            match past.make(at, making) {
                 None => Ok(None),
-                Some(met) => Ok(Some(OutcomeAt {
-                    outcome: CallOutcome::Number {
-                        line,
-                        came: met.came,
-                    },
-                    at: met.at,
-                })),
+                Some(met) => Ok(Some(number_outcome(line, met.came, met.at))),
             }
         }
-        Deed::Commit { ops, leaves } => {
-            let came = past.commit(at, ops);
-            match with_place(past, at, came) {
-                None => Ok(None),
-                Some(met) => Ok(Some(OutcomeAt {
-                    outcome: CallOutcome::Commit {
-                        leaves,
-                        came: met.came,
-                    },
-                    at: met.at,
-                })),
-            }
-        }
-        Deed::View { def, filled } => {
-            let new = new_view(&def)?;
-            let came = past.make_view(at, def);
-            match with_place(past, at, came) {
-                None => Ok(None),
-                Some(met) => Ok(Some(OutcomeAt {
-                    outcome: CallOutcome::View {
-                        new,
-                        filled,
-                        came: met.came,
-                    },
-                    at: met.at,
-                })),
-            }
-        }
-        Deed::Fill { new, made } => {
-            let shot = past.at(at)?;
-            let view = view_number(shot.roster().views.items(), &new.name);
-            let asked = all_of(view, &new.width);
-            Ok(Some(OutcomeAt {
-                outcome: CallOutcome::Found { asked, made },
-                at,
-            }))
-        }
-        Deed::Cut { asked, then } => {
-            let came = past.cut(at, asked.view, asked.lo, asked.hi);
-            match with_place(past, at, came) {
-                None => Ok(None),
-                Some(met) => Ok(Some(OutcomeAt {
-                    outcome: CallOutcome::Cut {
-                        asked,
-                        then,
-                        came: met.came,
-                    },
-                    at: met.at,
-                })),
-            }
-        }
+        Deed::Commit { ops, leaves } => match past.commit(at, ops) {
+            None => Ok(None),
+            Some(met) => Ok(Some(OutcomeAt {
+                said: None,
+                outcome: CallOutcome::Commit {
+                    leaves,
+                    came: met.came,
+                },
+                at: met.at,
+            })),
+        },
+        Deed::View { def, filled } => make_view(past, at, def, filled),
+        Deed::Cut { asked, then } => match past.cut(at, asked.view, asked.lo, asked.hi) {
+            None => Ok(None),
+            Some(met) => Ok(Some(OutcomeAt {
+                said: None,
+                outcome: CallOutcome::Cut {
+                    asked,
+                    then,
+                    came: met.came,
+                },
+                at: met.at,
+            })),
+        },
         Deed::Finish {
             job: _job,
             finishing,
@@ -330,10 +259,58 @@ where
         Deed::Look(then) => {
             let shot = past.at(at)?;
             Ok(Some(OutcomeAt {
+                said: None,
                 outcome: CallOutcome::Look { then, shot },
                 at,
             }))
         }
+    }
+}
+
+/// The outcome of a call that creates one event, which this line reports.
+fn number_outcome<T: Drop>(line: ChangeLine, came: Result<u64, Refusal>, at: u64) -> OutcomeAt<T>
+    ensures { result ≡ record { said = None; outcome = outcomes.Number line came; at = at } }
+{
+    OutcomeAt {
+        said: None,
+        outcome: CallOutcome::Number { line, came },
+        at,
+    }
+}
+
+/// The outcome of making an aggregate. If it is to be filled, its number is found for the refresh that follows.
+fn make_view<P: Past>(
+    past: &P,
+    at: u64,
+    def: ViewDef,
+    filled: bool,
+) -> Result<Option<OutcomeAt<P::Shot>>, NoMemory>
+where
+    <P::Shot as Shown>::Job: Drop,
+    requires allowed { IsTrue (all_allowed (P.all past.now)) }
+    requires known { P.from past.now ≤ at }
+    requires within { at ≤ position_of (P.all past.now) }
+    ensures { IfOk result (MeetsAt P.Shot.Shown (P.all past.now) at 4 (λ p read. does_at (prefix (P.all past.now) at)
+        (making_view def) (after_view p (length (roster_of (prefix (P.all past.now) at)).views) def filled))) }
+{
+    let new = new_view(&def)?;
+    match past.make_view(at, def) {
+        None => Ok(None),
+        Some(met) => match met.came {
+            Ok(made) => match filled {
+                true => {
+                    let shot = past.at(met.at)?;
+                    let asked = whole_refresh(&shot, &new);
+                    Ok(Some(OutcomeAt {
+                        said: Some(Said::View(made)),
+                        outcome: CallOutcome::Found { asked },
+                        at: met.at,
+                    }))
+                }
+                false => Ok(Some(number_outcome(ChangeLine::View, Ok(made), met.at))),
+            },
+            Err(refusal) => Ok(Some(number_outcome(ChangeLine::View, Err(refusal), met.at))),
+        },
     }
 }
 
@@ -350,39 +327,15 @@ where
     ensures { MeetsAt P.Shot.Shown (P.all past.now) at 1 (λ p read. does_at (prefix (P.all past.now) at)
         (finishing_of (cut_in finishing) (at_in finishing)) (λ r. ends (turn_of_finish p read finishing r))) result }
 {
-    let came = past.finish(at, finishing.cut(), finishing.at());
-    match with_place(past, at, came) {
+    match past.finish(at, finishing.cut(), finishing.at()) {
         None => None,
         Some(met) => Some(OutcomeAt {
+            said: None,
             outcome: CallOutcome::Finish {
                 finishing,
                 came: met.came,
             },
             at: met.at,
         }),
-    }
-}
-
-/// The outcome of a call and the position after it. `None` if the history has another event there.
-fn with_place<P: Past, A>(past: &P, at: u64, came: PastOutcome<A>) -> Option<CallAt<A>>
-    requires { CameWithin at (position_of (P.all past.now)) came }
-    ensures { result ≡ met_of at came }
-{
-    // A position that is read has 64 bits.
-    let _end = past.length();
-    match came {
-        PastOutcome::Made(value) => Some(CallAt {
-            came: Ok(value),
-            at: at + 1,
-        }),
-        PastOutcome::Returned(value) => Some(CallAt {
-            came: Ok(value),
-            at,
-        }),
-        PastOutcome::Refused(refusal) => Some(CallAt {
-            came: Err(refusal),
-            at,
-        }),
-        PastOutcome::Otherwise => None,
     }
 }

@@ -8,15 +8,13 @@
 //! - `statements`: replays statements, by the block of their session.
 //! - `write_blocks`: replays statements of a write block.
 //! - `lines`: replays a line of a session.
-//! - `laws`: laws of replays.
 #![tactic(auto)]
 
 mod deed_replays;
 mod history_view;
-pub mod laws;
 mod lines;
 mod statements;
 mod write_blocks;
 
-pub use history_view::{Past, PastOutcome};
+pub use history_view::{CallAt, Past, ReplayPoint};
 pub use lines::{ReplayedLine, replay};

@@ -10,7 +10,7 @@ ghost use Rattle.ts_sessions.specs.Sessions.{ChangeFits, HoldsAfter};
 ghost use Rattle.audit_past.specs.ReplaySteps.{LineTells, ReachesTo, RepliesTo, state_of};
 
 use crate::deed_replays::StatementOutcome;
-use crate::history_view::Past;
+use crate::history_view::{Past, ReplayPoint};
 use crate::statements::{refuse_at, replay_statement};
 use std::alloc::Global;
 use std::thread::Threads;
@@ -28,11 +28,10 @@ pub struct ReplayedLine {
     pub last: u64,
 }
 
-/// Replays a line over a history, and changes the session as the line says. `at` is the session's last read
-/// position or event. `looks` holds the read positions that the reply prints, in order; a read that prints none is
-/// at the end of the history. `text` is the line before its comment; its statement begins after the first `skip`
-/// bytes. `None`: the history doesn't explain the line. Its event isn't the history's next one, or a read has no
-/// position.
+/// Replays a line over a history, and changes the session as the line says. `point` holds the session's last read
+/// position or event, and the read positions that the reply prints. A read that prints none is at the end of the
+/// history. `text` is the line before its comment. Its statement begins after the first `skip` bytes. `None`: the
+/// history doesn't explain the line. Its event isn't the history's next one, or a read has no position.
 ///
 /// After `None` and `NoMemory` no clause says which session state is left. What it holds still fits the history,
 /// and its name and its number are unchanged.
@@ -41,8 +40,7 @@ pub fn replay<T: Shown + Drop, R: Threads + Sync, P: Past<Shot = T>, L>(
     alloc: Global,
     session: &mut Session<T>,
     past: &P,
-    at: u64,
-    looks: &[u64],
+    point: ReplayPoint<'_>,
     text: &[u8],
     skip: u32,
     steps: &mut Steps<L>,
@@ -54,10 +52,10 @@ where
     requires within { skip ≤ length text.now }
     requires room { waiting_bytes session.old + length text.now ≤ most_queued }
     requires allowed { IsTrue (all_allowed (P.all past.now)) }
-    requires known { P.from past.now ≤ at }
-    requires reached { at ≤ position_of (P.all past.now) }
+    requires known { P.from past.now ≤ point.at }
+    requires reached { point.at ≤ position_of (P.all past.now) }
     requires holds { HoldsOf T.Shown session.old (state_of (P.all past.now)) }
-    ensures told { LineTells (P.all past.now) at (reply_to (places_in session.old) text.now skip) looks.now
+    ensures told { LineTells (P.all past.now) point.entry.at (reply_to (places_in session.old) text.now skip) point.entry.looks.now
         session.old.name (places_in session.new) result }
     ensures name { session.new.name ≡ session.old.name }
     ensures number { session.new.number ≡ session.old.number }
@@ -65,7 +63,7 @@ where
     ensures queued { waiting_bytes session.new ≤ waiting_bytes session.old + length text.now }
 {
     let _so_far = steps.count();
-    match replay_line(rt, alloc, session, past, at, looks, text, skip, steps)? {
+    match replay_line(rt, alloc, session, past, point, text, skip, steps)? {
         None => Ok(None),
         Some(reached) => {
             let line = replay_reply(alloc, session, reached)?;
@@ -101,8 +99,7 @@ fn replay_line<T: Shown + Drop, R: Threads + Sync, P: Past<Shot = T>, L>(
     alloc: Global,
     session: &Session<T>,
     past: &P,
-    at: u64,
-    looks: &[u64],
+    point: ReplayPoint<'_>,
     text: &[u8],
     skip: u32,
     steps: &mut Steps<L>,
@@ -114,23 +111,31 @@ where
     requires short { length text.now ≤ longest_line }
     requires within { skip ≤ length text.now }
     requires allowed { IsTrue (all_allowed (P.all past.now)) }
-    requires known { P.from past.now ≤ at }
-    requires reached { at ≤ position_of (P.all past.now) }
+    requires known { P.from past.now ≤ point.at }
+    requires reached { point.at ≤ position_of (P.all past.now) }
     requires holds { HoldsOf T.Shown session.now (state_of (P.all past.now)) }
-    ensures { ReachesTo T.Shown (length text.now) (P.all past.now) at
-        (reply_to (places_in session.now) text.now skip) looks.now (places_in session.now) result }
+    ensures { ReachesTo T.Shown (length text.now) (P.all past.now) point.entry.at
+        (reply_to (places_in session.now) text.now skip) point.entry.looks.now (places_in session.now) result }
 {
     match read_stmt(alloc, text, skip) {
         ReadStmt::Stmt(stmt) => match session.block.barrier(kind_of(&stmt)) {
-            Some(refusal) => refuse_at(alloc, refusal, at),
+            Some(refusal) => refuse_at(alloc, refusal, point.at),
             None => {
                 let bytes = text.len() as u64;
-                replay_statement(rt, alloc, session, past, at, looks, &stmt, bytes, steps)
+                replay_statement(rt, alloc, session, past, point, &stmt, bytes, steps)
             }
         },
-        ReadStmt::NoToken(place) => refuse_at(alloc, text_refusal(codes::NO_TOKEN, place), at),
-        ReadStmt::Syntax(place) => refuse_at(alloc, text_refusal(codes::SYNTAX, place), at),
-        ReadStmt::BadNumber(place) => refuse_at(alloc, text_refusal(codes::BAD_NUMBER, place), at),
+        ReadStmt::NoToken(place) => refuse_at(
+            alloc,
+            text_refusal(codes::NO_TOKEN, place),
+            point.at,
+        ),
+        ReadStmt::Syntax(place) => refuse_at(alloc, text_refusal(codes::SYNTAX, place), point.at),
+        ReadStmt::BadNumber(place) => refuse_at(
+            alloc,
+            text_refusal(codes::BAD_NUMBER, place),
+            point.at,
+        ),
         ReadStmt::NoMemory => Err(NoMemory),
     }
 }

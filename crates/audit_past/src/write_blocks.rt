@@ -20,7 +20,7 @@ ghost use Rattle.ts_sessions.specs.Step.{kind_of as kind_of_stmt, named_here};
 ghost use Rattle.audit_past.specs.ReplaySteps.{ReachesTo, next_look as look_told, refused_at, shown_as, queued_operation, waits_at};
 
 use crate::deed_replays::{StatementOutcome, next_look};
-use crate::history_view::Past;
+use crate::history_view::{Past, ReplayPoint};
 use crate::statements::{end_of_statement, refuse_at};
 use event_check::op_is_fit;
 use result_text::Said;
@@ -42,8 +42,7 @@ use ts_sessions::queries::{Plan, answer_line, in_form};
 pub(crate) fn replay_change<P: Past>(
     alloc: Global,
     past: &P,
-    at: u64,
-    looks: &[u64],
+    point: ReplayPoint<'_>,
     stmt: &Stmt,
     bytes: u64,
 ) -> Result<Option<StatementOutcome<P::Shot>>, NoMemory>
@@ -52,14 +51,14 @@ where
     requires sound { AsksSoundly bytes stmt.now }
     requires changes { kind_of_stmt stmt.now ≡ kinds.Changes }
     requires allowed { IsTrue (all_allowed (P.all past.now)) }
-    requires known { P.from past.now ≤ at }
-    requires within { at ≤ position_of (P.all past.now) }
+    requires known { P.from past.now ≤ point.at }
+    requires within { point.at ≤ position_of (P.all past.now) }
     ensures { (p : Places) (ops : List OpMade) (n : ℕ) → p.block ≡ writing ops n → ReachesTo P.Shot.Shown bytes
-        (P.all past.now) at (named_here p bytes stmt.now) looks.now p result }
+        (P.all past.now) point.entry.at (named_here p bytes stmt.now) point.entry.looks.now p result }
 {
-    match refused_there(alloc, past, at, looks, stmt)? {
+    match refused_there(alloc, past, point, stmt)? {
         Some(reached) => Ok(Some(reached)),
-        None => wait(alloc, past, at, stmt, bytes),
+        None => wait(alloc, past, point.at, stmt, bytes),
     }
 }
 
@@ -67,17 +66,16 @@ where
 fn refused_there<P: Past>(
     alloc: Global,
     past: &P,
-    at: u64,
-    looks: &[u64],
+    point: ReplayPoint<'_>,
     stmt: &Stmt,
 ) -> Result<Option<StatementOutcome<P::Shot>>, NoMemory>
 where
     <P::Shot as Shown>::Job: Drop,
     requires allowed { IsTrue (all_allowed (P.all past.now)) }
-    requires known { P.from past.now ≤ at }
-    ensures { IfOk result (λ o. o ≡ refused_at (P.all past.now) stmt.now (look_told (P.all past.now) at looks.now)) }
+    requires known { P.from past.now ≤ point.at }
+    ensures { IfOk result (λ o. o ≡ refused_at (P.all past.now) stmt.now (look_told (P.all past.now) point.entry.at point.entry.looks.now)) }
 {
-    match next_look(past, at, looks) {
+    match next_look(past, point.at, point.looks) {
         None => Ok(None),
         Some(look) => {
             let shot = past.at(look)?;
@@ -153,8 +151,7 @@ pub(crate) fn replay_query<R: Threads + Sync, P: Past, L>(
     rt: &R,
     alloc: Global,
     past: &P,
-    at: u64,
-    looks: &[u64],
+    point: ReplayPoint<'_>,
     queue: &Queue,
     stmt: &Stmt,
     bytes: u64,
@@ -168,11 +165,11 @@ where
     requires waits { IsQueue (P.all past.now) queue.now.bytes queue.now.ops }
     requires room { queue.now.bytes ≤ most_queued }
     requires allowed { IsTrue (all_allowed (P.all past.now)) }
-    requires known { P.from past.now ≤ at }
+    requires known { P.from past.now ≤ point.at }
     ensures { (p : Places) → p.block ≡ writing queue.now.ops queue.now.bytes → ReachesTo P.Shot.Shown bytes
-        (P.all past.now) at (named_here p bytes stmt.now) looks.now p result }
+        (P.all past.now) point.entry.at (named_here p bytes stmt.now) point.entry.looks.now p result }
 {
-    match next_look(past, at, looks) {
+    match next_look(past, point.at, point.looks) {
         None => Ok(None),
         Some(look) => {
             let shot = past.at(look)?;

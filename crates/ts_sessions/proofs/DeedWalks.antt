@@ -1,6 +1,6 @@
 -- Store calls: each leads to what comes next, and a statement is carried out from any of them.
 use Rattle.std.proofs.Common.{◌≡◌, ℕ, ◌≤◌, Bool, true, false, List, length, Option, Some, None, sym, refl, ◌∙◌, ap, subst, inr, arith}
-use Rattle.std.specs.Prelude.{ℤ, Result, Ok, Err, IsTrue, OnOk}
+use Rattle.std.specs.Prelude.{◌||◌, Result, Ok, Err, IsTrue, OnOk}
 use Rattle.std.specs.Result.{IsErr}
 use Rattle.std.proofs.lemmas.Bool.{true≢false}
 use Rattle.ts_schema.specs.Counts.{raised_by}
@@ -9,7 +9,7 @@ use Rattle.ts_bucket.specs.Bucket.{first_of}
 use Rattle.ts_model.specs.declared.outcomes.Outcome.{Outcome}
 use Rattle.ts_model.specs.declared.outcomes.Refusal.{Refusal}
 use Rattle.ts_model.specs.declared.views.ViewDef.{ViewDef}
-use Rattle.ts_model.specs.Calls.{Answered, Called, Looked, making_view}
+use Rattle.ts_model.specs.Calls.{Called, Looked, making_view}
 use Rattle.ts_model.specs.Roster.{roster}
 use Rattle.result_text.specs.declared.replies.Said.{Said}
 use Rattle.result_text.specs.declared.replies.Said.TheVariants as said
@@ -25,6 +25,7 @@ use Rattle.ts_sessions.specs.declared.calls.CallOutcome.TheVariants as outcomes
 use Rattle.ts_sessions.specs.declared.calls.Meeting.{Meeting}
 use Rattle.ts_sessions.specs.declared.deeds.DeedOutcome.{DeedOutcome}
 use Rattle.ts_sessions.specs.declared.deeds.AfterLook.{AfterLook}
+use Rattle.ts_sessions.specs.declared.deeds.ChangeLine.TheVariants as lines
 use Rattle.ts_sessions.specs.declared.deeds.Deed.{Deed}
 use Rattle.ts_sessions.specs.declared.deeds.Deed.TheVariants as deeds
 use Rattle.ts_sessions.specs.declared.deeds.FinishSource.{FinishSource}
@@ -32,17 +33,16 @@ use Rattle.ts_sessions.specs.declared.deeds.FinishSource.TheVariants as finishin
 use Rattle.ts_sessions.specs.declared.deeds.Next.{Next}
 use Rattle.ts_sessions.specs.declared.deeds.Next.TheVariants as nexts
 use Rattle.ts_sessions.specs.declared.events.NewView.{NewView}
-use Rattle.ts_sessions.specs.declared.follows.Followed.{Followed}
 use Rattle.ts_sessions.specs.declared.refreshes.RefreshRequest.{RefreshRequest}
 use Rattle.ts_sessions.specs.declared.call_outcomes.Attempt.{Attempt}
 use Rattle.ts_sessions.specs.declared.call_outcomes.Attempt.TheVariants as tried
-use Rattle.ts_sessions.specs.Deeds.{Advances, CarriesOut, CountsFrom, DeedFits, Goes, IsAsked, Leads, IsLostBy, IsLostNext, Joins, MadeFits, NextFits, at_in, cut_in, with_line, led_lines, look_left, rest, rest_next, said_once, spent, spent_by, spent_next, view_leaves}
+use Rattle.ts_sessions.specs.Deeds.{Advances, CarriesOut, CountsFrom, DeedFits, Goes, IsAsked, Leads, IsLostBy, IsLostNext, Joins, NextFits, at_in, cut_in, with_line, led_lines, look_left, rest, rest_next, said_once, spent, spent_by, spent_next}
 use Rattle.ts_sessions.specs.Calls.{AnswersDeed, IsFollowed, Meets, MeetsTo, left_after}
 use Rattle.ts_sessions.specs.Places.{Places, Turn}
 use Rattle.ts_sessions.specs.Procedures.{Procedure, ending_as, ends, followed_by, looks, sees, tries_at}
 use Rattle.ts_sessions.specs.Sessions.{Brings, ChangeHolds, EndsAt, Tries, result_of, places_after, has_failed, turn_of}
-use Rattle.ts_sessions.specs.Sound.{IsThere, number_at, view_number}
-use Rattle.ts_sessions.specs.Step.{after_cut, after_line, after_view, cuts_refresh, finishes_refresh, view_made}
+use Rattle.ts_sessions.specs.Sound.{number_at}
+use Rattle.ts_sessions.specs.Step.{after_line, after_view, finishes_refresh, turn_of_line, view_made}
 use Rattle.ts_sessions.specs.Held.{GoesOn}
 use Rattle.ts_sessions.specs.Holding.{lost_stays}
 use Rattle.ts_sessions.specs.CallOutcomes.{IsTried}
@@ -52,7 +52,7 @@ use Rattle.ts_sessions.proofs.HoldLaws.{goes_ends}
 use Rattle.ts_sessions.proofs.JobLaws.{always_ok}
 use Rattle.ts_sessions.proofs.StateLaws.{goes_seen, sees_looked}
 use Rattle.ts_sessions.proofs.NameCheckWalks.{looked_breaks, looked_only, looked_walks}
-use Rattle.ts_sessions.proofs.ViewWalks.{done_outcome, made_is_named, number_named, view_stays, was_made}
+use Rattle.ts_sessions.proofs.ViewWalks.{made_by, named_on, view_stays}
 use Rattle.ts_sessions.proofs.WalkLaws.{break_together, breaks_first, breaks_seen, not_begun, put_together, walks_as, walks_break, walks_seen}
 
 -- ---- one store call
@@ -64,38 +64,45 @@ walk_leads alone failed old first mid a next w = record {
   breaks = λ new v. break_together alone failed old first mid a next new w v;
 }
 
-pub broken_off : {T J : Type 0} (alone : Bool) (old : State) (p : Places) (read : ℕ) (deed : Deed T J) (result : Result (DeedOutcome T J) NoMemory) (new : State) (before after : ℕ) → IsErr result → Breaks alone old (rest p read old.history deed) new → before ≤ after → Advances alone old p read deed result new before after
+pub broken_off : {T J : Type 0} (alone : Bool) (old : State) (p : Places) (read : ℕ) (deed : Deed T J) (result : Result (DeedOutcome T J) NoMemory) (new : State) (before after : ℕ) → IsErr result → Breaks alone old (rest p read deed) new → before ≤ after → Advances alone old p read deed result new before after
 broken_off alone old p read deed (Ok a) new before after i b rose = absurd (true≢false (sym i))
 broken_off alone old p read deed (Err e) new before after i b rose = (b, rose)
+
+-- one step after another
+pub leads_then : {A : Type 0} (alone failed : Bool) (a : State) (first : Procedure A) (b : State) (second : Procedure A) (c : State) (third : Procedure A) → Leads alone false a first b second → Leads alone failed b second c third → Leads alone failed a first c third
+leads_then alone failed a first b second c third v w = record {
+  walks = λ f new y k. v.walks (failed || f) new y (w.walks f new y k);
+  breaks = λ new k. v.breaks new (w.breaks new k);
+}
 
 -- ---- calls
 
 -- a call broke off because it ran out of memory
-pub call_broken : {T J : Type 0} (shown : Shown T J) (alone : Bool) (old : State) (deed : Deed T J) (result : Result (Meeting T) NoMemory) (new : State) → IsErr result → ((p : Places) (read : ℕ) → Breaks alone old (rest p read old.history deed) new) → MeetsTo shown alone old deed result new
+pub call_broken : {T J : Type 0} (shown : Shown T J) (alone : Bool) (old : State) (deed : Deed T J) (result : Result (Meeting T) NoMemory) (new : State) → IsErr result → ((p : Places) (read : ℕ) → Breaks alone old (rest p read deed) new) → MeetsTo shown alone old deed result new
 call_broken shown alone old deed (Ok m) new i b = absurd (true≢false (sym i))
 call_broken shown alone old deed (Err e) new i b = b
 
-pub tried_broken : {A T J : Type 0} (shown : Shown T J) (alone : Bool) (old : State) (deed like : Deed T J) (first : Procedure A) (k : Places → ℕ → A → Procedure (Turn Places)) (result : Result (Meeting T) NoMemory) (new : State) → IsErr result → deed ≡ like → ((p : Places) (read : ℕ) → rest p read old.history like ≡ followed_by first (k p read)) → Breaks alone old first new → MeetsTo shown alone old deed result new
+pub tried_broken : {A T J : Type 0} (shown : Shown T J) (alone : Bool) (old : State) (deed like : Deed T J) (first : Procedure A) (k : Places → ℕ → A → Procedure (Turn Places)) (result : Result (Meeting T) NoMemory) (new : State) → IsErr result → deed ≡ like → ((p : Places) (read : ℕ) → rest p read like ≡ followed_by first (k p read)) → Breaks alone old first new → MeetsTo shown alone old deed result new
 tried_broken {A} {T} {J} shown alone old deed like first k result new i e same b =
-    call_broken shown alone old deed result new i (λ p read. subst (λ (d : Deed T J). Breaks alone old (rest p read old.history d) new) (sym e) (subst (λ x. Breaks alone old x new) (sym (same p read)) (breaks_first alone old first (k p read) new b)))
+    call_broken shown alone old deed result new i (λ p read. subst (λ (d : Deed T J). Breaks alone old (rest p read d) new) (sym e) (subst (λ x. Breaks alone old x new) (sym (same p read)) (breaks_first alone old first (k p read) new b)))
 
--- a call that may append an event
-pub tried_meets : {A T J : Type 0} (shown : Shown T J) (alone : Bool) (old : State) (deed like : Deed T J) (first : Procedure (Result A Refusal)) (k : Places → ℕ → Result A Refusal → Procedure (Turn Places)) (t : Attempt A) (r : Result A Refusal) (failed : Bool) (outcome : CallOutcome T) (new : State) → deed ≡ like → ((p : Places) (read : ℕ) → rest p read old.history like ≡ followed_by first (k p read)) → ((p : Places) (read : ℕ) → left_after p read new.history outcome ≡ k p read r) → Tries alone old first (Ok t) new → failed ≡ has_failed t → r ≡ result_of t → AnswersDeed shown new.history like outcome → Meets shown alone old deed (record { outcome = outcome; failed = failed }) new
+-- a call that may make an event
+pub tried_meets : {A T J : Type 0} (shown : Shown T J) (alone : Bool) (old : State) (deed like : Deed T J) (first : Procedure (Result A Refusal)) (k : Places → ℕ → Result A Refusal → Procedure (Turn Places)) (t : Attempt A) (r : Result A Refusal) (failed : Bool) (outcome : CallOutcome T) (new : State) → deed ≡ like → ((p : Places) (read : ℕ) → rest p read like ≡ followed_by first (k p read)) → ((p : Places) (read : ℕ) → left_after p read new.history outcome ≡ k p read r) → Tries alone old first (Ok t) new → failed ≡ has_failed t → r ≡ result_of t → AnswersDeed shown new.history like outcome → Meets shown alone old deed (record { said = None; outcome = outcome; failed = failed }) new
 tried_meets {A} {T} {J} shown alone old deed like first k t r failed outcome new e same leaves w f j answers =
-    subst (λ (d : Deed T J). Meets shown alone old d (record { outcome = outcome; failed = failed }) new) (sym e)
+    subst (λ (d : Deed T J). Meets shown alone old d (record { said = None; outcome = outcome; failed = failed }) new) (sym e)
     (record {
       leads = λ p read.
-          subst (λ x. Leads alone x old (rest p read old.history like) new (left_after p read new.history outcome)) (sym f)
+          subst (λ x. Leads alone x old (rest p read like) new (left_after p read new.history outcome)) (sym f)
           (subst (λ x. Leads alone (has_failed t) old x new (left_after p read new.history outcome)) (sym (same p read))
           (subst (λ x. Leads alone (has_failed t) old (followed_by first (k p read)) new x) (sym (leaves p read ∙ ap (k p read) j)) (walk_leads alone (has_failed t) old first new (result_of t) (k p read) w)));
       answers = answers;
     })
 
--- the outcome of a call, and what follows it
-pub met_goes : {T J : Type 0} (shown : Shown T J) (alone : Bool) (old : State) (p : Places) (read : ℕ) (deed : Deed T J) (m : Meeting T) (f : Followed T J) (mid : State) (before after : ℕ) → Meets shown alone old deed m mid → IsFollowed shown mid.history m.outcome f before after → Goes alone old p read deed (record { said = f.said; next = f.next; failed = m.failed }) mid before after
-met_goes shown alone old p read deed m f mid before after k w = record {
+-- what a call leads to, and what follows it
+pub met_goes : {T J : Type 0} (shown : Shown T J) (alone : Bool) (old : State) (p : Places) (read : ℕ) (deed : Deed T J) (m : Meeting T) (next : Next T J) (mid : State) (before after : ℕ) → Meets shown alone old deed m mid → IsFollowed shown mid.history m.outcome next before after → Goes alone old p read deed (record { said = m.said; next = next; failed = m.failed }) mid before after
+met_goes shown alone old p read deed m next mid before after k w = record {
   read_then = w.read_then read;
-  leads = subst (λ x. Leads alone m.failed old (rest p read old.history deed) mid x) (sym (w.rest_so p read)) (k.leads p read);
+  leads = subst (λ x. Leads alone m.failed old (rest p read deed) mid (with_line m.said x)) (sym (w.rest_so p read)) (k.leads p read);
   spent_then = w.spent_so read;
   counted = λ from had. w.counted read from (subst (λ n. before ≡ raised_by n from) (sym (k.answers.spent_so read)) had);
   rose = w.rose;
@@ -164,7 +171,7 @@ went_on alone old p read next deed a mid t result new before between after e w z
     subst (λ q. CarriesOut alone old p read q result new before after) (sym e)
     (record {
       total = later.total;
-      ends = after_walk alone old (rest p read old.history deed) p later.total a t mid (rest_next p w.read_then mid.history a.next) result new w.leads later.ends j;
+      ends = after_walk alone old (rest p read deed) p later.total a t mid (rest_next p w.read_then a.next) result new w.leads later.ends j;
       counted = counts_any t result (spent read deed) later.total before after (λ from had. later.counted from (subst (λ m. between ≡ raised_by m from) (sym w.spent_then) (w.counted from had)));
       rose = omega (arith, w.rose, up);
     })
@@ -183,7 +190,7 @@ broken_later alone old p read next deed a mid e (Err x) new before between after
     subst (λ q. CarriesOut alone old p read q (Err x) new before after) (sym is)
     (record {
       total = 0;
-      ends = w.leads.breaks new (led_breaks a.said alone mid (rest_next p w.read_then mid.history a.next) new later.ends);
+      ends = w.leads.breaks new (led_breaks a.said alone mid (rest_next p w.read_then a.next) new later.ends);
       counted = tt;
       rose = omega (arith, w.rose, up);
     })
@@ -217,69 +224,81 @@ found_leads alone failed old found f mid left i w = record {
   breaks = λ new b. record { mid = found; first = inr i; rest = w.breaks new b };
 }
 
-made_same : (def : ViewDef) (filled : Bool) (found : State) (outcome : Outcome ℕ) (pos : ℕ) (t : Attempt ℕ) (mid : State) (name : List ℕ) (min : ℤ) (p : Places) → Answered (making_view def found.history) found outcome mid → IsTried pos outcome (Ok t) → name ≡ def.name → min ≡ first_of def.fold.width → after_view p (length (roster found.history).views) def filled (result_of t) ≡ view_leaves p (number_at mid.history name) min filled (result_of t)
-made_same def filled found outcome pos (tried.Done k) mid name min p w i e f =
-    let n = length (roster found.history).views in
-    let made = was_made def found k mid (subst (λ o. Answered (making_view def found.history) found o mid) (done_outcome pos outcome k i) w) in
-    let at : n ≡ number_at mid.history name = sym (number_named (roster mid.history) def.name n made.named) ∙ ap (view_number (roster mid.history)) (sym e) in
-    ap (λ x. view_made p x (first_of def.fold.width) k filled) at ∙ ap (λ x. view_made p (number_at mid.history name) x k filled) (sym f)
-made_same def filled found outcome pos (tried.Refused r) mid name min p w i e f = refl
-made_same def filled found outcome pos (tried.Failed r) mid name min p w i e f = refl
-
-pub view_leads : (alone : Bool) (old : State) (def : ViewDef) (filled : Bool) (outcome : Outcome ℕ) (pos : ℕ) (t : Attempt ℕ) (mid : State) (name : List ℕ) (min : ℤ) (p : Places) → Called alone old (making_view def) outcome mid → pos ≡ position mid.history → IsTried pos outcome (Ok t) → name ≡ def.name → min ≡ first_of def.fold.width → Leads alone (has_failed t) old (looks (λ g. followed_by (tries_at g (making_view def g)) (after_view p (length (roster g).views) def filled))) mid (view_leaves p (number_at mid.history name) min filled (result_of t))
-view_leads alone old def filled outcome pos t mid name min p c e i n m =
+-- an aggregate that was made, or not, leads to what follows by its number
+view_leads : (alone : Bool) (old : State) (def : ViewDef) (filled : Bool) (outcome : Outcome ℕ) (pos : ℕ) (t : Attempt ℕ) (mid : State) (p : Places) (c : Called alone old (making_view def) outcome mid) → pos ≡ position mid.history → IsTried pos outcome (Ok t) → Leads alone (has_failed t) old (looks (λ g. followed_by (tries_at g (making_view def g)) (after_view p (length (roster g).views) def filled))) mid (after_view p (length (roster c.found.history).views) def filled (result_of t))
+view_leads alone old def filled outcome pos t mid p c e i =
     let h = c.found.history in
     let w = answered_tries alone (making_view def h) c.found outcome mid (Ok t) c.answered (subst (λ x. IsTried x outcome (Ok t)) e i) in
-    subst (λ q. Leads alone (has_failed t) old (looks (λ g. followed_by (tries_at g (making_view def g)) (after_view p (length (roster g).views) def filled))) mid q) (made_same def filled c.found outcome pos t mid name min p c.answered i n m)
-    (found_leads alone (has_failed t) old c.found (λ g. followed_by (tries_at g (making_view def g)) (after_view p (length (roster g).views) def filled)) mid _ c.finds
-    (walk_leads alone (has_failed t) c.found (tries_at h (making_view def h)) mid (result_of t) (after_view p (length (roster h).views) def filled) w))
+    found_leads alone (has_failed t) old c.found (λ g. followed_by (tries_at g (making_view def g)) (after_view p (length (roster g).views) def filled)) mid _ c.finds
+    (walk_leads alone (has_failed t) c.found (tries_at h (making_view def h)) mid (result_of t) (after_view p (length (roster h).views) def filled) w)
 
-pub view_fits : (alone : Bool) (old : State) (def : ViewDef) (outcome : Outcome ℕ) (pos : ℕ) (t : Attempt ℕ) (mid : State) (name : List ℕ) → Called alone old (making_view def) outcome mid → IsTried pos outcome (Ok t) → name ≡ def.name → MadeFits (result_of t) mid.history name
-view_fits alone old def outcome pos (tried.Done k) mid name c i e = let w = made_is_named alone old def outcome pos (tried.Done k) k mid name c i refl e in (w.named, w.there)
-view_fits alone old def outcome pos (tried.Refused r) mid name c i e = tt
-view_fits alone old def outcome pos (tried.Failed r) mid name c i e = tt
-
--- a new aggregate
-pub view_meets : {T J : Type 0} (shown : Shown T J) (alone : Bool) (old : State) (deed : Deed T J) (def : ViewDef) (filled : Bool) (outcome : Outcome ℕ) (pos : ℕ) (t : Attempt ℕ) (r : Result ℕ Refusal) (failed : Bool) (new : NewView) (mid : State) → deed ≡ deeds.View def filled → Called alone old (making_view def) outcome mid → pos ≡ position mid.history → IsTried pos outcome (Ok t) → failed ≡ has_failed t → r ≡ result_of t → new.name ≡ def.name → new.width ≡ def.fold.width → Meets shown alone old deed (record { outcome = outcomes.View new filled r; failed = failed }) mid
-view_meets {T} {J} shown alone old deed def filled outcome pos t r failed new mid e c at i f j name width =
-    subst (λ (d : Deed T J). Meets shown alone old d (record { outcome = outcomes.View new filled r; failed = failed }) mid) (sym e)
+-- with no refresh after it
+pub view_ends : {T J : Type 0} (shown : Shown T J) (alone : Bool) (old : State) (def : ViewDef) (filled : Bool) (outcome : Outcome ℕ) (pos : ℕ) (t : Attempt ℕ) (r : Result ℕ Refusal) (failed : Bool) (m : Meeting T) (mid : State) → Called alone old (making_view def) outcome mid → pos ≡ position mid.history → IsTried pos outcome (Ok t) → failed ≡ has_failed t → result_of t ≡ r → m ≡ record { said = None; outcome = outcomes.Number lines.View r; failed = failed } → ((p : Places) (n : ℕ) → after_view p n def filled r ≡ ends (turn_of_line p said.View r)) → Meets {T = T} {J = J} shown alone old (deeds.View def filled) m mid
+view_ends {T} {J} shown alone old def filled outcome pos t r failed m mid c at i f j is same =
+    subst (λ (x : Meeting T). Meets {T = T} {J = J} shown alone old (deeds.View def filled) x mid) (sym is)
     (record {
       leads = λ p read.
-          let procedure = looks (λ g. followed_by (tries_at g (making_view def g)) (after_view p (length (roster g).views) def filled)) in
-          subst (λ x. Leads alone x old procedure mid (view_leaves p (number_at mid.history new.name) (first_of new.width) filled r)) (sym f)
-          (subst (λ x. Leads alone (has_failed t) old procedure mid (view_leaves p (number_at mid.history new.name) (first_of new.width) filled x)) (sym j)
-          (view_leads alone old def filled outcome pos t mid new.name (first_of new.width) p c at i name (ap first_of width)));
-      answers = record {
-        fits = subst (λ x. MadeFits x mid.history new.name) (sym j) (view_fits alone old def outcome pos t mid new.name c i name);
-        left_so = refl;
-        spent_so = λ read. refl;
-      };
+          let begun = rest {T = T} {J = J} p read (deeds.View def filled) in
+          let n = length (roster c.found.history).views in
+          subst (λ x. Leads alone x old begun mid (ends (turn_of_line p said.View r))) (sym f)
+          (subst (λ x. Leads alone (has_failed t) old begun mid x) (ap (after_view p n def filled) j ∙ same p n) (view_leads alone old def filled outcome pos t mid p c at i));
+      answers = record { fits = tt; left_so = omega arith; spent_so = λ read. refl };
     })
 
--- the number of a new aggregate
-pub found_meets : {T J : Type 0} (shown : Shown T J) (alone : Bool) (old : State) (deed : Deed T J) (new : NewView) (made : ℕ) (asked : RefreshRequest) (Reports : History → Type 0) (mid : State) → deed ≡ deeds.Fill new made → IsThere old.history new.name → Looked alone old Reports mid → asked ≡ record { view = number_at old.history new.name; lo = None; hi = None; min = first_of new.width } → Meets shown alone old deed (record { outcome = outcomes.Found asked made; failed = false }) mid
-found_meets {T} {J} shown alone old deed new made asked Reports mid e there looked is =
-    let n = number_at old.history new.name in
-    let min = first_of new.width in
-    subst (λ (d : Deed T J). Meets shown alone old d (record { outcome = outcomes.Found asked made; failed = false }) mid) (sym e)
+same_ok : (r : Result ℕ Refusal) (a k : ℕ) → r ≡ Ok a → r ≡ Ok k → a ≡ k
+same_ok r a k e f = cc
+
+done_attempt : (t : Attempt ℕ) (k : ℕ) → result_of t ≡ Ok k → t ≡ tried.Done k
+done_attempt (tried.Done a) k e = ap tried.Done (same_ok (Ok a) a k refl e)
+done_attempt (tried.Refused r) k e = absurd cc
+done_attempt (tried.Failed r) k e = absurd cc
+
+pub unfilled : (p : Places) (n : ℕ) (def : ViewDef) (filled : Bool) (k : ℕ) → filled ≡ false → after_view p n def filled (Ok k) ≡ ends (turn_of_line p said.View (Ok k))
+unfilled p n def filled k e = ap (λ b. after_view p n def b (Ok k)) e
+
+-- with a refresh after it
+filled_leads : (alone : Bool) (old : State) (def : ViewDef) (filled : Bool) (outcome : Outcome ℕ) (pos : ℕ) (t : Attempt ℕ) (k : ℕ) (mid : State) (p : Places) (c : Called alone old (making_view def) outcome mid) → pos ≡ position mid.history → IsTried pos outcome (Ok t) → t ≡ tried.Done k → filled ≡ true → Leads alone false old (looks (λ g. followed_by (tries_at g (making_view def g)) (after_view p (length (roster g).views) def filled))) mid (view_made p (length (roster c.found.history).views) (first_of def.fold.width) k true)
+filled_leads alone old def filled outcome pos t k mid p c at i done e =
+    let begun = looks (λ g. followed_by (tries_at g (making_view def g)) (after_view p (length (roster g).views) def filled)) in
+    let n = length (roster c.found.history).views in
+    subst (λ b. Leads alone false old begun mid (after_view p n def b (Ok k))) e
+    (subst (λ x. Leads alone (has_failed x) old begun mid (after_view p n def filled (result_of x))) done (view_leads alone old def filled outcome pos t mid p c at i))
+
+pub found_broken : (alone : Bool) (old : State) (def : ViewDef) (filled : Bool) (outcome : Outcome ℕ) (pos : ℕ) (t : Attempt ℕ) (k : ℕ) (mid : State) (p : Places) (Reports : History → Type 0) (last : State) → Called alone old (making_view def) outcome mid → pos ≡ position mid.history → IsTried pos outcome (Ok t) → result_of t ≡ Ok k → filled ≡ true → Looked alone mid Reports last → Breaks alone old (looks (λ g. followed_by (tries_at g (making_view def g)) (after_view p (length (roster g).views) def filled))) last
+found_broken alone old def filled outcome pos t k mid p Reports last c at i j e looked =
+    (filled_leads alone old def filled outcome pos t k mid p c at i (done_attempt t k j) e).breaks last (looked_only alone mid Reports last (λ h. true) _ looked)
+
+-- an aggregate that a later look found by its name
+pub view_found : {T J : Type 0} (shown : Shown T J) (alone : Bool) (old : State) (def : ViewDef) (filled : Bool) (outcome : Outcome ℕ) (pos : ℕ) (t : Attempt ℕ) (k : ℕ) (failed : Bool) (new : NewView) (mid : State) (asked : RefreshRequest) (Reports : History → Type 0) (last : State) → filled ≡ true → Called alone old (making_view def) outcome mid → pos ≡ position mid.history → IsTried pos outcome (Ok t) → failed ≡ has_failed t → result_of t ≡ Ok k → new.name ≡ def.name → new.width ≡ def.fold.width → Looked alone mid Reports last → asked ≡ record { view = number_at last.history new.name; lo = None; hi = None; min = first_of new.width } → Meets {T = T} {J = J} shown alone old (deeds.View def filled) (record { said = Some (said.View k); outcome = outcomes.Found asked; failed = failed }) last
+view_found {T} {J} shown alone old def filled outcome pos t k failed new mid asked Reports last e c at i f j name width looked is =
+    let n = length (roster c.found.history).views in
+    let on = begins_looked looked in
+    let done = done_attempt t k j in
+    let made = made_by alone old def outcome pos t k mid c i done in
+    let named : number_at last.history new.name ≡ n = ap (number_at last.history) name ∙ named_on mid.history last.history def.name n on made.named in
+    let like : asked ≡ record { view = n; lo = None; hi = None; min = first_of def.fold.width } =
+    is ∙ ap (λ v. record { view = v; lo = None; hi = None; min = first_of new.width }) named ∙ ap (λ w. record { view = n; lo = None; hi = None; min = first_of w }) width in
+    subst (λ b. Meets {T = T} {J = J} shown alone old (deeds.View def filled) (record { said = Some (said.View k); outcome = outcomes.Found asked; failed = b }) last) (sym (f ∙ ap has_failed done))
+    (subst (λ (a : RefreshRequest). Meets {T = T} {J = J} shown alone old (deeds.View def filled) (record { said = Some (said.View k); outcome = outcomes.Found a; failed = false }) last) (sym like)
     (record {
       leads = λ p read.
-          subst (λ a. Leads alone false old (view_made p n min made true) mid (ending_as (after_line (said.View made)) (followed_by (cuts_refresh a.view a.lo a.hi) (after_cut p a.min)))) (sym is)
-          (seen_leads alone old mid (λ h. true) _ (sees_looked alone old Reports mid looked));
+          let made_one = view_made p n (first_of def.fold.width) k true in
+          leads_then alone false old (rest {T = T} {J = J} p read (deeds.View def filled)) mid made_one last made_one (filled_leads alone old def filled outcome pos t k mid p c at i done e)
+          (seen_leads alone mid last (λ h. true) _ (sees_looked alone mid Reports last looked));
       answers = record {
-        fits = subst (λ a. IsAsked mid.history a) (sym is) (record { view = view_stays old.history mid.history n (begins_looked looked) there; low = λ x e. absurd cc; high = λ x e. absurd cc });
-        left_so = refl;
+        fits = record { view = view_stays mid.history last.history n on made.there; low = λ x e. absurd cc; high = λ x e. absurd cc };
+        left_so = omega arith;
         spent_so = λ read. refl;
       };
-    })
+    }))
 
 -- a snapshot
-pub look_meets : {T J : Type 0} (shown : Shown T J) (alone : Bool) (old : State) (deed : Deed T J) (then : AfterLook) (shot : T) (Reports : History → Type 0) (mid : State) → deed ≡ deeds.Look then → Looked alone old Reports mid → shown.stands shot mid.history → IsTrue (all_allowed mid.history) → Meets shown alone old deed (record { outcome = outcomes.Look then shot; failed = false }) mid
+pub look_meets : {T J : Type 0} (shown : Shown T J) (alone : Bool) (old : State) (deed : Deed T J) (then : AfterLook) (shot : T) (Reports : History → Type 0) (mid : State) → deed ≡ deeds.Look then → Looked alone old Reports mid → shown.stands shot mid.history → IsTrue (all_allowed mid.history) → Meets shown alone old deed (record { said = None; outcome = outcomes.Look then shot; failed = false }) mid
 look_meets {T} {J} shown alone old deed then shot Reports mid e looked stands allowed =
-    subst (λ (d : Deed T J). Meets shown alone old d (record { outcome = outcomes.Look then shot; failed = false }) mid) (sym e)
+    subst (λ (d : Deed T J). Meets shown alone old d (record { said = None; outcome = outcomes.Look then shot; failed = false }) mid) (sym e)
     (record {
       leads = λ p read. look_leads alone old Reports mid (λ h. true) (λ g. look_left p g then) looked;
-      answers = record { fits = (stands, allowed); left_so = refl; spent_so = λ read. refl };
+      answers = record { fits = (stands, allowed); left_so = omega arith; spent_so = λ read. refl };
     })
 
 -- ---- a refresh that can't be finished any more stays so
@@ -291,7 +310,7 @@ lost_on other g h on l = tt
 pub lost_later : {T J : Type 0} (alone : Bool) (next : Next T J) (deed : Deed T J) (then : Next T J) (p : Places) (read : ℕ) (result joined : Result (Completion T J) NoMemory) (g h : State) (before after : ℕ) → next ≡ nexts.Deed deed → CarriesOut alone g p read then result h before after → IsLostBy deed g → OnOk joined (IsLostNext next h)
 lost_later alone next deed then p read result joined g h before after e c l =
     subst (λ q. OnOk joined (IsLostNext q h)) (sym e)
-    (always_ok (IsLostBy deed h) joined (lost_on deed g h (goes_ends alone g (rest_next p read g.history then) p c.total result h c.ends) l))
+    (always_ok (IsLostBy deed h) joined (lost_on deed g h (goes_ends alone g (rest_next p read then) p c.total result h c.ends) l))
 
 pub lost_ended : {T J : Type 0} (next : Next T J) (t : Completion T J) (s : State) → next ≡ nexts.End t → IsLostNext next s
 lost_ended next t s e = subst (λ q. IsLostNext q s) (sym e) tt

@@ -41,23 +41,14 @@ use Rattle.ts_sessions.specs.Step.{answers, block_refusal, closes, commits, give
 use Rattle.ts_sessions.specs.Walks.{Breaks, Sees}
 use Rattle.ts_sessions.proofs.NamedLaws.{looks_once}
 use Rattle.ts_sessions.proofs.BlockWalks.{begins_outside, snaps_outside}
-use Rattle.ts_sessions.proofs.DeedWalks.{looks_leads, unspent}
+use Rattle.ts_sessions.proofs.DeedWalks.{leads_then, looks_leads, unspent}
 use Rattle.ts_sessions.proofs.EndLaws.{raised_up}
 use Rattle.ts_sessions.proofs.HeldDeeds.{leads_same}
 use Rattle.ts_sessions.proofs.HoldLaws.{empty_holds}
 use Rattle.ts_sessions.proofs.NameCheckWalks.{unraised}
 use Rattle.ts_sessions.proofs.WalkLaws.{not_begun}
 
--- ---- results
-
--- ---- reads
-
--- one step after another
-pub leads_then : {A : Type 0} (alone failed : Bool) (a : State) (first : Procedure A) (b : State) (second : Procedure A) (c : State) (third : Procedure A) → Leads alone false a first b second → Leads alone failed b second c third → Leads alone failed a first c third
-leads_then alone failed a first b second c third v w = record {
-  walks = λ f new y k. v.walks (failed || f) new y (w.walks f new y k);
-  breaks = λ new k. v.breaks new (w.breaks new k);
-}
+-- ---- looks
 
 pub saw_leads : {A : Type 0} (alone : Bool) (old mid : State) (shown : History → Bool) (f : History → Procedure A) → Sees alone old mid → Leads alone false old (sees shown f) mid (f mid.history)
 saw_leads alone old mid shown f s = record {
@@ -84,11 +75,11 @@ performs_ends alone s p bytes stmt y e i =
 
 -- ---- what comes first
 
-pub opens_here : {T J : Type 0} (shown : Shown T J) (bytes : ℕ) (alone : Bool) (s : State) (procedure : Procedure (Turn Places)) (p : Places) (next : Next T J) (n : ℕ) → n < 2 ^ 64 → Leads alone false s procedure s (rest_next p 0 s.history next) → NextFits shown bytes next s → Opens shown bytes alone s procedure p next s n n
+pub opens_here : {T J : Type 0} (shown : Shown T J) (bytes : ℕ) (alone : Bool) (s : State) (procedure : Procedure (Turn Places)) (p : Places) (next : Next T J) (n : ℕ) → n < 2 ^ 64 → Leads alone false s procedure s (rest_next p 0 next) → NextFits shown bytes next s → Opens shown bytes alone s procedure p next s n n
 opens_here shown bytes alone s procedure p next n short w k = record { read = 0; leads = w; spent = unspent next; fits = k; counted = unraised n short }
 
--- a statement that made no call, or ran out of memory for it
-pub opens_if : {T J : Type 0} (shown : Shown T J) (bytes : ℕ) (alone : Bool) (s : State) (procedure : Procedure (Turn Places)) (p : Places) (result : Result (Next T J) NoMemory) (next : Next T J) (n : ℕ) → n < 2 ^ 64 → IfOk result (λ m. m ≡ next) → Leads alone false s procedure s (rest_next p 0 s.history next) → NextFits shown bytes next s → OpensTo shown bytes alone s procedure p result s n n
+-- what took no call, or no memory for it
+pub opens_if : {T J : Type 0} (shown : Shown T J) (bytes : ℕ) (alone : Bool) (s : State) (procedure : Procedure (Turn Places)) (p : Places) (result : Result (Next T J) NoMemory) (next : Next T J) (n : ℕ) → n < 2 ^ 64 → IfOk result (λ m. m ≡ next) → Leads alone false s procedure s (rest_next p 0 next) → NextFits shown bytes next s → OpensTo shown bytes alone s procedure p result s n n
 opens_if shown bytes alone s procedure p (Ok m) next n short e w k = subst (λ x. Opens shown bytes alone s procedure p x s n n) (sym e) (opens_here shown bytes alone s procedure p next n short w k)
 opens_if shown bytes alone s procedure p (Err x) next n short e w k = (not_begun alone s procedure, omega arith)
 
@@ -99,7 +90,7 @@ opens_broken shown bytes alone old procedure p (Err e) new before after i le b =
 pub opens_then : {T J : Type 0} (shown : Shown T J) (bytes : ℕ) (alone : Bool) (old : State) (procedure : Procedure (Turn Places)) (mid : State) (left : Procedure (Turn Places)) (p : Places) (result : Result (Next T J) NoMemory) (new : State) (before after : ℕ) → Leads alone false old procedure mid left → OpensTo shown bytes alone mid left p result new before after → OpensTo shown bytes alone old procedure p result new before after
 opens_then shown bytes alone old procedure mid left p (Ok n) new before after w o = record {
   read = o.read;
-  leads = leads_then alone false old procedure mid left new (rest_next p o.read new.history n) w o.leads;
+  leads = leads_then alone false old procedure mid left new (rest_next p o.read n) w o.leads;
   spent = o.spent;
   fits = o.fits;
   counted = o.counted;
@@ -131,7 +122,7 @@ carried shown bytes alone old p procedure next mid result new before between aft
     let k = c o.read in
     record {
       read = k.total;
-      ends = carried_at alone old p procedure mid (rest_next p o.read mid.history next) k.total result new o.leads k.ends;
+      ends = carried_at alone old p procedure mid (rest_next p o.read next) k.total result new o.leads k.ends;
       counted = counts_so result o.read (spent_next o.read next) k.total before between after short o.counted o.spent k.rose k.counted;
     }
 
@@ -230,7 +221,7 @@ answer_opens {T} {J} shown bytes alone s h p b plan a pos queue line result befo
         let read = reads_of plan.query (shown_in p.block h) in
         let in_line = in_form (roster h) plan.form (answer plan.query (shown_in p.block h)) in
         let line_is : line ≡ said.Answered in_line (position h) (queue_count p.block) plan.min = i ∙ ap (λ x. said.Answered x pos queue plan.min) e ∙ ap (λ x. said.Answered in_line x queue plan.min) f ∙ ap (λ x. said.Answered in_line (position h) x plan.min) q in
-        let turn : rest_next p read s.history n ≡ ends (answers p h plan) = ap (rest_next p read s.history) is ∙ ap (λ x. ends (record { places = p; said = x ∷ []; reads = read })) line_is in
+        let turn : rest_next p read n ≡ ends (answers p h plan) = ap (rest_next p read) is ∙ ap (λ x. ends (record { places = p; said = x ∷ []; reads = read })) line_is in
         record {
           read = read;
           leads = subst (λ d. Leads alone false s (ends (answers p h plan)) s d) (sym turn) (leads_same alone s (ends (answers p h plan)));

@@ -63,7 +63,7 @@ left_shows shown p bytes stmt h pos r m plan result e f i is k =
     left_said shown p bytes stmt h (reads_of plan.query (shown_in p.block h)) (answered_line p.block h plan) result k (ap (meant_left p bytes p.block h) (meant_is h pos r stmt m (meant.Shows plan) e f i is))
 
 -- an operation
-changed_left : (T J : Type 0) (p : Places) (bytes : ℕ) (op : Op) (h : History) (b : Block) → p.block ≡ b → block_refusal b kinds.Changes ≡ None → rest_next {T = T} {J = J} p 0 h (change_next b bytes op) ≡ change_left p bytes op b h
+changed_left : (T J : Type 0) (p : Places) (bytes : ℕ) (op : Op) (h : History) (b : Block) → p.block ≡ b → block_refusal b kinds.Changes ≡ None → rest_next {T = T} {J = J} p 0 (change_next b bytes op) ≡ change_left p bytes op b h
 changed_left T J p bytes op h none i pass = ap (λ b. looks (λ g. changes_of p bytes g op b)) (sym i)
 changed_left T J p bytes op h (writing ops n) i pass = ap (λ b. ends (turns (enters (queued_on op bytes b) p) said.Queued)) i ∙ ap (λ b. changes_of p bytes h op b) (sym i)
 changed_left T J p bytes op h (reading at) i pass = absurd cc

@@ -39,8 +39,8 @@ use Rattle.ts_sessions.specs.Sound.{AsksSoundly, kind_of_action}
 use Rattle.ts_sessions.specs.Step.{acts, after_cut, block_refusal, changes, cut_turn, kind_of, makes_event, turn_of_names, named_as, named_first, named_here, performs, prints, read_at, looks_twice, unless}
 use Rattle.ts_sessions.specs.Walks.{Breaks, Sees}
 use Rattle.ts_sessions.proofs.CalendarLaws.{calendar_asked, rows_asked}
-use Rattle.ts_sessions.proofs.DeedWalks.{looks_leads}
-use Rattle.ts_sessions.proofs.FirstLaws.{leads_then, opens_as, opens_here, opens_if, saw_leads}
+use Rattle.ts_sessions.proofs.DeedWalks.{leads_then, looks_leads}
+use Rattle.ts_sessions.proofs.FirstLaws.{opens_as, opens_here, opens_if, saw_leads}
 use Rattle.ts_sessions.proofs.HeldDeeds.{leads_same}
 use Rattle.ts_sessions.proofs.NamedLaws.{not_upper, once_outside, performs_holds, twice_outside}
 use Rattle.ts_sessions.proofs.NameWalks.{least_stays}
@@ -221,16 +221,15 @@ seen_opens shown bytes alone s p stmt h pos r m like result before after e f i i
     (ap (meant_left p bytes p.block h) (sym (i ∙ ap (λ x. meant_by x r stmt) e ∙ ap (λ x. meant_by (position h) x stmt) f) ∙ is)) o
 
 -- a store call
-pub does_opens : {T J : Type 0} (shown : Shown T J) (bytes : ℕ) (alone : Bool) (s : State) (p : Places) (deed : Deed T J) (n : ℕ) → n < 2 ^ 64 → DeedFits shown deed s × (p.block ≡ none) → Opens shown bytes alone s (rest p 0 (read_at p.block s.history) deed) p (nexts.Deed deed) s n n
+pub does_opens : {T J : Type 0} (shown : Shown T J) (bytes : ℕ) (alone : Bool) (s : State) (p : Places) (deed : Deed T J) (n : ℕ) → n < 2 ^ 64 → DeedFits shown deed s × (p.block ≡ none) → Opens shown bytes alone s (rest p 0 deed) p (nexts.Deed deed) s n n
 does_opens shown bytes alone s p deed n short k =
-    subst (λ b. Opens shown bytes alone s (rest p 0 (read_at b s.history) deed) p (nexts.Deed deed) s n n) (sym k.1)
-    (opens_here shown bytes alone s (rest p 0 s.history deed) p (nexts.Deed deed) n short (leads_same alone s (rest p 0 s.history deed)) k.0)
+    opens_here shown bytes alone s (rest p 0 deed) p (nexts.Deed deed) n short (leads_same alone s (rest p 0 deed)) k.0
 
 -- an operation
 pub change_opens : {T J : Type 0} (shown : Shown T J) (bytes : ℕ) (alone : Bool) (s : State) (p : Places) (op : Op) (result : Result (Next T J) NoMemory) (n : ℕ) → n < 2 ^ 64 → IsOperation s.history bytes op → block_refusal p.block kinds.Changes ≡ None → IfOk result (λ m. m ≡ change_next p.block bytes op) → OpensTo shown bytes alone s (change_left p bytes op p.block (read_at p.block s.history)) p result s n n
 change_opens {T} {J} shown bytes alone s p op result n short is pass e = opens_if shown bytes alone s (change_left p bytes op p.block (read_at p.block s.history)) p result (change_next p.block bytes op) n short e (leads p.block refl) (fits p.block)
   where
-    leads : (b : Block) → p.block ≡ b → Leads alone false s (change_left p bytes op b (read_at b s.history)) s (rest_next {T = T} {J = J} p 0 s.history (change_next b bytes op))
+    leads : (b : Block) → p.block ≡ b → Leads alone false s (change_left p bytes op b (read_at b s.history)) s (rest_next {T = T} {J = J} p 0 (change_next b bytes op))
     leads none i = looks_leads alone s (λ h. true) (λ h. changes p bytes h op p.block) _ (λ h on. ap (changes p bytes h op) i)
     leads (writing ops m) i = subst (λ b. Leads alone false s (changes p bytes s.history op b) s (ends (turns (enters (queued_on op bytes b) p) said.Queued))) (sym i) (leads_same alone s (ends (turns (enters (writing (ops ++ op ∷ []) (m + bytes)) p) said.Queued)))
     leads (reading at) i = let f : block_refusal (reading at) kinds.Changes ≡ None = subst (λ b. block_refusal b kinds.Changes ≡ None) i pass in absurd cc

@@ -128,11 +128,11 @@ done_outcome pos (outcomes.Refused r) k i = absurd cc
 done_outcome pos outcomes.DiskFault k i = absurd cc
 done_outcome pos outcomes.NoMemory k i = absurd i
 
--- the new aggregate exists under its name
-pub made_named : (alone : Bool) (old : State) (def : ViewDef) (outcome : Outcome ℕ) (pos : ℕ) (t : Attempt ℕ) (k : ℕ) (mid : State) → Called alone old (making_view def) outcome mid → IsTried pos outcome (Ok t) → t ≡ tried.Done k → (n : ℕ) × WasMade def n mid.history
-made_named alone old def outcome pos t k mid c i j =
-    let d = subst (λ o. Called alone old (making_view def) o mid) (done_outcome pos outcome k (subst (λ x. IsTried pos outcome (Ok x)) j i)) c in
-    (length (roster d.found.history).views, was_made def d.found k mid d.answered)
+-- what it made is there under its name
+pub made_by : (alone : Bool) (old : State) (def : ViewDef) (outcome : Outcome ℕ) (pos : ℕ) (t : Attempt ℕ) (k : ℕ) (mid : State) (c : Called alone old (making_view def) outcome mid) → IsTried pos outcome (Ok t) → t ≡ tried.Done k → WasMade def (length (roster c.found.history).views) mid.history
+made_by alone old def outcome pos t k mid c i j =
+    let done = done_outcome pos outcome k (subst (λ x. IsTried pos outcome (Ok x)) j i) in
+    was_made def c.found k mid (subst (λ o. Answered (making_view def c.found.history) c.found o mid) done c.answered)
 
 pub view_broken : {A : Type 0} (alone : Bool) (old : State) (def : ViewDef) (outcome : Outcome ℕ) (pos : ℕ) (e : NoMemory) (new : State) (next : ℕ → Result ℕ Refusal → Procedure A) → Called alone old (making_view def) outcome new → IsTried pos outcome (Err e) → Breaks alone old (looks (λ h. followed_by (tries_at h (making_view def h)) (next (length (roster h).views)))) new
 view_broken alone old def (outcomes.Done a) pos e new next c i = absurd i
@@ -155,36 +155,3 @@ there_on r s n (Some def) e i k = subst (λ o. IsSome o) (sym (k def e).there) r
 
 pub view_stays : (g h : History) (n : ℕ) → Begins g h → IsSome (view_of (roster g) n) → IsSome (view_of (roster h) n)
 view_stays g h n b i = there_on (roster g) (roster h) n (view_of (roster g) n) refl i ((relations_stay g h b).views n)
-
--- a turn with one more line at the beginning
-pub led : {T J : Type 0} (alone : Bool) (old : State) (procedure : Procedure (Turn Places)) (line : Said) (p : Places) (completion led_told : Completion T J) (new : State) (before after : ℕ) → Ends alone old procedure p (Ok completion) new before after → led_told.said ≡ line ∷ completion.said → led_told.change ≡ completion.change → led_told.failed ≡ completion.failed → Ends alone old (ending_as (after_line line) procedure) p (Ok led_told) new before after
-led alone old procedure line p completion l new before after e s c f = record {
-  read = e.read;
-  ends =
-      let w = walks_as (after_line line) alone completion.failed old procedure new (turn_of p e.read completion) e.ends in
-      let y : after_line line (turn_of p e.read completion) ≡ turn_of p e.read l = sym (ap (λ lines. record { places = places_after l.change p; said = lines; reads = e.read }) s ∙ ap (λ x. record { places = places_after x p; said = line ∷ completion.said; reads = e.read }) c) in
-      subst (λ x. Walks alone x old (ending_as (after_line line) procedure) new (turn_of p e.read l)) (sym f) (subst (λ z. Walks alone completion.failed old (ending_as (after_line line) procedure) new z) y w);
-  counted = e.counted;
-}
-
--- the number under a name, by a snapshot's roster
-pub number_in : (r : Roster) (views : List ViewDef) (g h : History) (name : List ℕ) (v n : ℕ) → v ≡ number_from name 0 views → views ≡ r.views → r ≡ roster h → Begins g h → view_named (roster g) name ≡ Some n → v ≡ n
-number_in r views g h name v n a b c d e = a ∙ ap (number_from name 0) (b ∙ ap (λ x. x.views) c) ∙ named_on g h name n d e
-
--- the new aggregate exists under its name, with its number
-pub record IsNamed (r : Roster) (name : List ℕ) : Type 0 where
-  pub named : view_named r name ≡ Some (view_number r name)
-  pub there : IsSome (view_of r (view_number r name))
-
-was_named : (def : ViewDef) (n : ℕ) (mid : History) → WasMade def n mid → IsNamed (roster mid) def.name
-was_named def n mid w =
-    let is : view_number (roster mid) def.name ≡ n = number_named (roster mid) def.name n w.named in
-    record {
-      named = w.named ∙ ap Some (sym is);
-      there = subst (λ v. IsSome (view_of (roster mid) v)) (sym is) w.there;
-    }
-
-pub made_is_named : (alone : Bool) (old : State) (def : ViewDef) (outcome : Outcome ℕ) (pos : ℕ) (t : Attempt ℕ) (k : ℕ) (mid : State) (name : List ℕ) → Called alone old (making_view def) outcome mid → IsTried pos outcome (Ok t) → t ≡ tried.Done k → name ≡ def.name → IsNamed (roster mid.history) name
-made_is_named alone old def outcome pos t k mid name c i j e =
-    let w = made_named alone old def outcome pos t k mid c i j in
-    subst (λ x. IsNamed (roster mid.history) x) (sym e) (was_named def w.0 mid.history w.1)

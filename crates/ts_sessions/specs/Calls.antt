@@ -1,25 +1,23 @@
--- The outcomes of store calls, and the rest of a statement after each.
-use Rattle.std.specs.Prelude.{◌≡◌, ℕ, ◌≤◌, ◌<◌, Bool, None, Result, Ok, Err, IsTrue, ⊤}
+-- The outcomes of store calls, and what is left of a statement after each.
+use Rattle.std.specs.Prelude.{◌≡◌, ℕ, ◌≤◌, ◌<◌, Bool, Result, Ok, Err, IsTrue, ⊤}
 use Rattle.ts_schema.specs.Counts.{raised_by}
 use Rattle.ts_schema.specs.declared.memory.NoMemory.{NoMemory}
-use Rattle.ts_bucket.specs.Bucket.{first_of}
 use Rattle.ts_model.specs.Allowed.{all_allowed}
 use Rattle.ts_model.specs.History.{History}
 use Rattle.ts_model.specs.States.{State}
+use Rattle.ts_model.specs.declared.outcomes.Refusal.{Refusal}
 use Rattle.ts_model.specs.declared.snapshots.Shown.{Ghosts as Shown}
-use Rattle.result_text.specs.declared.replies.Said.TheVariants as said
 use Rattle.ts_sessions.specs.declared.calls.CallOutcome.{CallOutcome}
 use Rattle.ts_sessions.specs.declared.calls.CallOutcome.TheVariants as outcomes
 use Rattle.ts_sessions.specs.declared.calls.Meeting.{Meeting}
-use Rattle.ts_sessions.specs.declared.deeds.AfterLook.{AfterLook}
 use Rattle.ts_sessions.specs.declared.deeds.Deed.{Deed}
 use Rattle.ts_sessions.specs.declared.deeds.Next.{Next}
-use Rattle.ts_sessions.specs.declared.follows.Followed.{Followed}
-use Rattle.ts_sessions.specs.Deeds.{IsAsked, Leads, MadeFits, NextFits, cut_left, cut_meets, turn_of_finish, with_line, left, left_by, left_next, look_left, look_meets, rest, rest_next, says, spent, spent_by, spent_next, view_leaves}
+use Rattle.ts_sessions.specs.declared.refreshes.SnapOutcome.{SnapOutcome}
+use Rattle.ts_sessions.specs.Deeds.{IsAsked, Leads, NextFits, cut_left, cut_meets, turn_of_finish, with_line, left, left_by, left_next, look_left, look_meets, rest, rest_next, says, spent, spent_by, spent_next}
 use Rattle.ts_sessions.specs.Places.{Places, Turn}
-use Rattle.ts_sessions.specs.Procedures.{Procedure, ending_as, ends, followed_by}
-use Rattle.ts_sessions.specs.Sound.{number_at}
-use Rattle.ts_sessions.specs.Step.{after_cut, after_line, turn_of_commit, cuts_refresh, turn_of_line}
+use Rattle.ts_sessions.specs.Procedures.{Procedure, ends, followed_by}
+use Rattle.ts_sessions.specs.Sessions.{FitsSnapped, read_by, taken_as}
+use Rattle.ts_sessions.specs.Step.{Taken, after_cut, turn_of_commit, cuts_refresh, turn_of_line}
 use Rattle.ts_sessions.specs.Walks.{Breaks}
 
 -- ---- the rest of a statement after a call
@@ -29,9 +27,8 @@ use Rattle.ts_sessions.specs.Walks.{Breaks}
 abbrev pub left_after : {T : Type 0} → Places → ℕ → History → CallOutcome T → Procedure (Turn Places)
 left_after p read h (outcomes.Number line r) = ends (turn_of_line p (says line) r)
 left_after p read h (outcomes.Commit leaves r) = ends (turn_of_commit p (left_by leaves p) r)
-left_after p read h (outcomes.View new filled r) = view_leaves p (number_at h new.name) (first_of new.width) filled r
-left_after p read h (outcomes.Found asked made) =
-    ending_as (after_line (said.View made)) (followed_by (cuts_refresh asked.view asked.lo asked.hi) (after_cut p asked.min))
+left_after p read h (outcomes.Found asked) =
+    followed_by (cuts_refresh asked.view asked.lo asked.hi) (after_cut p asked.min)
 left_after p read h (outcomes.Cut asked then r) = cut_left p asked.min then r
 left_after p read h (outcomes.Finish f r) = ends (turn_of_finish p read f r)
 left_after p read h (outcomes.Look then shot) = look_left p h then
@@ -40,8 +37,7 @@ left_after p read h (outcomes.Look then shot) = look_left p h then
 abbrev pub meets_left : {T : Type 0} → CallOutcome T → ℕ
 meets_left (outcomes.Number line r) = 1
 meets_left (outcomes.Commit leaves r) = 1
-meets_left (outcomes.View new filled r) = 5
-meets_left (outcomes.Found asked made) = 4
+meets_left (outcomes.Found asked) = 4
 meets_left (outcomes.Cut asked then r) = cut_meets then
 meets_left (outcomes.Finish f r) = 1
 meets_left (outcomes.Look then shot) = look_meets then
@@ -51,11 +47,10 @@ abbrev pub spent_after : {T : Type 0} → ℕ → CallOutcome T → ℕ
 spent_after read (outcomes.Finish f r) = spent_by read f
 spent_after read other = 0
 
--- the outcome fits the history that the call saw: a new aggregate exists under its name, one that will be refreshed
--- exists, and a snapshot is one of an allowed history
+-- the outcome fits the history that the call saw: an aggregate to be refreshed exists, and a snapshot is one of an
+-- allowed history
 abbrev pub OutcomeFits : {T J : Type 0} → Shown T J → History → CallOutcome T → Type 0
-OutcomeFits shown h (outcomes.View new filled r) = MadeFits r h new.name
-OutcomeFits shown h (outcomes.Found asked made) = IsAsked h asked
+OutcomeFits shown h (outcomes.Found asked) = IsAsked h asked
 OutcomeFits shown h (outcomes.Look then shot) = shown.stands shot h × IsTrue (all_allowed h)
 OutcomeFits shown h other = ⊤
 
@@ -65,55 +60,49 @@ OutcomeFits shown h other = ⊤
 -- a store call had this outcome at a history
 pub record AnswersDeed {T J : Type 0} (shown : Shown T J) (h : History) (deed : Deed T J) (outcome : CallOutcome T) : Type 0 where
   pub fits : OutcomeFits shown h outcome
-  pub left_so : meets_left outcome ≡ left deed
+  pub left_so : meets_left outcome ≤ left deed
   pub spent_so : (read : ℕ) → spent_after read outcome ≡ spent read deed
 
 -- a call of a store
 pub record Meets {T J : Type 0} (shown : Shown T J) (alone : Bool) (old : State) (deed : Deed T J) (m : Meeting T)
     (new : State) : Type 0 where
   pub leads : (p : Places) (read : ℕ)
-      → Leads alone m.failed old (rest p read old.history deed) new (left_after p read new.history m.outcome)
+      → Leads alone m.failed old (rest p read deed) new (with_line m.said (left_after p read new.history m.outcome))
   pub answers : AnswersDeed shown new.history deed m.outcome
 
 -- the same, or the statement ran out of memory
 abbrev pub MeetsTo :
     {T J : Type 0} → Shown T J → Bool → State → Deed T J → Result (Meeting T) NoMemory → State → Type 0
 MeetsTo shown alone old deed (Ok m) new = Meets shown alone old deed m new
-MeetsTo shown alone old deed (Err e) new = (p : Places) (read : ℕ) → Breaks alone old (rest p read old.history deed) new
+MeetsTo shown alone old deed (Err e) new = (p : Places) (read : ℕ) → Breaks alone old (rest p read deed) new
 
--- this follows a read at a history
-pub record IsLooked {T J : Type 0} (shown : Shown T J) (h : History) (then : AfterLook) (next : Next T J)
-    (before after : ℕ) : Type 0 where
-  pub read : ℕ
-  pub rest_so : (p : Places) → rest_next p read h next ≡ look_left p h then
-  pub fits : (s : State) (bytes : ℕ) → s.history ≡ h → NextFits shown bytes next s
-  pub spent_so : spent_next read next ≡ read
-  pub shorter : left_next next < look_meets then
-  pub counted : after ≡ raised_by read before
-
-abbrev pub LooksTo :
-    {T J : Type 0} → Shown T J → History → AfterLook → Result (Next T J) NoMemory → ℕ → ℕ → Type 0
-LooksTo shown h then (Ok next) before after = IsLooked shown h then next before after
-LooksTo shown h then (Err e) before after = before ≤ after
-
--- this follows a call: it leaves exactly the rest after the call, by the session state and by the rows read before
-pub record IsFollowed {T J : Type 0} (shown : Shown T J) (h : History) (outcome : CallOutcome T) (f : Followed T J)
+-- this follows a call: it leaves just what the call left, by the places and by the rows read so far
+pub record IsFollowed {T J : Type 0} (shown : Shown T J) (h : History) (outcome : CallOutcome T) (next : Next T J)
     (before after : ℕ) : Type 0 where
   pub read_then : ℕ → ℕ
-  pub rest_so : (p : Places) (read : ℕ)
-      → with_line f.said (rest_next p (read_then read) h f.next) ≡ left_after p read h outcome
-  pub fits : (s : State) (bytes : ℕ) → s.history ≡ h → NextFits shown bytes f.next s
-  pub spent_so : (read : ℕ) → spent_next (read_then read) f.next ≡ read_then read
-  pub shorter : left_next f.next < meets_left outcome
+  pub rest_so : (p : Places) (read : ℕ) → rest_next p (read_then read) next ≡ left_after p read h outcome
+  pub fits : (s : State) (bytes : ℕ) → s.history ≡ h → NextFits shown bytes next s
+  pub spent_so : (read : ℕ) → spent_next (read_then read) next ≡ read_then read
+  pub shorter : left_next next < meets_left outcome
   pub counted : (read from : ℕ) → before ≡ raised_by (spent_after read outcome) from → after ≡ raised_by (read_then read) from
   pub rose : before ≤ after
 
 abbrev pub FollowsTo :
-    {T J : Type 0} → Shown T J → History → CallOutcome T → Result (Followed T J) NoMemory → ℕ → ℕ → Type 0
-FollowsTo shown h outcome (Ok f) before after = IsFollowed shown h outcome f before after
+    {T J : Type 0} → Shown T J → History → CallOutcome T → Result (Next T J) NoMemory → ℕ → ℕ → Type 0
+FollowsTo shown h outcome (Ok next) before after = IsFollowed shown h outcome next before after
 FollowsTo shown h outcome (Err e) before after = before ≤ after
 
--- what comes next, with no line of the reply before it
-abbrev pub quiet : {T J : Type 0} → Result (Next T J) NoMemory → Result (Followed T J) NoMemory
-quiet (Ok next) = Ok (record { said = None; next = next })
-quiet (Err e) = Err e
+-- the same if no more rows are read and every state fits
+pub record Follows {T J : Type 0} (shown : Shown T J) (h : History) (outcome : CallOutcome T) (next : Next T J) : Type 0 where
+  pub rest_so : (p : Places) (read : ℕ) → rest_next p (spent_after read outcome) next ≡ left_after p read h outcome
+  pub fits : (s : State) (bytes : ℕ) → NextFits shown bytes next s
+  pub spent_so : (read : ℕ) → spent_next (spent_after read outcome) next ≡ spent_after read outcome
+  pub shorter : left_next next < meets_left outcome
+
+-- this follows a snapshot for a refresh, which leaves `left_then` by the snapshot's outcome
+pub record FollowsSnapshot {T J : Type 0} (shown : Shown T J) (cut before : ℕ) (outcome : SnapOutcome J)
+    (left_then : Places → Result Taken Refusal → Procedure (Turn Places)) (next : Next T J) : Type 0 where
+  pub rest_so : (p : Places) (read : ℕ) → rest_next p (read_by read outcome) next ≡ left_then p (taken_as read outcome)
+  pub fits : (s : State) (bytes : ℕ) → FitsSnapped shown cut s.history outcome → NextFits shown bytes next s
+  pub spent_so : (read : ℕ) → spent_next (read_by read outcome) next ≡ read_by read outcome
+  pub shorter : left_next next < before

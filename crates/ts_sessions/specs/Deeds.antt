@@ -65,8 +65,7 @@ use Rattle.ts_sessions.specs.Held.{GoesOn, HoldsOf, IsJobOf, is_lost, places_in}
 use Rattle.ts_sessions.specs.Places.{Block, Places, Turn, cuts, enters, none, reading, refuses, turns, writing}
 use Rattle.ts_sessions.specs.Procedures.{Procedure, ending_as, ends, followed_by, looks, tries, tries_at}
 use Rattle.ts_sessions.specs.Sessions.{ChangeHolds, EndsAt, Spares, turn_of}
-use Rattle.ts_sessions.specs.Step.{after_cut, after_line, after_snapshot, after_view, turn_of_commit, cut_turn, cuts_refresh, finish_turn, finishes_refresh, lost_code, turn_of_refresh, turn_of_line, snap_turn, snapshot_taken, unfinished_refusal, view_made}
-use Rattle.ts_sessions.specs.Sound.{IsNamed, IsThere, number_at}
+use Rattle.ts_sessions.specs.Step.{after_cut, after_line, after_snapshot, after_view, turn_of_commit, cut_turn, cuts_refresh, finish_turn, finishes_refresh, lost_code, turn_of_refresh, turn_of_line, snap_turn, snapshot_taken, unfinished_refusal}
 use Rattle.ts_sessions.specs.Walks.{Walks, Breaks}
 
 -- ---- the rest of a procedure
@@ -106,18 +105,14 @@ abbrev pub says : ChangeLine → ℕ → Said
 says lines.Table = said.Table
 says lines.Hyper = said.Hypertable
 says lines.Mode = said.Mode
+says lines.View = said.View
 
 -- the session state after a commit, which may end a block
 abbrev pub left_by : Bool → Places → Places
 left_by true p = enters none p
 left_by false p = p
 
--- the rest after the call that creates the aggregate with number n
-abbrev pub view_leaves : Places → ℕ → ℤ → Bool → Result ℕ Refusal → Procedure (Turn Places)
-view_leaves p n min filled (Ok k) = view_made p n min k filled
-view_leaves p n min filled (Err r) = ends (refuses p r)
-
--- the refusal code for a pending refresh whose session lacks this
+-- why a refresh that waits can't be finished if its session lacks this
 abbrev pub lack_code : MissingPart → History → ℕ
 lack_code lacks.Snapshot h = no_snapshot
 lack_code lacks.Job h = lost_code h
@@ -157,25 +152,24 @@ look_left p h (looks_for.Hold cut) = ends (snap_turn p cut (snapshot_taken cut h
 look_left p h (looks_for.Refuse cut lack) = ends (refuses p (unfinished_refusal (lack_code lack h) h (pending h cut)))
 look_left p h looks_for.Unknown = ends (refuses p (refusal no_refresh h 0))
 
--- the rest of a statement before a store call: the call, and what its outcome leaves. The session has this state, the
--- statement has read this many rows, and the store has this history
-abbrev pub rest : {T J : Type 0} → Places → ℕ → History → Deed T J → Procedure (Turn Places)
-rest p read h (deeds.Cut asked then) =
+-- what is left of a statement at a store call, for a session in this state that has read this many rows: the call,
+-- and what its outcome leaves
+abbrev pub rest : {T J : Type 0} → Places → ℕ → Deed T J → Procedure (Turn Places)
+rest p read (deeds.Cut asked then) =
     followed_by (cuts_refresh asked.view asked.lo asked.hi) (cut_left p asked.min then)
-rest p read h (deeds.Finish job f) =
+rest p read (deeds.Finish job f) =
     followed_by (finishes_refresh (cut_in f) (at_in f)) (λ r. ends (turn_of_finish p read f r))
-rest p read h (deeds.Make m) = followed_by (tries (making_of m)) (λ r. ends (turn_of_line p (says (line_of m)) r))
-rest p read h (deeds.Commit ops leaves) =
+rest p read (deeds.Make m) = followed_by (tries (making_of m)) (λ r. ends (turn_of_line p (says (line_of m)) r))
+rest p read (deeds.Commit ops leaves) =
     followed_by (tries (act_of_commit ops)) (λ r. ends (turn_of_commit p (left_by leaves p) r))
-rest p read h (deeds.View def filled) =
+rest p read (deeds.View def filled) =
     looks (λ g. followed_by (tries_at g (making_view def g)) (after_view p (length (roster g).views) def filled))
-rest p read h (deeds.Fill new made) = view_made p (number_at h new.name) (first_of new.width) made true
-rest p read h (deeds.Look then) = looks (λ g. look_left p g then)
+rest p read (deeds.Look then) = looks (λ g. look_left p g then)
 
--- the same for what comes next
-abbrev pub rest_next : {T J : Type 0} → Places → ℕ → History → Next T J → Procedure (Turn Places)
-rest_next p read h (nexts.Deed d) = rest p read h d
-rest_next p read h (nexts.End t) = ends (turn_of p read t)
+-- the same of what comes next
+abbrev pub rest_next : {T J : Type 0} → Places → ℕ → Next T J → Procedure (Turn Places)
+rest_next p read (nexts.Deed d) = rest p read d
+rest_next p read (nexts.End t) = ends (turn_of p read t)
 
 -- at most how many store calls are left
 abbrev pub cut_meets : AfterCut → ℕ
@@ -191,8 +185,7 @@ left (deeds.Cut asked then) = cut_meets then
 left (deeds.Finish job f) = 1
 left (deeds.Make m) = 1
 left (deeds.Commit ops leaves) = 1
-left (deeds.View def filled) = 5
-left (deeds.Fill new made) = 4
+left (deeds.View def filled) = 4
 left (deeds.Look then) = look_meets then
 
 -- the rest after a line of the reply that is already known
@@ -234,23 +227,17 @@ pub record IsAsked (h : History) (asked : RefreshRequest) : Type 0 where
   pub low : ForSome asked.lo (λ t. IsTrue (is_time t))
   pub high : ForSome asked.hi (λ t. IsTrue (is_time t))
 
--- what a store call needs of the state of the store. The aggregate of a refresh exists and its bounds are times. A job
--- is that of its refresh and snapshot. An event is sound. An aggregate to be filled exists under its name
+-- what a store call needs of the state at which it is made: the aggregate of a refresh exists and its bounds are times,
+-- a job is that of its refresh and snapshot, and an event is sound
 abbrev pub DeedFits : {T J : Type 0} → Shown T J → Deed T J → State → Type 0
 DeedFits shown (deeds.Cut asked then) s = IsAsked s.history asked
 DeedFits shown (deeds.Finish job f) s = IsJobOf shown (cut_in f) (at_in f) s.history job
 DeedFits shown (deeds.Make m) s = IsTrue (sound s.history (event_of m))
 DeedFits shown (deeds.Commit ops leaves) s = IsTrue (sound s.history (events.Commit ops))
 DeedFits shown (deeds.View def filled) s = IsTrue (sound s.history (events.View def))
-DeedFits shown (deeds.Fill new made) s = IsNamed s.history new.name × IsThere s.history new.name
 DeedFits shown other s = ⊤
 
--- an aggregate that was created exists under its name
-abbrev pub MadeFits : Result ℕ Refusal → History → List ℕ → Type 0
-MadeFits (Ok k) h name = IsNamed h name × IsThere h name
-MadeFits (Err r) h name = ⊤
-
--- what a statement brings to its session fits the state, and its disk hasn't failed
+-- what a statement brings to its session if the disk hasn't failed
 pub record EndFits {T J : Type 0} (shown : Shown T J) (bytes : ℕ) (t : Completion T J) (s : State) : Type 0 where
   pub change : ChangeHolds shown bytes t.change s.history
   pub stands : t.failed ≡ false
@@ -260,21 +247,7 @@ abbrev pub NextFits : {T J : Type 0} → Shown T J → ℕ → Next T J → Stat
 NextFits shown bytes (nexts.Deed d) s = DeedFits shown d s
 NextFits shown bytes (nexts.End t) s = EndFits shown bytes t s
 
--- `next` comes next in a statement. The rest of the statement is `left_then`, by the session state and the rows read
--- before; `rows` says which of these rows it counts. It fits each state that meets its needs. It leaves fewer store
--- calls than `before`
-pub record FollowsReading {T J : Type 0} (shown : Shown T J) (next : Next T J) (before : ℕ) (needs : State → Type 0)
-    (rows : ℕ → ℕ) (left_then : Places → ℕ → History → Procedure (Turn Places)) : Type 0 where
-  pub rest : (p : Places) (read : ℕ) (h : History) → rest_next p (rows read) h next ≡ left_then p read h
-  pub fits : (s : State) (bytes : ℕ) → needs s → NextFits shown bytes next s
-  pub spent : (read : ℕ) → spent_next (rows read) next ≡ rows read
-  pub shorter : left_next next < before
-
--- the same if no rows were read and nothing is needed
-abbrev pub Follows : {T J : Type 0} → Shown T J → Next T J → ℕ → (Places → Procedure (Turn Places)) → Type 0
-Follows shown next before left_then = FollowsReading shown next before (λ s. ⊤) (λ read. 0) (λ p read h. left_then p)
-
--- a store took the job of a snapshot that a session held: the refresh can't be finished any more
+-- the job of a snapshot that a session held was taken: its refresh can't be finished any more
 abbrev pub IsLostBy : {T J : Type 0} → Deed T J → State → Type 0
 IsLostBy (deeds.Finish job f) s = IsTrue (is_lost s (cut_in f))
 IsLostBy other s = ⊤
@@ -296,7 +269,7 @@ pub record Leads {A : Type 0} (alone failed : Bool) (old : State) (procedure : P
 pub record Goes {T J : Type 0} (alone : Bool) (old : State) (p : Places) (read : ℕ) (deed : Deed T J)
     (a : DeedOutcome T J) (new : State) (before after : ℕ) : Type 0 where
   pub read_then : ℕ
-  pub leads : Leads alone a.failed old (rest p read old.history deed) new (with_line a.said (rest_next p read_then new.history a.next))
+  pub leads : Leads alone a.failed old (rest p read deed) new (with_line a.said (rest_next p read_then a.next))
   pub spent_then : spent_next read_then a.next ≡ read_then
   pub counted : (from : ℕ) → before ≡ raised_by (spent read deed) from → after ≡ raised_by read_then from
   pub rose : before ≤ after
@@ -306,7 +279,7 @@ abbrev pub Advances :
     {T J : Type 0} → Bool → State → Places → ℕ → Deed T J → Result (DeedOutcome T J) NoMemory → State → ℕ → ℕ → Type 0
 Advances alone old p read deed (Ok a) new before after = Goes alone old p read deed a new before after
 Advances alone old p read deed (Err e) new before after =
-    Breaks alone old (rest p read old.history deed) new × (before ≤ after)
+    Breaks alone old (rest p read deed) new × (before ≤ after)
 
 -- the rows that were read were counted
 abbrev pub CountsFrom : {A : Type 0} → Result A NoMemory → ℕ → ℕ → ℕ → ℕ → Type 0
@@ -317,7 +290,7 @@ CountsFrom (Err e) had total before after = ⊤
 pub record CarriesOut {T J : Type 0} (alone : Bool) (old : State) (p : Places) (read : ℕ) (next : Next T J)
     (result : Result (Completion T J) NoMemory) (new : State) (before after : ℕ) : Type 0 where
   pub total : ℕ
-  pub ends : EndsAt alone old (rest_next p read old.history next) p total result new
+  pub ends : EndsAt alone old (rest_next p read next) p total result new
   pub counted : CountsFrom result (spent_next read next) total before after
   pub rose : before ≤ after
 
@@ -360,7 +333,7 @@ pub record Takes {T J : Type 0} (shown : Shown T J) (meant : Option ℕ) (next :
 
 -- what comes next represents this procedure, of a session with state p at this store state
 abbrev pub StandsFor : {T J : Type 0} → Next T J → Places → State → Procedure (Turn Places) → Type 0
-StandsFor next p s procedure = (alone : Bool) → Leads alone false s procedure s (rest_next p 0 s.history next)
+StandsFor next p s procedure = (alone : Bool) → Leads alone false s procedure s (rest_next p 0 next)
 
 -- ---- what comes first
 
@@ -369,7 +342,7 @@ StandsFor next p s procedure = (alone : Bool) → Leads alone false s procedure 
 pub record Opens {T J : Type 0} (shown : Shown T J) (bytes : ℕ) (alone : Bool) (old : State)
     (procedure : Procedure (Turn Places)) (p : Places) (next : Next T J) (new : State) (before after : ℕ) : Type 0 where
   pub read : ℕ
-  pub leads : Leads alone false old procedure new (rest_next p read new.history next)
+  pub leads : Leads alone false old procedure new (rest_next p read next)
   pub spent : spent_next read next ≡ read
   pub fits : NextFits shown bytes next new
   pub counted : after ≡ raised_by read before

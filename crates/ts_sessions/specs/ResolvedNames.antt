@@ -95,7 +95,7 @@ abbrev pub meant_left : {T J : Type 0} → Places → ℕ → Block → History 
 meant_left p bytes b h (meant.Refused r) = ends (refuses p r)
 meant_left p bytes b h (meant.Shows plan) = ends (answers p h plan)
 meant_left p bytes b h (meant.Changes op) = change_left p bytes op b h
-meant_left p bytes b h (meant.Does deed) = rest p 0 h deed
+meant_left p bytes b h (meant.Does deed) = rest p 0 deed
 
 -- the rest of a statement whose names were resolved in a history
 abbrev pub left_of : {T J : Type 0} → Shown T J → Places → ℕ → Stmt → History → Procedure (Turn Places)
@@ -122,5 +122,5 @@ pub record IsLeftOf {T J : Type 0} (shown : Shown T J) (p : Places) (bytes : ℕ
     (n : Next T J) : Type 0 where
   -- how many rows were read
   pub read : ℕ
-  pub rest : rest_next p read h n ≡ left_of shown p bytes stmt h
+  pub rest : rest_next p read n ≡ left_of shown p bytes stmt h
   pub left : LeftIn p.block n

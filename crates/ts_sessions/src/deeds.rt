@@ -8,7 +8,6 @@ ghost use Rattle.ts_sessions.specs.Sessions.{Brings};
 
 use crate::calls::call;
 use crate::changes::Completion;
-use crate::events::NewView;
 use crate::follows::follow;
 use crate::refreshes::RefreshRequest;
 use crate::refusals::lost_code;
@@ -50,7 +49,7 @@ pub enum RelationChange {
     Mode { view: u32, only: bool },
 }
 
-/// The line that reports a `RelationChange`.
+/// The line that reports a new relation, or a changed property of one.
 #[derive(Clone, Copy, Debug, PartialEq, Eq)]
 pub enum ChangeLine {
     /// A table was created.
@@ -59,6 +58,8 @@ pub enum ChangeLine {
     Hyper,
     /// The mode of an aggregate was set.
     Mode,
+    /// An aggregate was made.
+    View,
 }
 
 /// What a session lacks to finish a refresh.
@@ -107,15 +108,10 @@ where
         ops: Seq<Op>,
         leaves: bool,
     },
-    /// Creates an aggregate. `filled` says whether a refresh follows.
+    /// Makes an aggregate. `filled` says whether a refresh of all its buckets follows.
     View {
         def: ViewDef,
         filled: bool,
-    },
-    /// Refreshes all buckets of an aggregate that the event `made` has just created.
-    Fill {
-        new: NewView,
-        made: u64,
     },
     /// Cuts a refresh.
     Cut {
@@ -242,10 +238,10 @@ where
     ensures kin { B.kin backend.new ≡ B.kin backend.old }
 {
     let meeting = call(backend, gate, session, deed)?;
-    let followed = follow(rt, alloc, meeting.outcome, steps)?;
+    let next = follow(rt, alloc, meeting.outcome, steps)?;
     Ok(DeedOutcome {
-        said: followed.said,
-        next: followed.next,
+        said: meeting.said,
+        next,
         failed: meeting.failed,
     })
 }
@@ -302,7 +298,6 @@ where
             Deed::Make(_) => None,
             Deed::Commit { .. } => None,
             Deed::View { .. } => None,
-            Deed::Fill { .. } => None,
             Deed::Cut { .. } => None,
             Deed::Look(_) => None,
         }

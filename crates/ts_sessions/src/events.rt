@@ -2,17 +2,18 @@
 ghost use Rattle.std.specs.Prelude.{◌≡◌, ◌<◌, ◌^◌, ◌∷◌, [], length, None, IsTrue, IfOk};
 ghost use Rattle.ts_bucket.specs.Bucket.{first_of};
 ghost use Rattle.ts_model.specs.declared.events.Event.TheVariants.{Commit};
+ghost use Rattle.ts_model.specs.History.{History};
 ghost use Rattle.ts_model.specs.Sound.{sound};
 ghost use Rattle.ts_model.specs.Calls.{act_of_commit};
 ghost use Rattle.ts_sessions.specs.Procedures.{tries};
 ghost use Rattle.ts_sessions.specs.Sessions.{Tries};
-ghost use Rattle.ts_sessions.specs.Sound.{number_from};
+ghost use Rattle.ts_sessions.specs.Sound.{StandsForAllowed, number_at, number_from};
 
 use crate::call_outcomes::{Attempt, outcome_of};
 use crate::refreshes::RefreshRequest;
 use std::alloc::Global;
 use ts_bucket::{Width, first};
-use ts_model::{Backend, Committed, Op, ViewDef};
+use ts_model::{Backend, Committed, Op, Shown, ViewDef};
 use ts_schema::{Name, NoMemory, Seq};
 
 /// Commits operations as one event.
@@ -58,8 +59,20 @@ pub fn new_view(def: &ViewDef) -> Result<NewView, NoMemory>
     })
 }
 
+/// Returns a request to refresh all buckets of a new aggregate, which this snapshot shows.
+pub fn whole_refresh<T: Shown>(shot: &T, new: &NewView) -> RefreshRequest
+    requires { StandsForAllowed T.stands shot.now [] }
+    ensures { (h : History) → T.stands shot.now h → result
+        ≡ record { view = number_at h new.now.name; lo = None; hi = None; min = first_of new.now.width } }
+{
+    all_of(
+        view_number(shot.roster().views.items(), &new.name),
+        &new.width,
+    )
+}
+
 /// Returns a request to refresh all buckets of the aggregate with this number and width.
-pub fn all_of(view: u32, width: &Width) -> RefreshRequest
+fn all_of(view: u32, width: &Width) -> RefreshRequest
     ensures { result ≡ record { view = view; lo = None; hi = None; min = first_of width.now } }
 {
     RefreshRequest {
@@ -71,7 +84,7 @@ pub fn all_of(view: u32, width: &Width) -> RefreshRequest
 }
 
 /// Returns the number of the aggregate with this name, or how many aggregates exist if none has it.
-pub fn view_number(views: &[ViewDef], name: &Name) -> u32
+fn view_number(views: &[ViewDef], name: &Name) -> u32
     requires { length views.now < 2 ^ 32 }
     ensures { result ≡ number_from name.now 0 views.now }
 {

@@ -1,19 +1,18 @@
 //! What follows a store call, by its outcome: another call, or the end of the statement. Nothing here calls a store.
-ghost use Rattle.std.specs.Prelude.{◌≡◌, ◌<◌, ◌^◌, [], ◌∷◌, false, IfOk, IsTrue, ⊤};
+ghost use Rattle.std.specs.Prelude.{◌≡◌, ◌<◌, ◌^◌, [], ◌∷◌, false, IfOk, IsTrue};
 ghost use Rattle.std.specs.Thread.{IsSync};
-ghost use Rattle.ts_bucket.specs.Bucket.{first_of};
 ghost use Rattle.ts_model.specs.Allowed.{all_allowed};
 ghost use Rattle.ts_model.specs.History.{History, position as position_of};
 ghost use Rattle.result_text.specs.declared.replies.Said.TheVariants.{Cut, Fault};
+ghost use Rattle.ts_sessions.specs.declared.calls.CallOutcome.TheVariants as outcomes;
 ghost use Rattle.ts_sessions.specs.declared.changes.Change.TheVariants.{Cuts};
+ghost use Rattle.ts_sessions.specs.declared.deeds.AfterCut.TheVariants as after_cuts;
 ghost use Rattle.ts_sessions.specs.declared.deeds.Next.TheVariants.{End};
-ghost use Rattle.ts_sessions.specs.Calls.{FollowsTo, LooksTo, OutcomeFits, quiet};
-ghost use Rattle.ts_sessions.specs.Deeds.{Follows, FollowsReading, MadeFits, turn_of_finish, lack_code, left_by, said_once, says, spent_by, view_leaves};
+ghost use Rattle.ts_sessions.specs.Calls.{Follows, FollowsSnapshot, FollowsTo, OutcomeFits};
+ghost use Rattle.ts_sessions.specs.Deeds.{lack_code, said_once};
 ghost use Rattle.ts_sessions.specs.Places.{cuts};
 ghost use Rattle.ts_sessions.specs.Procedures.{ends};
-ghost use Rattle.ts_sessions.specs.Sessions.{FitsSnapped, read_by, taken_as};
-ghost use Rattle.ts_sessions.specs.Sound.{number_at};
-ghost use Rattle.ts_sessions.specs.Step.{after_cut as cut_leaves, after_snapshot as snapshot_leaves, turn_of_commit, cut_turn, turn_of_line, snap_turn, unfinished_refusal};
+ghost use Rattle.ts_sessions.specs.Step.{after_snapshot as snapshot_leaves, snap_turn, unfinished_refusal};
 
 use crate::blocks::Open;
 use crate::calls::CallOutcome;
@@ -21,7 +20,6 @@ use crate::changes::{Change, Completion, one_line};
 use crate::deeds::{
     AfterCut, AfterLook, ChangeLine, CutRefresh, Deed, FinishSource, MissingPart, Next,
 };
-use crate::events::NewView;
 use crate::refreshes::{RefreshRequest, SnapOutcome, snapshot_of};
 use crate::refusals::at;
 use result_text::Said;
@@ -30,25 +28,13 @@ use std::thread::Threads;
 use ts_model::{Committed, CutDone, Pending, Refusal, Shown, codes};
 use ts_schema::{NoMemory, Seq, Steps};
 
-/// What follows a store call.
-#[derive(Drop)]
-pub struct Followed<T: Shown>
-where
-    T::Job: Drop,
-{
-    /// A line of the reply that comes before all later ones.
-    pub said: Option<Said>,
-    /// What comes next.
-    pub next: Next<T>,
-}
-
 /// Returns what follows a store call, by its outcome.
 pub fn follow<R: Threads + Sync, T: Shown + Drop, L>(
     rt: &R,
     alloc: Global,
     outcome: CallOutcome<T>,
     steps: &mut Steps<L>,
-) -> Result<Followed<T>, NoMemory>
+) -> Result<Next<T>, NoMemory>
 where
     T::Job: Drop,
     requires sync { IsSync R.row }
@@ -57,34 +43,18 @@ where
         → FollowsTo T.Shown h outcome result steps.old steps.new }
 {
     match outcome {
-        CallOutcome::Number { line, came } => quietly(after_number(alloc, line, came)),
-        CallOutcome::Commit { leaves, came } => quietly(after_commit(alloc, leaves, came)),
-        CallOutcome::View { new, filled, came } => quietly(after_view(alloc, new, filled, came)),
-        CallOutcome::Found { asked, made } => Ok(Followed {
-            said: Some(Said::View(made)),
-            next: Next::Deed(Deed::Cut {
-                asked,
-                then: AfterCut::Refresh,
-            }),
-        }),
+        CallOutcome::Number { line, came } => after_number(alloc, line, came),
+        CallOutcome::Commit { leaves, came } => after_commit(alloc, leaves, came),
+        CallOutcome::Found { asked } => Ok(Next::Deed(Deed::Cut {
+            asked,
+            then: AfterCut::Refresh,
+        })),
         CallOutcome::Cut { asked, then, came } => match then {
-            AfterCut::Refresh => quietly(after_refresh_cut(alloc, &asked, came)),
-            AfterCut::End => quietly(after_cut(alloc, &asked, came)),
+            AfterCut::Refresh => after_refresh_cut(alloc, &asked, came),
+            AfterCut::End => after_cut(alloc, &asked, came),
         },
-        CallOutcome::Finish { finishing, came } => quietly(after_finish(alloc, &finishing, came)),
-        CallOutcome::Look { then, shot } => quietly(after_look(rt, alloc, then, shot, steps)),
-    }
-}
-
-/// Returns what comes next, with no line of the reply before it.
-fn quietly<T: Shown + Drop>(next: Result<Next<T>, NoMemory>) -> Result<Followed<T>, NoMemory>
-where
-    T::Job: Drop,
-    ensures { result ≡ quiet next }
-{
-    match next {
-        Ok(next) => Ok(Followed { said: None, next }),
-        Err(NoMemory) => Err(NoMemory),
+        CallOutcome::Finish { finishing, came } => after_finish(alloc, &finishing, came),
+        CallOutcome::Look { then, shot } => after_look(rt, alloc, then, shot, steps),
     }
 }
 
@@ -101,7 +71,7 @@ where
     requires sync { IsSync R.row }
     requires counts { steps.old < 2 ^ 64 }
     ensures { (h : History) → T.stands shot h → IsTrue (all_allowed h)
-        → LooksTo T.Shown h then result steps.old steps.new }
+        → FollowsTo T.Shown h (outcomes.Look then shot) result steps.old steps.new }
 {
     match then {
         AfterLook::BeginRead => {
@@ -134,35 +104,36 @@ where
     }
 }
 
-/// Ends the statement after a call that creates a table or sets a relation.
-pub fn after_number<T: Shown + Drop>(
+/// Ends the statement after a call that creates or sets a relation.
+fn after_number<T: Shown + Drop>(
     alloc: Global,
     line: ChangeLine,
     came: Result<u64, Refusal>,
 ) -> Result<Next<T>, NoMemory>
 where
     T::Job: Drop,
-    ensures { IfOk result (λ n. Follows T.Shown n 1 (λ p. ends (turn_of_line p (says line) came))) }
+    ensures { (h : History) → IfOk result (Follows T.Shown h (outcomes.Number line came)) }
 {
     match came {
         Ok(number) => match line {
             ChangeLine::Table => say(alloc, Said::Table(number), Change::Nothing),
             ChangeLine::Hyper => say(alloc, Said::Hypertable(number), Change::Nothing),
             ChangeLine::Mode => say(alloc, Said::Mode(number), Change::Nothing),
+            ChangeLine::View => say(alloc, Said::View(number), Change::Nothing),
         },
         Err(refusal) => say(alloc, Said::Fault(refusal), Change::Nothing),
     }
 }
 
 /// Ends the statement after a commit. `leaves` says whether the commit ends a block.
-pub fn after_commit<T: Shown + Drop>(
+fn after_commit<T: Shown + Drop>(
     alloc: Global,
     leaves: bool,
     came: Result<Committed, Refusal>,
 ) -> Result<Next<T>, NoMemory>
 where
     T::Job: Drop,
-    ensures { IfOk result (λ n. Follows T.Shown n 1 (λ p. ends (turn_of_commit p (left_by leaves p) came))) }
+    ensures { (h : History) → IfOk result (Follows T.Shown h (outcomes.Commit leaves came)) }
 {
     match came {
         Ok(done) => match leaves {
@@ -173,36 +144,15 @@ where
     }
 }
 
-/// Continues after an aggregate was created. Ends the statement if it was refused or needs no refresh.
-pub fn after_view<T: Shown + Drop>(
-    alloc: Global,
-    new: NewView,
-    filled: bool,
-    came: Result<u64, Refusal>,
-) -> Result<Next<T>, NoMemory>
-where
-    T::Job: Drop,
-    ensures { IfOk result (λ n. FollowsReading T.Shown n 5 (λ s. MadeFits came s.history new.name) (λ read. 0)
-        (λ p read h. view_leaves p (number_at h new.name) (first_of new.width) filled came)) }
-{
-    match came {
-        Ok(made) => match filled {
-            true => Ok(Next::Deed(Deed::Fill { new, made })),
-            false => say(alloc, Said::View(made), Change::Nothing),
-        },
-        Err(refusal) => say(alloc, Said::Fault(refusal), Change::Nothing),
-    }
-}
-
 /// Continues after the cut of a whole refresh, or ends the statement if it was refused or had nothing to do.
-pub fn after_refresh_cut<T: Shown + Drop>(
+fn after_refresh_cut<T: Shown + Drop>(
     alloc: Global,
     asked: &RefreshRequest,
     came: Result<CutDone, Refusal>,
 ) -> Result<Next<T>, NoMemory>
 where
     T::Job: Drop,
-    ensures { IfOk result (λ n. Follows T.Shown n 3 (λ p. cut_leaves p asked.now.min came)) }
+    ensures { (h : History) → IfOk result (Follows T.Shown h (outcomes.Cut asked.now after_cuts.Refresh came)) }
 {
     match came {
         Ok(done) => match done {
@@ -220,14 +170,14 @@ where
 }
 
 /// Ends the statement after a cut.
-pub fn after_cut<T: Shown + Drop>(
+fn after_cut<T: Shown + Drop>(
     alloc: Global,
     asked: &RefreshRequest,
     came: Result<CutDone, Refusal>,
 ) -> Result<Next<T>, NoMemory>
 where
     T::Job: Drop,
-    ensures { IfOk result (λ n. Follows T.Shown n 1 (λ p. ends (cut_turn p asked.now.min came))) }
+    ensures { (h : History) → IfOk result (Follows T.Shown h (outcomes.Cut asked.now after_cuts.End came)) }
 {
     match came {
         Ok(done) => match done {
@@ -246,16 +196,15 @@ where
 }
 
 /// Continues after the snapshot of a refresh that the statement cut, or ends the statement if it was refused.
-pub fn after_snapshot<T: Shown + Drop>(
+fn after_snapshot<T: Shown + Drop>(
     alloc: Global,
     begun: CutRefresh,
     snapped: SnapOutcome<T::Job>,
 ) -> Result<Next<T>, NoMemory>
 where
     T::Job: Drop,
-    ensures { IfOk result (λ n. FollowsReading T.Shown n 2 (λ s. FitsSnapped T.Shown begun.cut s.history snapped)
-        (λ read. read_by read snapped)
-        (λ p read h. snapshot_leaves (cuts begun.cut p) begun.cut begun.span begun.min (taken_as read snapped))) }
+    ensures { IfOk result (FollowsSnapshot T.Shown begun.cut 2 snapped
+        (λ p taken. snapshot_leaves (cuts begun.cut p) begun.cut begun.span begun.min taken)) }
 {
     match snapped {
         SnapOutcome::Taken { at, job } => Ok(Next::Deed(Deed::Finish {
@@ -267,15 +216,14 @@ where
 }
 
 /// Ends the statement after a snapshot that the session will hold.
-pub fn after_hold<T: Shown + Drop>(
+fn after_hold<T: Shown + Drop>(
     alloc: Global,
     cut: u64,
     snapped: SnapOutcome<T::Job>,
 ) -> Result<Next<T>, NoMemory>
 where
     T::Job: Drop,
-    ensures { IfOk result (λ n. FollowsReading T.Shown n 1 (λ s. FitsSnapped T.Shown cut s.history snapped)
-        (λ read. read_by read snapped) (λ p read h. ends (snap_turn p cut (taken_as read snapped)))) }
+    ensures { IfOk result (FollowsSnapshot T.Shown cut 1 snapped (λ p taken. ends (snap_turn p cut taken))) }
 {
     match snapped {
         SnapOutcome::Taken { at, job } => {
@@ -287,15 +235,14 @@ where
 }
 
 /// Ends the statement after a finish.
-pub fn after_finish<T: Shown + Drop>(
+fn after_finish<T: Shown + Drop>(
     alloc: Global,
     finishing: &FinishSource,
     came: Result<u64, Refusal>,
 ) -> Result<Next<T>, NoMemory>
 where
     T::Job: Drop,
-    ensures { IfOk result (λ n. FollowsReading T.Shown n 1 (λ s. ⊤) (λ read. spent_by read finishing.now)
-        (λ p read h. ends (turn_of_finish p read finishing.now came))) }
+    ensures { (h : History) → IfOk result (Follows T.Shown h (outcomes.Finish finishing.now came)) }
 {
     match finishing {
         FinishSource::Begun { begun, at } => match came {
@@ -326,7 +273,7 @@ where
 }
 
 /// Refuses to finish a refresh that is in this state at a position.
-pub fn refuse<T: Shown + Drop>(
+fn refuse<T: Shown + Drop>(
     alloc: Global,
     pending: Pending,
     position: u64,

@@ -14,7 +14,7 @@ use Rattle.audit_past.proofs.write_blocks.replay_query.Goals as goal
 pub returns-in-None : goal.returns-in-None
 returns-in-None g c = λ p block.
     let all = g.P.Past.all c.args.past.now in
-    query_nowhere p c.args.bytes c.args.stmt.now _ _ block c.requires.asks all c.args.at c.args.looks.now (sym c.next_look.ensures ∙ c.in-None.is) (fits_on_hypertables (roster all) c.args.queue.now.ops c.requires.waits.fits)
+    query_nowhere p c.args.bytes c.args.stmt.now _ _ block c.requires.asks all c.args.point.at c.args.point.looks.now (sym c.next_look.ensures ∙ c.in-None.is) (fits_on_hypertables (roster all) c.args.queue.now.ops c.requires.waits.fits)
 
 pub returns-then-not-all_fit : goal.returns-then-not-all_fit
 returns-then-not-all_fit g c = λ p block.
@@ -24,7 +24,7 @@ returns-then-not-all_fit g c = λ p block.
     let ops = c.args.queue.now.ops in
     let tested = c.all_fit.ensures ∙ ap (list_all (op_fits c.roster.result.now)) c.items.ensures.items ∙ ap (λ r. list_all (op_fits r) ops) (c.roster.ensures h c.in_ok-shot-in-Some.ensures) in
     let there = fits_if_there h all (begins_prefix all look) ops c.requires.waits.fits ∙ sym tested ∙ c.if-not-all_fit.true in
-    query_missed p c.args.bytes c.args.stmt.now _ _ block c.requires.asks all c.args.at look c.args.looks.now (sym c.next_look.ensures ∙ c.in-Some.is) there (fits_on_hypertables (roster all) ops c.requires.waits.fits)
+    query_missed p c.args.bytes c.args.stmt.now _ _ block c.requires.asks all c.args.point.at look c.args.point.looks.now (sym c.next_look.ensures ∙ c.in-Some.is) there (fits_on_hypertables (roster all) ops c.requires.waits.fits)
 
 pub show-requires-clause-stands : goal.show-requires-clause-stands
 show-requires-clause-stands g c κs within =
@@ -47,5 +47,5 @@ returns-in_ok-next-in-Some g c = λ p block.
     let ops = c.args.queue.now.ops in
     let tested = c.all_fit.ensures ∙ ap (list_all (op_fits c.roster.result.now)) c.items.ensures.items ∙ ap (λ r. list_all (op_fits r) ops) (c.roster.ensures h c.in_ok-shot-in-Some.ensures) in
     let there = fits_if_there h all (begins_prefix all look) ops c.requires.waits.fits ∙ sym tested ∙ c.if-not-all_fit.false in
-    query_told_as p c.args.bytes c.args.stmt.now _ _ block c.requires.asks g.P.Shot.Shown all c.args.at look c.args.looks.now c.in_ok-next-in-Some.next c.end_of_statement.result (sym c.next_look.ensures ∙ c.in-Some.is) there
+    query_told_as p c.args.bytes c.args.stmt.now _ _ block c.requires.asks g.P.Shot.Shown all c.args.point.at look c.args.point.looks.now c.in_ok-next-in-Some.next c.end_of_statement.result (sym c.next_look.ensures ∙ c.in-Some.is) there
     (c.in_ok-next-in-Some.ensures h c.in_ok-shot-in-Some.ensures) c.end_of_statement.ensures

@@ -1,23 +1,18 @@
-use Rattle.std.proofs.Common.{◌≡◌, ◌<◌, ◌^◌, ◌∙◌, true, None, length, refl, ap, sym, subst}
+use Rattle.std.proofs.Common.{true, ap, arith, refl, sym, subst}
 use Rattle.std.specs.Prelude.{Ok, Err, IsTrue}
-use Rattle.ts_bucket.specs.Bucket.{first_of}
 use Rattle.ts_model.specs.Calls.{act_of_commit}
-use Rattle.ts_model.proofs.CallLaws.{begins_looked}
-use Rattle.stmt_check.proofs.RosterLaws.{rosters_are_numbered}
 use Rattle.ts_sessions.specs.Held.{is_lost}
 use Rattle.ts_sessions.specs.declared.calls.CallOutcome.TheVariants as outcomes
 use Rattle.ts_sessions.specs.declared.deeds.Deed.TheVariants as deeds
+use Rattle.ts_sessions.specs.Calls.{MeetsTo}
 use Rattle.ts_sessions.specs.Deeds.{DeedFits, IsLostBy, at_in, cut_in, cut_left, turn_of_finish, left_by, line_of, making_of, rest, says}
 use Rattle.ts_sessions.specs.Procedures.{ends, tries}
-use Rattle.ts_sessions.specs.Sound.{number_at}
-use Rattle.ts_sessions.specs.Step.{after_view, turn_of_commit, cuts_refresh, finishes_refresh, turn_of_line}
+use Rattle.ts_sessions.specs.Step.{turn_of_commit, cuts_refresh, finishes_refresh, turn_of_line}
 use Rattle.ts_sessions.specs.Walks.{Breaks}
-use Rattle.ts_sessions.proofs.DeedWalks.{call_broken, found_meets, job_tries, look_meets, tried_broken, tried_meets, view_meets}
-use Rattle.ts_sessions.proofs.JobLaws.{finish_lost, known_job}
+use Rattle.ts_sessions.proofs.DeedWalks.{call_broken, job_tries, look_meets, tried_broken, tried_meets}
+use Rattle.ts_sessions.proofs.JobLaws.{always_ok, finish_lost, known_job}
 use Rattle.ts_sessions.proofs.NameCheckWalks.{looked_only}
 use Rattle.ts_sessions.proofs.StateLaws.{looked_reports}
-use Rattle.ts_sessions.proofs.ViewWalks.{number_in, view_broken}
-use Rattle.ts_sessions.proofs.WalkLaws.{not_begun}
 use Rattle.ts_sessions.proofs.calls.call.Goals as goal
 
 -- ---- calls that may append an event
@@ -33,7 +28,7 @@ returns-in_ok-tried-in-Make-clause-meets g c =
     let old = g.B.Backend.state c.args.backend.now in
     let m = c.in-Make.making in
     let r = c.into_result-came.result in
-    tried_meets g.B.Shot.Shown g.B.Backend.alone old c.args.deed (deeds.Make m) (tries (making_of m)) (λ p read r. ends (turn_of_line p (says (line_of m)) r)) c.in_ok-tried-in-Make.tried r c.has_disk_fault-failed.result (outcomes.Number c.line-line.result r) (g.B.Backend.state c.make_one.new.backend) c.in-Make.is (λ p read. refl) (λ p read. ap (λ l. ends (turn_of_line p (says l) r)) c.line-line.ensures) c.in_ok-tried-in-Make.ensures.tries c.has_disk_fault-failed.ensures c.into_result-came.ensures (record { fits = tt; left_so = refl; spent_so = λ read. refl })
+    tried_meets g.B.Shot.Shown g.B.Backend.alone old c.args.deed (deeds.Make m) (tries (making_of m)) (λ p read r. ends (turn_of_line p (says (line_of m)) r)) c.in_ok-tried-in-Make.tried r c.has_disk_fault-failed.result (outcomes.Number c.line-line.result r) (g.B.Backend.state c.make_one.new.backend) c.in-Make.is (λ p read. refl) (λ p read. ap (λ l. ends (turn_of_line p (says l) r)) c.line-line.ensures) c.in_ok-tried-in-Make.ensures.tries c.has_disk_fault-failed.ensures c.into_result-came.ensures (record { fits = tt; left_so = omega arith; spent_so = λ read. refl })
 
 pub returns-in_err-tried-in-Commit-clause-meets : goal.returns-in_err-tried-in-Commit-clause-meets
 returns-in_err-tried-in-Commit-clause-meets g c =
@@ -44,7 +39,7 @@ pub returns-in_ok-tried-in-Commit-clause-meets : goal.returns-in_ok-tried-in-Com
 returns-in_ok-tried-in-Commit-clause-meets g c =
     let old = g.B.Backend.state c.args.backend.now in
     let r = c.into_result-came-in-Commit.result in
-    tried_meets g.B.Shot.Shown g.B.Backend.alone old c.args.deed (deeds.Commit c.in-Commit.ops c.in-Commit.leaves) (tries (act_of_commit c.in-Commit.ops)) (λ p read r. ends (turn_of_commit p (left_by c.in-Commit.leaves p) r)) c.in_ok-tried-in-Commit.tried r c.has_disk_fault-failed-in-Commit.result (outcomes.Commit c.in-Commit.leaves r) (g.B.Backend.state c.commit.new.backend) c.in-Commit.is (λ p read. refl) (λ p read. refl) c.in_ok-tried-in-Commit.ensures.tries c.has_disk_fault-failed-in-Commit.ensures c.into_result-came-in-Commit.ensures (record { fits = tt; left_so = refl; spent_so = λ read. refl })
+    tried_meets g.B.Shot.Shown g.B.Backend.alone old c.args.deed (deeds.Commit c.in-Commit.ops c.in-Commit.leaves) (tries (act_of_commit c.in-Commit.ops)) (λ p read r. ends (turn_of_commit p (left_by c.in-Commit.leaves p) r)) c.in_ok-tried-in-Commit.tried r c.has_disk_fault-failed-in-Commit.result (outcomes.Commit c.in-Commit.leaves r) (g.B.Backend.state c.commit.new.backend) c.in-Commit.is (λ p read. refl) (λ p read. refl) c.in_ok-tried-in-Commit.ensures.tries c.has_disk_fault-failed-in-Commit.ensures c.into_result-came-in-Commit.ensures (record { fits = tt; left_so = omega arith; spent_so = λ read. refl })
 
 pub returns-in_err-tried-in-Cut-clause-meets : goal.returns-in_err-tried-in-Cut-clause-meets
 returns-in_err-tried-in-Cut-clause-meets g c =
@@ -59,7 +54,7 @@ returns-in_ok-tried-in-Cut-clause-meets g c =
     let a = c.in-Cut.asked in
     let then = c.in-Cut.then in
     let r = c.into_result-came-in-Cut.result in
-    tried_meets g.B.Shot.Shown g.B.Backend.alone old c.args.deed (deeds.Cut a then) (cuts_refresh a.view a.lo a.hi) (λ p read r. cut_left p a.min then r) c.in_ok-tried-in-Cut.tried r c.has_disk_fault-failed-in-Cut.result (outcomes.Cut a then r) (g.B.Backend.state c.cut.new.backend) c.in-Cut.is (λ p read. refl) (λ p read. refl) c.in_ok-tried-in-Cut.ensures.tries c.has_disk_fault-failed-in-Cut.ensures c.into_result-came-in-Cut.ensures (record { fits = tt; left_so = refl; spent_so = λ read. refl })
+    tried_meets g.B.Shot.Shown g.B.Backend.alone old c.args.deed (deeds.Cut a then) (cuts_refresh a.view a.lo a.hi) (λ p read r. cut_left p a.min then r) c.in_ok-tried-in-Cut.tried r c.has_disk_fault-failed-in-Cut.result (outcomes.Cut a then r) (g.B.Backend.state c.cut.new.backend) c.in-Cut.is (λ p read. refl) (λ p read. refl) c.in_ok-tried-in-Cut.ensures.tries c.has_disk_fault-failed-in-Cut.ensures c.into_result-came-in-Cut.ensures (record { fits = tt; left_so = omega arith; spent_so = λ read. refl })
 
 pub returns-in_err-tried-in-Finish-clause-meets : goal.returns-in_err-tried-in-Finish-clause-meets
 returns-in_err-tried-in-Finish-clause-meets g c =
@@ -72,7 +67,7 @@ returns-in_ok-tried-in-Finish-clause-meets g c =
     let old = g.B.Backend.state c.args.backend.now in
     let f = c.in-Finish.finishing in
     let r = c.into_result-came-in-Finish.result in
-    tried_meets g.B.Shot.Shown g.B.Backend.alone old c.args.deed (deeds.Finish c.in-Finish.job f) (finishes_refresh (cut_in f) (at_in f)) (λ p read r. ends (turn_of_finish p read f r)) c.in_ok-tried-in-Finish.tried r c.has_disk_fault-failed-in-Finish.result (outcomes.Finish f r) (g.B.Backend.state c.finish.new.backend) c.in-Finish.is (λ p read. refl) (λ p read. refl) (job_tries g.B.Shot.Shown g.B.Backend.alone old c.args.deed c.in-Finish.job f (Ok c.in_ok-tried-in-Finish.tried) (g.B.Backend.state c.finish.new.backend) c.requires.fits c.in-Finish.is c.in_ok-tried-in-Finish.ensures.tries) c.has_disk_fault-failed-in-Finish.ensures c.into_result-came-in-Finish.ensures (record { fits = tt; left_so = refl; spent_so = λ read. refl })
+    tried_meets g.B.Shot.Shown g.B.Backend.alone old c.args.deed (deeds.Finish c.in-Finish.job f) (finishes_refresh (cut_in f) (at_in f)) (λ p read r. ends (turn_of_finish p read f r)) c.in_ok-tried-in-Finish.tried r c.has_disk_fault-failed-in-Finish.result (outcomes.Finish f r) (g.B.Backend.state c.finish.new.backend) c.in-Finish.is (λ p read. refl) (λ p read. refl) (job_tries g.B.Shot.Shown g.B.Backend.alone old c.args.deed c.in-Finish.job f (Ok c.in_ok-tried-in-Finish.tried) (g.B.Backend.state c.finish.new.backend) c.requires.fits c.in-Finish.is c.in_ok-tried-in-Finish.ensures.tries) c.has_disk_fault-failed-in-Finish.ensures c.into_result-came-in-Finish.ensures (record { fits = tt; left_so = omega arith; spent_so = λ read. refl })
 
 -- the refresh can't be finished any more
 pub returns-in_ok-tried-in-Finish-clause-lost : goal.returns-in_ok-tried-in-Finish-clause-lost
@@ -86,63 +81,28 @@ returns-in_ok-tried-in-Finish-clause-lost g c =
 
 -- ---- a new aggregate
 
-pub returns-in_err-tried-in-View-clause-meets : goal.returns-in_err-tried-in-View-clause-meets
-returns-in_err-tried-in-View-clause-meets g c =
-    let old = g.B.Backend.state c.args.backend.now in
-    let new = g.B.Backend.state c.make_view-outcome.new.self in
-    call_broken g.B.Shot.Shown g.B.Backend.alone old c.args.deed c.from_residual-in_err-tried-in-View.result new c.from_residual-in_err-tried-in-View.ensures.0 (λ p read.
-    subst (λ d. Breaks g.B.Backend.alone old (rest p read old.history d) new) (sym c.in-View.is)
-    (view_broken g.B.Backend.alone old c.in-View.def _ _ _ new (λ n. after_view p n c.in-View.def c.in-View.filled) c.make_view-outcome.ensures.called c.in_err-tried-in-View.ensures))
+pub returns-in-View-clause-meets : goal.returns-in-View-clause-meets
+returns-in-View-clause-meets g c =
+    subst (λ d. MeetsTo g.B.Shot.Shown g.B.Backend.alone (g.B.Backend.state c.args.backend.now) d c.make_view.result (g.B.Backend.state c.make_view.new.backend)) (sym c.in-View.is) c.make_view.ensures.meets
 
-pub returns-in_ok-tried-in-View-clause-meets : goal.returns-in_ok-tried-in-View-clause-meets
-returns-in_ok-tried-in-View-clause-meets g c =
-    let old = g.B.Backend.state c.args.backend.now in
-    view_meets g.B.Shot.Shown g.B.Backend.alone old c.args.deed c.in-View.def c.in-View.filled _ _ c.in_ok-tried-in-View.tried c.into_result-came-in-View.result c.has_disk_fault-failed-in-View.result c.in_ok-new-in-View.new (g.B.Backend.state c.make_view-outcome.new.self) c.in-View.is c.make_view-outcome.ensures.called c.position.ensures c.in_ok-tried-in-View.ensures c.has_disk_fault-failed-in-View.ensures c.into_result-came-in-View.ensures c.in_ok-new-in-View.ensures.name c.in_ok-new-in-View.ensures.width
-
--- ---- an aggregate that will be filled
-
-pub returns-in_err-shot-in-Fill-clause-meets : goal.returns-in_err-shot-in-Fill-clause-meets
-returns-in_err-shot-in-Fill-clause-meets g c =
-    let old = g.B.Backend.state c.args.backend.now in
-    let new = g.B.Backend.state c.snap.new.self in
-    call_broken g.B.Shot.Shown g.B.Backend.alone old c.args.deed c.from_residual-in_err-shot-in-Fill.result new c.from_residual-in_err-shot-in-Fill.ensures.0 (λ p read.
-    subst (λ d. Breaks g.B.Backend.alone old (rest p read old.history d) new) (sym c.in-Fill.is) (looked_only g.B.Backend.alone old _ new (λ h. true) _ c.in_err-shot-in-Fill.ensures.looked))
-
-pub view_number-view-requires : goal.view_number-view-requires
-view_number-view-requires g c =
-    let mid = (g.B.Backend.state c.snap.new.self).history in
-    let tells = looked_reports g.B.Backend.alone (g.B.Backend.state c.args.backend.now) _ (g.B.Backend.state c.snap.new.self) c.in_ok-shot-in-Fill.ensures.looked in
-    let few = (rosters_are_numbered mid tells.0).relations.views in
-    subst (λ vs. length vs < 2 ^ 32) (sym (c.items.ensures.items ∙ ap (λ r. r.views) (c.roster.ensures mid tells.1))) few
-
-pub returns-in_ok-shot-in-Fill-clause-meets : goal.returns-in_ok-shot-in-Fill-clause-meets
-returns-in_ok-shot-in-Fill-clause-meets g c =
-    let old = g.B.Backend.state c.args.backend.now in
-    let mid = g.B.Backend.state c.snap.new.self in
-    let name = c.in-Fill.new.name in
-    let min = first_of c.in-Fill.new.width in
-    let n = number_at old.history name in
-    let looked = c.in_ok-shot-in-Fill.ensures.looked in
-    let tells = looked_reports g.B.Backend.alone old _ mid looked in
-    let fits = subst (λ d. DeedFits g.B.Shot.Shown d old) c.in-Fill.is c.requires.fits in
-    let result = c.all_of-asked.result in
-    let is : result ≡ record { view = n; lo = None; hi = None; min = min } =
-    c.all_of-asked.ensures ∙ ap (λ v. record { view = v; lo = None; hi = None; min = min }) (number_in c.roster.result.now c.items.result.now old.history mid.history name c.view_number-view.result n c.view_number-view.ensures c.items.ensures.items (c.roster.ensures mid.history tells.1) (begins_looked looked) fits.0) in
-    found_meets g.B.Shot.Shown g.B.Backend.alone old c.args.deed c.in-Fill.new c.in-Fill.made result _ mid c.in-Fill.is fits.1 looked is
+pub returns-in-View-clause-lost : goal.returns-in-View-clause-lost
+returns-in-View-clause-lost g c =
+    let new = g.B.Backend.state c.make_view.new.backend in
+    always_ok (IsLostBy c.args.deed new) c.make_view.result (subst (λ d. IsLostBy d new) (sym c.in-View.is) tt)
 
 -- ---- a snapshot
 
 pub returns-in_err-shot-in-Look-clause-meets : goal.returns-in_err-shot-in-Look-clause-meets
 returns-in_err-shot-in-Look-clause-meets g c =
     let old = g.B.Backend.state c.args.backend.now in
-    let new = g.B.Backend.state c.snap-in-Look.new.self in
+    let new = g.B.Backend.state c.snap.new.self in
     call_broken g.B.Shot.Shown g.B.Backend.alone old c.args.deed c.from_residual-in_err-shot-in-Look.result new c.from_residual-in_err-shot-in-Look.ensures.0 (λ p read.
-    subst (λ d. Breaks g.B.Backend.alone old (rest p read old.history d) new) (sym c.in-Look.is) (looked_only g.B.Backend.alone old _ new (λ h. true) _ c.in_err-shot-in-Look.ensures.looked))
+    subst (λ d. Breaks g.B.Backend.alone old (rest p read d) new) (sym c.in-Look.is) (looked_only g.B.Backend.alone old _ new (λ h. true) _ c.in_err-shot-in-Look.ensures.looked))
 
 pub returns-in_ok-shot-in-Look-clause-meets : goal.returns-in_ok-shot-in-Look-clause-meets
 returns-in_ok-shot-in-Look-clause-meets g c =
     let old = g.B.Backend.state c.args.backend.now in
-    let mid = g.B.Backend.state c.snap-in-Look.new.self in
+    let mid = g.B.Backend.state c.snap.new.self in
     let looked = c.in_ok-shot-in-Look.ensures.looked in
     let tells = looked_reports g.B.Backend.alone old _ mid looked in
     look_meets g.B.Shot.Shown g.B.Backend.alone old c.args.deed c.in-Look.then c.in_ok-shot-in-Look.shot _ mid c.in-Look.is looked tells.1 tells.0

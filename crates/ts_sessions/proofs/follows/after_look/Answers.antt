@@ -17,25 +17,25 @@ pub returns-in-BeginRead : goal.returns-in-BeginRead
 returns-in-BeginRead g c = λ h stands allowed.
     let at = c.position-at.result in
     let is = c.position-at.ensures h stands in
-    look_says g.T.Shown h c.args.then looks_for.BeginRead c.say.result (said.BeginRead at) (changes.Enters (opens.Read at c.args.shot)) _ c.requires.counts c.in-BeginRead.is refl c.say.ensures
+    look_says g.T.Shown h c.args.then looks_for.BeginRead c.args.shot c.say.result (said.BeginRead at) (changes.Enters (opens.Read at c.args.shot)) _ c.in-BeginRead.is refl c.say.ensures
     (λ p. ap (λ n. ends (turns (enters (reading n) p) (said.BeginRead n))) is) (λ bytes. whole_holds g.T.Shown.stands c.args.shot at h stands allowed is)
 
 pub returns-in_ok-snapped-in-Snapshot : goal.returns-in_ok-snapped-in-Snapshot
 returns-in_ok-snapped-in-Snapshot g c = λ h stands allowed.
     let begun = c.in-Snapshot.begun in
-    look_snaps g.T.Shown h c.args.then (looks_for.Snapshot begun) begun.cut (λ p t. after_snapshot (cuts begun.cut p) begun.cut begun.span begun.min t) c.in_ok-snapped-in-Snapshot.snapped c.after_snapshot.result _ _ c.requires.counts c.in-Snapshot.is (λ p. refl) c.after_snapshot.ensures (c.in_ok-snapped-in-Snapshot.ensures.taken h stands) (c.in_ok-snapped-in-Snapshot.ensures.fits h stands)
+    look_snaps g.T.Shown h c.args.then (looks_for.Snapshot begun) c.args.shot begun.cut (λ p t. after_snapshot (cuts begun.cut p) begun.cut begun.span begun.min t) c.in_ok-snapped-in-Snapshot.snapped c.after_snapshot.result _ _ c.requires.counts c.in-Snapshot.is (λ p. refl) c.after_snapshot.ensures (c.in_ok-snapped-in-Snapshot.ensures.taken h stands) (c.in_ok-snapped-in-Snapshot.ensures.fits h stands)
 
 pub returns-in_ok-snapped-in-Hold : goal.returns-in_ok-snapped-in-Hold
 returns-in_ok-snapped-in-Hold g c = λ h stands allowed.
     let cut = c.in-Hold.cut in
-    look_snaps g.T.Shown h c.args.then (looks_for.Hold cut) cut (λ p t. ends (snap_turn p cut t)) c.in_ok-snapped-in-Hold.snapped c.after_hold.result _ _ c.requires.counts c.in-Hold.is (λ p. refl) c.after_hold.ensures (c.in_ok-snapped-in-Hold.ensures.taken h stands) (c.in_ok-snapped-in-Hold.ensures.fits h stands)
+    look_snaps g.T.Shown h c.args.then (looks_for.Hold cut) c.args.shot cut (λ p t. ends (snap_turn p cut t)) c.in_ok-snapped-in-Hold.snapped c.after_hold.result _ _ c.requires.counts c.in-Hold.is (λ p. refl) c.after_hold.ensures (c.in_ok-snapped-in-Hold.ensures.taken h stands) (c.in_ok-snapped-in-Hold.ensures.fits h stands)
 
 pub returns-in-Refuse : goal.returns-in-Refuse
 returns-in-Refuse g c = λ h stands allowed.
     let lacks = c.in-Refuse.lacks in
-    look_says g.T.Shown h c.args.then (looks_for.Refuse c.in-Refuse.cut lacks) c.refuse.result (said.Fault (unfinished_refusal (lack_code lacks h) h c.pending.result)) changes.Nothing _ c.requires.counts c.in-Refuse.is refl (c.refuse.ensures h (c.position.ensures h stands))
+    look_says g.T.Shown h c.args.then (looks_for.Refuse c.in-Refuse.cut lacks) c.args.shot c.refuse.result (said.Fault (unfinished_refusal (lack_code lacks h) h c.pending.result)) changes.Nothing _ c.in-Refuse.is refl (c.refuse.ensures h (c.position.ensures h stands))
     (λ p. ap (λ q. ends (refuses p (unfinished_refusal (lack_code lacks h) h q))) (c.pending.ensures h stands)) (λ bytes. tt)
 
 pub returns-in-Unknown : goal.returns-in-Unknown
 returns-in-Unknown g c = λ h stands allowed.
-    look_says g.T.Shown h c.args.then looks_for.Unknown c.refuse-in-Unknown.result (said.Fault (unfinished_refusal (lack_code lacks.Snapshot h) h Unknown)) changes.Nothing _ c.requires.counts c.in-Unknown.is refl (c.refuse-in-Unknown.ensures h (c.position-in-Unknown.ensures h stands)) (λ p. refl) (λ bytes. tt)
+    look_says g.T.Shown h c.args.then looks_for.Unknown c.args.shot c.refuse-in-Unknown.result (said.Fault (unfinished_refusal (lack_code lacks.Snapshot h) h Unknown)) changes.Nothing _ c.in-Unknown.is refl (c.refuse-in-Unknown.ensures h (c.position-in-Unknown.ensures h stands)) (λ p. refl) (λ bytes. tt)

@@ -1,7 +1,6 @@
-use Rattle.std.proofs.Common.{suc}
 use Rattle.ts_model.specs.declared.events.Event.TheVariants.{Built}
 use Rattle.ts_model.specs.Calls.{act_of_finish}
-use Rattle.ts_model.specs.History.{event_at, prefix}
+use Rattle.ts_model.specs.History.{prefix}
 use Rattle.engine_core.specs.Acts.{making_event}
 use Rattle.engine_core.specs.Histories.{history_of}
 use Rattle.engine_core.proofs.ActLaws.{answered_finish}
@@ -12,4 +11,4 @@ pub returns : goal.returns
 returns c =
     let all = history_of c.args.self.now.timeline.past in
     let h = prefix all c.args.at in
-    came_to (λ e. e.pos) (making_event (Built c.args.cut c.args.snap) h) (act_of_finish c.args.cut c.args.snap h) (event_at all (suc c.args.at)) c.call.result c.event_number.result (answered_finish c.args.cut c.args.snap h) c.event_number.ensures c.call.ensures.came
+    came_to (λ e. e.pos) (making_event (Built c.args.cut c.args.snap) h) (act_of_finish c.args.cut c.args.snap h) all c.args.at c.call.result c.event_number.result (answered_finish c.args.cut c.args.snap h) c.event_number.ensures c.call.ensures.came

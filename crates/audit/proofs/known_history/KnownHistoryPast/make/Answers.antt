@@ -1,5 +1,5 @@
-use Rattle.std.proofs.Common.{◌≡◌, suc, subst, sym}
-use Rattle.ts_model.specs.History.{History, event_at, prefix}
+use Rattle.std.proofs.Common.{◌≡◌, subst, sym}
+use Rattle.ts_model.specs.History.{History, prefix}
 use Rattle.ts_sessions.specs.declared.deeds.RelationChange.{RelationChange}
 use Rattle.ts_sessions.specs.declared.deeds.RelationChange.TheVariants as making
 use Rattle.ts_sessions.specs.Deeds.{event_of, making_of}
@@ -20,5 +20,5 @@ returns c =
     let all = history_of c.args.self.now.timeline.past in
     let h = prefix all c.args.at in
     let m = c.args.making in
-    came_to (λ e. e.pos) (making_event c.event.result h) (making_of m h) (event_at all (suc c.args.at)) c.call.result c.event_number.result
+    came_to (λ e. e.pos) (making_event c.event.result h) (making_of m h) all c.args.at c.call.result c.event_number.result
     (subst (λ e. making_of m h ≡ with_answer (λ x. x.pos) (making_event e h)) (sym c.event.ensures) (answered_making m h)) c.event_number.ensures c.call.ensures.came

@@ -8,7 +8,8 @@ use Rattle.ts_sessions.specs.Procedures.{looks}
 use Rattle.ts_sessions.specs.Sessions.{finish_meant}
 use Rattle.ts_sessions.specs.Step.{finishes, turn_of_names, performs, read_at, refresh_meant}
 use Rattle.ts_sessions.proofs.BlockWalks.{finishes_outside, passes_as}
-use Rattle.ts_sessions.proofs.FirstLaws.{leads_then, opens_broken, opens_here, performs_looks}
+use Rattle.ts_sessions.proofs.DeedWalks.{leads_then}
+use Rattle.ts_sessions.proofs.FirstLaws.{opens_broken, opens_here, performs_looks}
 use Rattle.ts_sessions.proofs.HeldDeeds.{takes_none, takes_nothing}
 use Rattle.ts_sessions.proofs.WalkLaws.{not_begun}
 use Rattle.ts_sessions.proofs.OpeningLaws.{finish_first, names_first, next_first}
@@ -51,7 +52,7 @@ returns-in-Finish-clause-opens g c =
     let left = looks (λ h. finishes p h (refresh_meant p number)) in
     subst (λ x. Opens g.T.Shown c.args.bytes alone old (performs p c.args.bytes x) p next old n n) (sym is)
     (opens_here g.T.Shown c.args.bytes alone old (performs p c.args.bytes stmt) p next n c.requires.counts
-    (leads_then alone false old (performs p c.args.bytes stmt) old left old (rest_next p 0 old.history next)
+    (leads_then alone false old (performs p c.args.bytes stmt) old left old (rest_next p 0 next)
     (performs_looks alone old p c.args.bytes stmt (λ h. finishes p h (refresh_meant p number)) refl (λ h on. ap (λ b. turn_of_names p c.args.bytes stmt (read_at b h)) outside))
     (c.finish.ensures.stands old c.requires.holds alone))
     (c.finish.ensures.fits old c.requires.holds))

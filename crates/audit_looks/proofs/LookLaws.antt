@@ -50,8 +50,8 @@ use Rattle.ts_sessions.specs.Places.{Block, none, writing, reading, Places, Turn
 use Rattle.ts_sessions.specs.Procedures.{Procedure, sees, adds, ends, ending_as, followed_by, looks, tries_at}
 use Rattle.ts_sessions.specs.Replies.{reply_to, replies}
 use Rattle.ts_sessions.specs.Step.{Taken, acts, after_cut, after_line, after_snapshot, after_view, answers, begins, block_refusal, calendar_plan, commits, turn_of_commit, cut_refused, cut_turn, finish_turn, finishes, finishes_held, kind_of, least_start, makes_event, misread, turn_of_names, named_here, on_hypertables, plan_of, prints, prints_writing, refresh_meant, turn_of_refresh, refreshes, refusal_outside, turn_of_line, snap_turn, snaps, snapshot_taken, taken_of, unfinished_refusal, unit_of, unless, view_made}
-use Rattle.audit_past.specs.Replay.{Told, Tells}
-use Rattle.audit_past.specs.ReplayLaws.{RepliesTellTheirLooks}
+use Rattle.audit_looks.specs.Replay.{Told, Tells}
+use Rattle.audit_looks.specs.ReplayLaws.{RepliesTellTheirLooks}
 use Rattle.ts_sessions.proofs.BlockWalks.{block_is}
 use Rattle.ts_sessions.proofs.HypertableLaws.{on_hypertables_stay}
 use Rattle.ts_sessions.proofs.NamedLaws.{event_named, named_holds, read_holds, unless_holds}
@@ -59,7 +59,7 @@ use Rattle.ts_sessions.proofs.RefusalCodes.{IsLooked, Looked, checks_looked, loo
 use Rattle.ts_sessions.proofs.SteadyLaws.{none_there, only_begins, refused_here}
 use Rattle.ts_sessions.proofs.StopLaws.{EndsSo, position_at}
 use Rattle.ts_sessions.proofs.GivenEnds.{gives_as}
-use Rattle.audit_past.proofs.ReplayLaws.{may_from, tells_as}
+use Rattle.audit_looks.proofs.ReplayLaws.{may_from, tells_as}
 use Rattle.ts_sessions.proofs.UpperCodes.{rolled_looked}
 
 -- ---- the read positions that the end of a procedure prints

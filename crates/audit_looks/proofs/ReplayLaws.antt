@@ -7,8 +7,8 @@ use Rattle.ts_model.specs.declared.events.Event.{Event}
 use Rattle.ts_model.specs.History.{History, position, prefix}
 use Rattle.ts_sessions.specs.Gives.{Gives}
 use Rattle.ts_sessions.specs.Procedures.{Procedure, sees, adds, ends, ending_as}
-use Rattle.audit_past.specs.Replay.{Told, Tells, may_look}
-use Rattle.audit_past.specs.ReplayLaws.{ToldIsGiven, ToldOnce}
+use Rattle.audit_looks.specs.Replay.{Told, Tells, may_look}
+use Rattle.audit_looks.specs.ReplayLaws.{ToldIsGiven, ToldOnce}
 
 -- ---- reads that may be printed
 

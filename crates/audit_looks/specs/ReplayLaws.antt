@@ -7,7 +7,7 @@ use Rattle.ts_sessions.specs.Gives.{Gives}
 use Rattle.ts_sessions.specs.Looks.{looks_told}
 use Rattle.ts_sessions.specs.Places.{Places, Turn}
 use Rattle.ts_sessions.specs.Procedures.{Procedure}
-use Rattle.audit_past.specs.Replay.{Told, Tells}
+use Rattle.audit_looks.specs.Replay.{Told, Tells}
 
 -- a procedure gives the outcome of a replay by some read positions, with a store that never stopped
 pub record IsGivenSo {A : Type 0} (all : History) (at : ℕ) (procedure : Procedure A) (told : Told A) : Type 0 where

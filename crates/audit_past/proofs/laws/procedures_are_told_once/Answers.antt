@@ -1,5 +1,0 @@
-use Rattle.audit_past.proofs.ReplayLaws.{told_once}
-use Rattle.audit_past.proofs.laws.procedures_are_told_once.Goals as goal
-
-pub returns : goal.returns
-returns g c = told_once

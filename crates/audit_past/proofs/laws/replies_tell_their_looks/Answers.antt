@@ -1,5 +1,0 @@
-use Rattle.audit_past.proofs.LookLaws.{replies_tell}
-use Rattle.audit_past.proofs.laws.replies_tell_their_looks.Goals as goal
-
-pub returns : goal.returns
-returns c = replies_tell

@@ -1,5 +1,0 @@
-use Rattle.audit_past.proofs.ReplayLaws.{told_is_given}
-use Rattle.audit_past.proofs.laws.what_is_told_is_given.Goals as goal
-
-pub returns : goal.returns
-returns g c = told_is_given
