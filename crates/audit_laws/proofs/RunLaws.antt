@@ -25,6 +25,7 @@ use Rattle.transcript.specs.declared.transcripts.SessionTranscript.{SessionTrans
 use Rattle.transcript.specs.Laws.{AsciiReadsBack}
 use Rattle.transcript.specs.Text.{transcript_text}
 use Rattle.par_run.specs.Outputs.{talk_of, transcript_in}
+use Rattle.par_run.proofs.AsciiLaws.{runs_ascii}
 use Rattle.par_run.proofs.ScriptLaws.{IsSoundScript, sound_filter, sound_input}
 use Rattle.par_run.proofs.SoundLaws.{runs_sound}
 use Rattle.audit.specs.Laws.{ExplainedIsYes}
@@ -185,7 +186,8 @@ runs_explained opening input policies new out reads ran still plain =
 
 -- its text is read back as the transcript, so an audit answers YES
 pub audits_yes : AsciiReadsBack → ExplainedIsYes → AuditsSayYes
-audits_yes back says opening input policies new out reads audit ran still allowed ascii small plain answers =
+audits_yes back says opening input policies new out reads audit ran still allowed small plain answers =
     let t = transcript_in (position opening) out in
+    let ascii = runs_ascii policy_replies (places_with policies) opening input new out reads (position opening) ran in
     let sound = runs_sound policy_replies (places_with policies) opening input new out reads (position opening) ran in
     says new.history (transcript_text t) t audit allowed (back t small ascii sound) plain (runs_explained opening input policies new out reads ran still plain) answers

@@ -1,5 +1,5 @@
 -- What a parallel run leaves, and its audit.
-use Rattle.std.specs.Prelude.{◌≡◌, ◌⊎◌, ◌<◌, ◌^◌, ℕ, true, false, List, None, IsTrue}
+use Rattle.std.specs.Prelude.{◌≡◌, ◌⊎◌, ◌<◌, ◌^◌, ℕ, true, false, List, None}
 use Rattle.ts_model.specs.Allowed.{all_allowed}
 use Rattle.ts_model.specs.History.{History, position}
 use Rattle.ts_model.specs.States.{State, stands_still}
@@ -10,7 +10,6 @@ use Rattle.policy_jobs.specs.declared.policies.Policy.{Policy}
 use Rattle.par_lines.specs.Sorted.{sorted_lines}
 use Rattle.par_run.specs.Crews.{LinesRan}
 use Rattle.par_run.specs.Outputs.{Output, transcript_in}
-use Rattle.transcript.specs.Ascii.{is_ascii_transcript}
 use Rattle.transcript.specs.Text.{transcript_text}
 use Rattle.transcript.specs.declared.transcripts.Transcript.{Transcript}
 use Rattle.audit.specs.Answers.{Answers, reply_count}
@@ -44,7 +43,6 @@ AuditsSayYes =
     (opening : History) (input : List ℕ) (policies : List Policy) (new : State) (out : Output) (reads : ℕ)
     (audit : Audit)
     → InputRan opening input policies new out reads → stands_still new ≡ false → all_allowed new.history ≡ true
-    → IsTrue (is_ascii_transcript (transcript_in (position opening) out)) → position opening < 2 ^ 64
-    → first_policy (transcript_in (position opening) out).sessions ≡ None
+    → position opening < 2 ^ 64 → first_policy (transcript_in (position opening) out).sessions ≡ None
     → Answers new.history (transcript_text (transcript_in (position opening) out)) audit
     → (audit ≡ Yes (reply_count (transcript_in (position opening) out))) ⊎ (audit ≡ NoMemory)

@@ -5,3 +5,4 @@ pub mod RunLaws
 pub mod NameLaws
 pub mod ScriptLaws
 pub mod SoundLaws
+pub mod AsciiLaws

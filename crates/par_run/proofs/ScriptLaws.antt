@@ -26,13 +26,14 @@ use Rattle.transcript.proofs.Lines.{lines_sound}
 
 -- ---- scripts
 
--- a line is one of the session with a name, and is classified correctly
+-- a line is one of the session with a name, is classified correctly, and is ASCII
 pub record IsOwn (name : List ℕ) (line : SessionLine) : Type 0 where
   pub spoken : is_line_of name line.text ≡ true
   pub len : ℕ
   pub end : ℕ
   pub kind : line_kind line.text ≡ Stmt len line.skip end
   pub whole : take end line.text ≡ line.text
+  pub ascii : is_ascii_text line.text ≡ true
 
 pub record IsSoundScript (script : SessionScript) : Type 0 where
   pub named : is_session_name script.name ≡ true
@@ -74,7 +75,7 @@ sound_kind n line s NoSession short one e all = all
 sound_kind n line s (Stmt len skip end) short one e all =
     let sound : IsSoundLine line len skip end = lines_sound line len skip end short one e in
     sound_as (session_name line len skip) (record { text = take end line; skip = skip }) s sound.named
-    (record { spoken = sound.spoken; len = len; end = end; kind = sound.kind; whole = take-take end end line (omega arith) }) all
+    (record { spoken = sound.spoken; len = len; end = end; kind = sound.kind; whole = take-take end end line (omega arith); ascii = sound.ascii }) all
 
 sound_line : (n : ℕ) (line : List ℕ) (s : Sorted) → is_one_line line ≡ true → AreSound s → AreSound (sorts n line s)
 sound_line n line s one all = by (nat_lt longest_line (length line)) refl

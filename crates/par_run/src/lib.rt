@@ -21,5 +21,5 @@ mod runs;
 mod workers;
 
 pub use ends::{ParEnd, ParStop};
-pub use laws::runs_are_sound;
+pub use laws::{runs_are_ascii, runs_are_sound};
 pub use runs::par;

@@ -15,3 +15,5 @@ pub mod DueLaws
 pub mod PlaceLaws
 pub mod AloneLaws
 pub mod TickLines
+pub mod QueueLaws
+pub mod CutLaws

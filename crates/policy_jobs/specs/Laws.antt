@@ -213,3 +213,11 @@ LinesSeeTheirOwnPlaces P =
     (semantics : Semantics P) (other : List ℕ) (p q : P) (s : ScriptState P) (n : ℕ) (lines : List (List ℕ))
     → AllByRecursion (λ line. is_line_of other line ≡ false) lines → places_of other s.sessions ≡ Some p
     → OthersSeeNoPlaces semantics other p q s n lines
+
+-- ---- lines that are cut short
+
+-- the first of some lines read at most as many stored rows as all of them, whatever the lines mean
+abbrev pub CutLinesReadLess : Type 0 → Type 0
+CutLinesReadLess P =
+    (semantics : Semantics P) (s : ScriptState P) (n : ℕ) (done rest : List (List ℕ))
+    → reads_in semantics s n done ≤ reads_in semantics s n (done ++ rest)

@@ -8,3 +8,4 @@ pub mod Turns
 pub mod Runs
 pub mod Sessions
 pub mod Laws
+pub mod Queues

@@ -1,5 +1,6 @@
 //! Laws of policies and ticks. Each is the clause of a function that does nothing, at any types.
-ghost use Rattle.policy_jobs.specs.Laws.{DueTextsAreStatements, LinesKeepPolicies, LinesSeeTheirOwnPlaces, OnlyNewOnesAreDue, SecondTicksAreIdle, TicksAreTheirLines, TicksMakeFewEvents};
+ghost use Rattle.policy_jobs.specs.Laws.{CutLinesReadLess, DueTextsAreStatements, LinesKeepPolicies, LinesSeeTheirOwnPlaces, OnlyNewOnesAreDue, SecondTicksAreIdle, TicksAreTheirLines, TicksMakeFewEvents};
+ghost use Rattle.policy_jobs.specs.Queues.{OthersSeeNoQueue, QueriesShowTheQueue};
 
 use ts_model::Shown;
 use ts_sessions::laws::lines_make_at_most_three_events;
@@ -45,4 +46,20 @@ where
 /// States the law that lines of other sessions write the same, whatever a session carries, including its policies.
 pub fn lines_see_their_own_places<P>()
     ensures { LinesSeeTheirOwnPlaces P }
+{}
+
+/// A query of a session in a write block shows what it shows directly after a commit of the queue, and reads as many
+/// rows.
+pub fn queries_show_the_queue()
+    ensures { QueriesShowTheQueue }
+{}
+
+/// Lines of other sessions write the same, whatever a session has queued.
+pub fn others_see_no_queue()
+    ensures { OthersSeeNoQueue }
+{}
+
+/// The first of some lines read at most as many stored rows as all of them.
+pub fn cut_lines_read_less<P>()
+    ensures { CutLinesReadLess P }
 {}

@@ -27,8 +27,9 @@ mod statements;
 pub use jobs::Job;
 pub use kept::KeptPolicies;
 pub use laws::{
-    due_texts_are_statements, lines_keep_policies, lines_see_their_own_places,
-    only_new_ones_are_due, second_ticks_are_idle, ticks_are_their_lines,
+    cut_lines_read_less, due_texts_are_statements, lines_keep_policies, lines_see_their_own_places,
+    only_new_ones_are_due, others_see_no_queue, queries_show_the_queue, second_ticks_are_idle,
+    ticks_are_their_lines, ticks_make_few_events,
 };
 pub use policies::{Policy, due_texts, mark_due};
 pub use reading::{PolicyRead, policy_reading_law, read_policy};

@@ -1,9 +1,13 @@
 -- The effect of a checkpoint on the disk.
 use Rattle.std.proofs.Common.{◌≡◌, ◌⊎◌, inl, inr, ⊎_elim, ℕ, ◌≤◌, true, false, List, ◌∷◌, [], Option, None, IsSomeAnd, refl, sym, ◌∙◌, ap, subst}
+use Rattle.std.specs.Prelude.{◌-◌, ◌^◌, length, min}
 use Rattle.ts_disk.specs.CrashImage.{LeavesOnly}
 use Rattle.ts_disk.proofs.Told.{some_also}
 use Rattle.ts_model.specs.History.{History, start, resumed, ◌▸◌, Begins, same}
 use Rattle.ts_model.specs.declared.events.Event.{Event}
+use Rattle.ts_model.specs.declared.images.Image.{Image}
+use Rattle.image_laws.specs.Images.{OneImage}
+use Rattle.base_image.specs.Spelling as image_spelling
 use Rattle.event_codec.specs.Spelling as spelling
 use Rattle.txn_journal.specs.Calls.{IsAtRest, Logged}
 use Rattle.txn_journal.specs.Contents.{Content, has_base, is_base, content_of_version_2}
@@ -15,7 +19,7 @@ use Rattle.txn_journal.proofs.ContentLaws.{base_counts, none_of_both, none_of_on
 use Rattle.txn_journal.proofs.JournalLaws.{lies_stands}
 use Rattle.txn_journal.proofs.Moments.{follows, weaker}
 use Rattle.engine_core.specs.Values.{Past}
-use Rattle.ts_store.specs.Checkpoints.{BeginsSaved, EndsAs, HoldsImage, IfUntouched, IfWritten, IsImageOf, StandsForImage, StandsSaved}
+use Rattle.ts_store.specs.Checkpoints.{BeginsSaved, EndsAs, HasImage, HasImageWithin, HoldsImage, IfUntouched, IfWritten, ImagesHaveOneLength, IsImageOf, StandsForImage, StandsSaved}
 use Rattle.ts_store.specs.Images.{BeginSince, IsBetween, StandsForMore}
 use Rattle.ts_store.specs.declared.checkpoints.CheckEnd.{CheckEnd}
 use Rattle.ts_store.specs.declared.checkpoints.CheckEnd.TheVariants.{Done, Nothing, TooLong, DiskFault, Stopped, NoMemory}
@@ -65,12 +69,20 @@ saved_stands : (h : History) (frame : List ℕ) → IsSound h → IsImageOf h fr
 saved_stands h frame sound image c (inl stands) = inl (record { holds = stands; sound = sound })
 saved_stands h frame sound image c (inr stands) = inr (image_stands h frame c image stands)
 
--- a property after the store continued is also true if something may have been written
+-- the images of a history have one length, since it has one image
+pub one_length : OneImage → ImagesHaveOneLength
+one_length one h m n a b = a.bytes ∙ ap (λ (i : Image). min (length (image_spelling.image i)) (2 ^ 64 - 1)) (one h a.image b.image a.is b.is) ∙ sym b.bytes
+
+-- an image of this many bytes has at most as many as these
+pub image_within : (h : History) (n most : ℕ) → HasImage h n → n ≤ most → HasImageWithin h most
+image_within h n most image within = record { bytes = n; image = image; within = within }
+
+-- what holds where the store went on holds where something may have been written
 pub written_from : (P : Type 0) (end : CheckEnd) (past : Past) (failed : Option Event) (most : ℕ) → EndsAs end past failed most → (failed ≡ None → IfWritten end P) → IfWritten end P
 written_from P (Done p n) past failed most ends there = there ends.0.0
 written_from P (Nothing p) past failed most ends there = tt
 written_from P (TooLong p n) past failed most ends there = tt
-written_from P DiskFault past failed most ends there = there ends.0
+written_from P DiskFault past failed most ends there = there ends.0.0
 written_from P (Stopped p) past failed most ends there = tt
 written_from P NoMemory past failed most ends there = tt
 

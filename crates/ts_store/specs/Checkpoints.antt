@@ -28,6 +28,16 @@ pub record HasImage (h : History) (n : ℕ) : Type 0 where
   pub is : IsImage h image
   pub bytes : n ≡ min (length (images.image image)) (2 ^ 64 - 1)
 
+-- the image of a history has at most this many bytes
+pub record HasImageWithin (h : History) (most : ℕ) : Type 0 where
+  pub bytes : ℕ
+  pub image : HasImage h bytes
+  pub within : bytes ≤ most
+
+-- the images of a history have one length: one that is longer than allowed isn't within the limit too
+abbrev pub ImagesHaveOneLength : Type 0
+ImagesHaveOneLength = (h : History) (m n : ℕ) → HasImage h m → HasImage h n → m ≡ n
+
 -- a payload is the bytes of the image of a history, which a journal may contain
 pub record IsImageOf (h : History) (payload : List ℕ) : Type 0 where
   pub image : Image
@@ -54,14 +64,14 @@ Goes past failed = (failed ≡ None) × (past.events ≢ [])
 
 -- the condition for each result. `Stopped` is returned if and only if the store had stopped, and otherwise
 -- `Nothing` if and only if no event follows the base. Otherwise it is `TooLong` if the image has more bytes
--- than allowed
+-- than allowed. So the disk fails only at an image that is short enough
 abbrev pub EndsAs : CheckEnd → Past → Option Event → ℕ → Type 0
 EndsAs (Done p n) past failed most =
     Goes past failed × (p ≡ position (history_of past)) × HasImage (history_of past) n × (n ≤ most)
 EndsAs (Nothing p) past failed most = (failed ≡ None) × (past.events ≡ []) × (p ≡ position (history_of past))
 EndsAs (TooLong p n) past failed most =
     Goes past failed × (p ≡ position (history_of past)) × HasImage (history_of past) n × (most < n)
-EndsAs DiskFault past failed most = Goes past failed
+EndsAs DiskFault past failed most = Goes past failed × HasImageWithin (history_of past) most
 EndsAs (Stopped p) past failed most = stop_at (history_of past) failed ≡ Some p
 EndsAs NoMemory past failed most = Goes past failed
 

@@ -74,7 +74,8 @@ pub(crate) fn checkpoint<D: Disk>(
     }
 }
 
-/// The same, but keeps the recorder. After an I/O error the recorder is unusable.
+/// Does the same and keeps the recorder. After an I/O error the recorder is of no use.
+#[tactic(auto, using(crate::proofs::CheckpointLaws::image_within))]
 fn write_image<D: Disk>(alloc: Global, recorder: &mut Recorder<D>, most: u64) -> CheckEnd
     requires history { IsSound (history_of recorder.old.engine.past) }
     requires still { is_some recorder.old.failed ≡ is_still recorder.old.journal.standing }

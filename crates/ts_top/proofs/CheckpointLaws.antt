@@ -9,14 +9,14 @@ use Rattle.engine_core.specs.Histories.{history_of}
 use Rattle.engine_core.specs.Values.{Past}
 use Rattle.txn_journal.specs.Calls.{IsAtRest, IsTold, Logged}
 use Rattle.txn_journal.specs.Contents.{Content}
-use Rattle.ts_store.specs.Checkpoints.{CountsEnd, EndsAs, HasImage, HoldsImage, IfSaved, IfUntouched, IfWritten, StandsForImage, StandsSaved}
+use Rattle.ts_store.specs.Checkpoints.{CountsEnd, EndsAs, HasImage, HasImageWithin, HoldsImage, IfSaved, IfUntouched, IfWritten, StandsForImage, StandsSaved}
 use Rattle.ts_store.specs.Images.{HasHeader, IsBetween, IsDurable}
 use Rattle.ts_store.specs.Stands.{Stands, content_of}
 use Rattle.ts_store.specs.Stores.{stop_at}
 use Rattle.ts_store.specs.declared.checkpoints.CheckEnd.{CheckEnd}
 use Rattle.ts_store.specs.declared.checkpoints.CheckEnd.TheVariants as ends
 use Rattle.ts_store.proofs.ImageLaws.{holds_header, shown_told}
-use Rattle.ts_top.specs.Checkpoints.{AsBefore, AsEither, AsImage, CheckpointTo, TellsEnd, ToldNothing, ToldSaved, ToldTooLong, longest_image, nothing_text, saved_text, too_long_text}
+use Rattle.ts_top.specs.Checkpoints.{AsBefore, AsEither, AsImage, CheckpointTo, ImageFailed, TellsEnd, ToldNothing, ToldSaved, ToldTooLong, longest_image, nothing_text, saved_text, too_long_text}
 use Rattle.ts_top.specs.Endings.{is_disk_fault, is_read_fault}
 use Rattle.ts_top.specs.Openings.{NotOpened}
 use Rattle.ts_top.specs.Outcomes.{IfWentOn, Outside, LeftAfter}
@@ -148,6 +148,13 @@ module _ {D : Type 0} (bytes : D → Option (List ℕ)) (may_leave : D → List 
         journal = subst (AsBefore Known LeftSince h) (sym file) journal;
       }
 
+      image_failed : Ends ends.DiskFault → AsEither Known LeftSince h (bytes new) → ImageFailed h (AsEither Known LeftSince h o.file)
+      image_failed end journal = record {
+        later = later end.0.1;
+        image = subst (λ g. HasImageWithin g longest_image) (sym is_past) end.1;
+        journal = subst (AsEither Known LeftSince h) (sym file) journal;
+      }
+
       pub ended_to : (end : CheckEnd) (status : Status) → Ends end → Safe end → IfUntouched end (new ≡ journal.disk)
           → ((c : List ℕ) → LeftAfter bytes may_leave moment left_since begun journal.disk c → Stands c h) → ((c : List ℕ) → LeftSince c → StandsSaved h c)
           → TellsEnd end status unprinted o.written_before o.written → To status
@@ -164,7 +171,7 @@ module _ {D : Type 0} (bytes : D → Option (List ℕ)) (may_leave : D → List 
       ended_to (ends.TooLong p n) status end safe same before images (inr told) =
           subst To (sym told.0) (record { opening = h; stood = stood; ran = inr (inr (too_long p n (AppendsPart o.written_before o.written) end (as_before same before) told.1)) })
       ended_to ends.DiskFault status end safe same before images told =
-          subst To (sym told.0) (told.1, inr (record { opening = h; stood = stood; ran = (later end.1, subst (AsEither Known LeftSince h) (sym file) (as_either safe images)) }))
+          subst To (sym told.0) (told.1, inr (record { opening = h; stood = stood; ran = image_failed end (as_either safe images) }))
       ended_to (ends.Stopped p) status end safe same before images told = absurd (never_stopped (history_of past) failed p goes_on end)
       ended_to ends.NoMemory status end safe same before images told =
           subst To (sym told.0) (told.1, inr (record { opening = h; stood = stood; ran = (later end.1, subst (AsBefore Known LeftSince h) (sym file) (as_before same before)) }))

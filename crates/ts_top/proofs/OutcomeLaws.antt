@@ -9,17 +9,19 @@ use Rattle.ts_model.specs.States.{State, stands_still}
 use Rattle.ts_model.proofs.HistoryLaws.{begins_trans}
 use Rattle.ts_sessions.specs.Script.{opening_script_state}
 use Rattle.ts_top.specs.Scripts.{program_semantics}
+use Rattle.ts_schema.specs.Counts.{raised_by}
 use Rattle.ts_store.specs.Images.{IsBetween, StandsForEither, latest}
 use Rattle.ts_store.specs.Stands.{Stands}
 use Rattle.script_run.specs.Runs.{Left, Executed, StoppedBefore, StoppedWriting, StoppedAtEvent, StoppedWithin, Ran as RanScript, executed_lines, is_read_fault as is_read_fault_of, is_write_fault as is_write_fault_of, is_disk_fault as is_disk_fault_of}
 use Rattle.script_run.specs.RunStates.{FailedBetween}
 use Rattle.script_run.proofs.LineLaws.{line_begins}
+use Rattle.script_run.proofs.ScriptLaws.{reads-append}
 use Rattle.script_run.specs.declared.ends.RunEnd.{RunEnd}
 use Rattle.script_run.specs.declared.ends.RunEnd.TheVariants as ends
 use Rattle.ts_top.specs.Endings.{status_of, is_read_fault, is_write_fault, is_disk_fault}
 use Rattle.ts_top.specs.declared.endings.Status.{Status}
 use Rattle.ts_top.specs.declared.endings.Status.TheVariants.{Done, Refused, BadWords, ReadFault, WriteFault, DiskFault, Damaged, NoMemory, InputLong}
-use Rattle.ts_top.specs.Scripts.{history_after}
+use Rattle.ts_top.specs.Scripts.{history_after, rows_read}
 use Rattle.ts_top.specs.Outcomes.{Outside, StandsBetween, Holds, ImagesUpTo, RanWhole, RanBefore, RanWithin, RanWriting, RanTo, IfWentOn}
 use Rattle.ts_schema.proofs.Cases.{none_there}
 use Rattle.ts_disk.proofs.Told.{some_also}
@@ -85,8 +87,21 @@ module _ (told : Type 0) (left : List ℕ → Type 0) (unread unprinted kept : T
     counted = ran.counted;
   }
 
+  -- the first of some lines read at most as many rows as all of them
+  at_most : (lines done rest : List (List ℕ)) → lines ≡ done ++ rest → o.reads ≡ raised_by (rows_read h done) 0 → o.reads ≤ raised_by (rows_read h lines) 0
+  at_most lines done rest split counted =
+      let all = reads-append program_semantics (opening_script_state h) 1 done rest in
+      subst (λ ls. o.reads ≤ raised_by (rows_read h ls) 0) (sym split) (omega (arith, all, counted))
+
   ran_before : (lines : List (List ℕ)) → s.failed ≡ None → StoppedBefore program_semantics h lines (left_of s o) → RanBefore told left h lines o
-  ran_before lines none stopped = record { done = stopped.done; rest = stopped.rest; split = stopped.split; ran = ran_whole stopped.done none stopped.executed_first }
+  ran_before lines none stopped =
+      record {
+        done = stopped.done;
+        rest = stopped.rest;
+        split = stopped.split;
+        ran = ran_whole stopped.done none stopped.executed_first;
+        most = at_most lines stopped.done stopped.rest stopped.split stopped.executed_first.counted;
+      }
 
   ran_writing : (lines : List (List ℕ)) → s.failed ≡ None → StoppedWriting program_semantics h lines (left_of s o) → RanWriting told left h lines o
   ran_writing lines none stopped =

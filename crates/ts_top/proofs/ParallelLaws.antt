@@ -105,8 +105,7 @@ module _ (told : Type 0) (left : List ℕ → Type 0) (sink_failed : Type 0) (h 
   input_to Plain stops.DiskFault status p ran stop far = disk_failed Plain (ran (λ e. cc e)) (stop (λ e. cc e)) status p
   input_to Plain stops.NoMemory status p ran stop far = no_memory Plain far status p
   input_to Json stops.Done status (inl p) ran stop far = printed_whole Json (ran (λ e. cc e)) (stop (λ e. cc e)) status (p.0, (p.1, explained (ran (λ e. cc e)) (stop (λ e. cc e))))
-  input_to Json stops.Done status (inr (inl p)) ran stop far = printed_part Json (ran (λ e. cc e)) (stop (λ e. cc e)) status (p.0, (p.1, explained (ran (λ e. cc e)) (stop (λ e. cc e))))
-  input_to Json stops.Done status (inr (inr p)) ran stop far = no_memory Json far status p
+  input_to Json stops.Done status (inr p) ran stop far = printed_part Json (ran (λ e. cc e)) (stop (λ e. cc e)) status (p.0, (p.1, explained (ran (λ e. cc e)) (stop (λ e. cc e))))
   input_to Json stops.DiskFault status p ran stop far = disk_failed Json (ran (λ e. cc e)) (stop (λ e. cc e)) status p
   input_to Json stops.NoMemory status p ran stop far = no_memory Json far status p
 
@@ -244,8 +243,7 @@ counted_by Plain stops.Done start out status sink_failed before written first no
 counted_by Plain stops.DiskFault start out status sink_failed before written first now p is g = counted_disk first now g status p.0 (is (λ e. cc e))
 counted_by Plain stops.NoMemory start out status sink_failed before written first now p is g = counted_memory first now g status p.0
 counted_by Json stops.Done start out status sink_failed before written first now (inl p) is g = counted_answered first now g status out.fault p.0 (is (λ e. cc e))
-counted_by Json stops.Done start out status sink_failed before written first now (inr (inl p)) is g = counted_write first now g status p.0 (is (λ e. cc e))
-counted_by Json stops.Done start out status sink_failed before written first now (inr (inr p)) is g = counted_memory first now g status p.0
+counted_by Json stops.Done start out status sink_failed before written first now (inr p) is g = counted_write first now g status p.0 (is (λ e. cc e))
 counted_by Json stops.DiskFault start out status sink_failed before written first now p is g = counted_disk first now g status p.0 (is (λ e. cc e))
 counted_by Json stops.NoMemory start out status sink_failed before written first now p is g = counted_memory first now g status p.0
 
@@ -266,8 +264,7 @@ module _ (P : Type 0) where
   went_by Plain stops.DiskFault start out status sink_failed before written p there = went_so status DiskFault p.0 tt
   went_by Plain stops.NoMemory start out status sink_failed before written p there = went_so status NoMemory p.0 tt
   went_by Json stops.Done start out status sink_failed before written (inl p) there = went_answered status out.fault p.0 (there refl)
-  went_by Json stops.Done start out status sink_failed before written (inr (inl p)) there = went_so status WriteFault p.0 (there refl)
-  went_by Json stops.Done start out status sink_failed before written (inr (inr p)) there = went_so status NoMemory p.0 tt
+  went_by Json stops.Done start out status sink_failed before written (inr p) there = went_so status WriteFault p.0 (there refl)
   went_by Json stops.DiskFault start out status sink_failed before written p there = went_so status DiskFault p.0 tt
   went_by Json stops.NoMemory start out status sink_failed before written p there = went_so status NoMemory p.0 tt
 

@@ -1,5 +1,5 @@
 -- What the top call has done, by its command.
-use Rattle.std.specs.Prelude.{◌≡◌, ℕ, Bool, false, List, Option, None, Some, ⊤}
+use Rattle.std.specs.Prelude.{◌≡◌, ◌≤◌, ℕ, Bool, false, List, Option, None, Some, ⊤}
 use Rattle.std.specs.Io.KnownBytes.{Appends}
 use Rattle.ts_io.specs.Faults.{Counted}
 use Rattle.ts_io.specs.Whole.{AppendsPart}
@@ -24,11 +24,12 @@ pub record DemoShown (demo : ℕ) (Wrote : List ℕ → Type 0) (o : Outside) : 
   pub counted : o.reads ≡ reads_of_demo demo
   pub alike : o.reads ≡ 39600
 
--- what the demonstration with a number has done, by how it ended
+-- what the demonstration with a number has done, by how it ended. If memory ran out, it printed nothing, and read at
+-- most as many stored rows as it does otherwise
 abbrev pub DemoTo : ℕ → Status → Type 0 → Outside → Type 0
 DemoTo demo Done unprinted o = DemoShown demo (Appends o.written_before o.written) o
 DemoTo demo WriteFault unprinted o = DemoShown demo (AppendsPart o.written_before o.written) o
-DemoTo demo NoMemory unprinted o = unprinted
+DemoTo demo NoMemory unprinted o = unprinted × (o.reads ≤ reads_of_demo demo)
 DemoTo demo other unprinted o = ⊥
 
 -- what a call with this command has done. A call that prints, and the demonstration, read no input and leave the disk

@@ -5,7 +5,7 @@ use Rattle.ts_io.specs.Whole.{AppendsPart}
 use Rattle.ts_model.specs.History.{History, events_of, position}
 use Rattle.result_text.specs.Refusals.{refusal_text}
 use Rattle.ts_model.specs.Numbers.{image_long}
-use Rattle.ts_store.specs.Checkpoints.{HasImage, StandsForImage, StandsSaved}
+use Rattle.ts_store.specs.Checkpoints.{HasImage, HasImageWithin, StandsForImage, StandsSaved}
 use Rattle.ts_store.specs.Stands.{Stands}
 use Rattle.ts_store.specs.declared.checkpoints.CheckEnd.{CheckEnd}
 use Rattle.ts_store.specs.declared.checkpoints.CheckEnd.TheVariants as ends
@@ -92,8 +92,14 @@ ToldTooLong told left Wrote o h = Told (TellsTooLong h) Wrote (AsBefore told lef
 abbrev pub Later : History → Type 0 → Type 0
 Later h Journal = (events_of h ≢ []) × Journal
 
+-- the disk failed while an image that isn't too long was written, and the journal is left like this
+pub record ImageFailed (h : History) (Journal : Type 0) : Type 0 where
+  pub later : events_of h ≢ []
+  pub image : HasImageWithin h longest_image
+  pub journal : Journal
+
 -- what a checkpoint with this end has done. It prints one line, or nothing if the disk failed, the journal is damaged,
--- or memory ran out
+-- or memory ran out. An image that is too long is refused, and never ends as a disk fault
 abbrev pub CheckpointTo : Status → Type 0 → (List ℕ → Type 0) → Type 0 → Type 0 → Outside → Type 0
 CheckpointTo Done told left unprinted kept o =
     Over o
@@ -111,7 +117,7 @@ CheckpointTo WriteFault told left unprinted kept o =
 CheckpointTo DiskFault told left unprinted kept o =
     unprinted
     × ((kept ⊎ HeaderFailed told left o.file_before o.file)
-    ⊎ Over o (λ h. Later h (AsEither told left h o.file)))
+    ⊎ Over o (λ h. ImageFailed h (AsEither told left h o.file)))
 CheckpointTo (Damaged at) told left unprinted kept o = unprinted × kept × IsDamaged at o
 CheckpointTo NoMemory told left unprinted kept o =
     unprinted × (kept ⊎ Over o (λ h. Later h (AsBefore told left h o.file)))

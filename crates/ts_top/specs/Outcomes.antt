@@ -62,13 +62,15 @@ pub record RanWhole (told : Type 0) (left : List ℕ → Type 0) (h : History) (
   pub images : ImagesUpTo left h (history_after h lines)
   pub counted : o.reads ≡ raised_by (rows_read h lines) 0
 
--- some first lines were run and their replies written, and the others not run
+-- some first lines were run and their replies written, and the others not run. They read at most as many stored rows
+-- as all lines do
 pub record RanBefore (told : Type 0) (left : List ℕ → Type 0) (h : History) (lines : List (List ℕ))
     (o : Outside) : Type 0 where
   pub done : List (List ℕ)
   pub rest : List (List ℕ)
   pub split : lines ≡ done ++ rest
   pub ran : RanWhole told left h done o
+  pub most : o.reads ≤ raised_by (rows_read h lines) 0
 
 -- the replies to some first lines were written, and nothing of the next one's, whose first events may exist
 pub record RanWithin (told : Type 0) (left : List ℕ → Type 0) (h : History) (lines : List (List ℕ))

@@ -55,9 +55,8 @@ pub record NothingRan (told : Type 0) (left : List ℕ → Type 0) (h : History)
   pub holds : told → Holds file h
   pub images : (c : List ℕ) → left c → Stands c h
 
--- memory ran out while workers ran, or a transcript isn't ASCII: nothing was printed. Sessions ran until memory ran
--- out, read this many stored rows, and left a state. The journal represents its history, or that and the event at which
--- the disk failed
+-- memory ran out while workers ran: nothing was printed. Sessions ran until memory ran out, read this many stored rows,
+-- and left a state. The journal represents its history, or that and the event at which the disk failed
 pub record GaveUp (told : Type 0) (left : List ℕ → Type 0) (h : History) (input : List ℕ) (reads : ℕ)
     (unprinted : Type 0) (file : Option (List ℕ)) : Type 0 where
   pub printed_nothing : unprinted
@@ -156,13 +155,11 @@ PrintsReplies stops.DiskFault fault text status sink_failed before written =
 PrintsReplies stops.NoMemory fault text status sink_failed before written =
     (status ≡ NoMemory) × (written ≡ before)
 
--- the transcript of a parallel run was printed, or a part of it if the sink failed, and the call ended like this. A
--- transcript that isn't ASCII isn't printed
+-- the transcript of a parallel run was printed, or a part of it if the sink failed, and the call ended like this
 abbrev pub PrintsTranscript : ParStop → Bool → Transcript → Status → Option (List ℕ) → Option (List ℕ) → Type 0
 PrintsTranscript stops.Done fault t status before written =
     ((status ≡ status_answered fault) × IsTranscribed (Appends before written) t)
     ⊎ ((status ≡ WriteFault) × IsTranscribed (AppendsPart before written) t)
-    ⊎ ((status ≡ NoMemory) × (written ≡ before))
 PrintsTranscript stops.DiskFault fault t status before written = (status ≡ DiskFault) × (written ≡ before)
 PrintsTranscript stops.NoMemory fault t status before written = (status ≡ NoMemory) × (written ≡ before)
 

@@ -29,7 +29,7 @@ use std::alloc::Global;
 use std::mem::forget;
 use std::sync::Wait;
 use std::thread::Threads;
-use transcript::{SessionTranscript, Transcript, is_ascii, send_transcript};
+use transcript::{SessionTranscript, Transcript, send_transcript};
 use ts_disk::Disk;
 use ts_io::{AllEnd, Sink, Source, WriteFault, read_all, write_whole};
 use ts_model::{Backend, Gate, Shown};
@@ -116,21 +116,6 @@ fn print_ascii<K: Sink>(sink: &mut K, transcript: &Transcript, refused: bool) ->
     }
 }
 
-/// Prints a transcript. Returns how the call ends. Each reply is ASCII, but no clause of the sessions says so: the call
-/// would end one that isn't as out of memory.
-fn print_made<K: Sink>(sink: &mut K, transcript: &Transcript, refused: bool) -> Status
-    requires start { transcript.now.start < 2 ^ 64 }
-    ensures prints { PrintsTranscript ParStop.Done refused transcript.now result
-        (K.written sink.old) (K.written sink.new) }
-    ensures counted { Counted (K.faults sink.old) (K.faults sink.new) (is_write_fault result) }
-{
-    if is_ascii(transcript) {
-        print_ascii(sink, transcript, refused)
-    } else {
-        Status::NoMemory
-    }
-}
-
 /// Prints the transcript of a run that was executed to its end. Returns how the call ends.
 fn print_executed<K: Sink>(
     sink: &mut K,
@@ -138,13 +123,14 @@ fn print_executed<K: Sink>(
     sessions: Seq<SessionTranscript>,
     refused: bool,
 ) -> Status
+    requires ascii { IsTrue (is_ascii_transcript (record { start = start; sessions = sessions })) }
     ensures prints { PrintsTranscript ParStop.Done refused (record { start = start; sessions = sessions }) result
         (K.written sink.old) (K.written sink.new) }
     ensures counted { Counted (K.faults sink.old) (K.faults sink.new) (is_write_fault result) }
 {
     let transcript = Transcript { start, sessions };
-    let status = print_made(sink, &transcript, refused);
-    // Not freed, since the process ends after the call.
+    let status = print_ascii(sink, &transcript, refused);
+    // The call ends after it, so its memory isn't freed.
     forget(transcript);
     status
 }
@@ -152,6 +138,8 @@ fn print_executed<K: Sink>(
 /// Prints the transcript of a parallel run. Returns how the call ends. It prints nothing if the disk failed or memory
 /// ran out.
 fn print_transcript<K: Sink>(sink: &mut K, replied: RunReplies) -> Status
+    requires ascii { replied.stop ≢ ParStop.NoMemory
+        → IsTrue (is_ascii_transcript (transcript_in replied.start (output_in replied))) }
     ensures prints { PrintsTranscript replied.stop replied.fault (transcript_in replied.start (output_in replied))
         result (K.written sink.old) (K.written sink.new) }
     ensures counted { Counted (K.faults sink.old) (K.faults sink.new) (is_write_fault result) }
@@ -172,6 +160,8 @@ fn print_transcript<K: Sink>(sink: &mut K, replied: RunReplies) -> Status
 
 /// Prints a parallel run. Returns how the call ends.
 fn print_run<K: Sink>(replies: Replies, sink: &mut K, replied: RunReplies) -> Status
+    requires ascii { replied.stop ≢ ParStop.NoMemory
+        → IsTrue (is_ascii_transcript (transcript_in replied.start (output_in replied))) }
     ensures prints { Prints replies replied.stop replied.start (output_in replied) result
         (Rose (K.faults sink.old) (K.faults sink.new)) (K.written sink.old) (K.written sink.new) }
     ensures counted { CountedAfterPrinting replies result (K.faults sink.old) (K.faults sink.new) }

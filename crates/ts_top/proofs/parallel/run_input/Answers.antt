@@ -6,6 +6,7 @@ use Rattle.ts_schema.specs.Faults.{Rose}
 use Rattle.ts_model.specs.States.{State}
 use Rattle.par_run.specs.Ends.{is_disk_fault}
 use Rattle.par_run.specs.Outputs.{output_of}
+use Rattle.par_run.proofs.AsciiLaws.{runs_ascii}
 use Rattle.par_run.specs.declared.ends.ParStop.TheVariants as stops
 use Rattle.ts_schema.proofs.Cases.{none_there}
 use Rattle.ts_store.specs.Images.{IsBetween, IsDurable}
@@ -13,6 +14,7 @@ use Rattle.ts_store.specs.Stores.{opening_history, history_seen, state_of}
 use Rattle.ts_top.specs.contracts.parallel.run_input.{D-row}
 use Rattle.ts_store.proofs.Crossing.{shot_send, store_send}
 use Rattle.ts_top.specs.Parallel.{CountedAfterWorkers, Prints}
+use Rattle.ts_top.specs.Scripts.{first_places, program_replies}
 use Rattle.ts_top.proofs.OutcomeLaws.{Closed}
 use Rattle.ts_top.proofs.ParallelLaws.{counted_by, input_to, went_by}
 use Rattle.std.specs.Prelude.{IsSome}
@@ -24,6 +26,13 @@ run_sessions-backend-requires-send-B g c κs within = param_send 0 _ (arg_send _
 
 pub run_sessions-backend-requires-send-B-Shot : goal.run_sessions-backend-requires-send-B-Shot
 run_sessions-backend-requires-send-B-Shot g c κs within = search (shot_send, arg_send, param_send) depth 10
+
+pub print_run-status-requires : goal.print_run-status-requires
+print_run-status-requires g c =
+    let end = c.run_sessions-backend.result in
+    record {
+      ascii = λ some. runs_ascii program_replies first_places _ c.args.input.now _ (output_of end) end.reads end.start (c.run_sessions-backend.ensures.ran some);
+    }
 
 pub returns-clause-ran : goal.returns-clause-ran
 returns-clause-ran g c =
