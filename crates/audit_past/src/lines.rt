@@ -55,8 +55,8 @@ where
     requires known { P.from past.now ≤ point.at }
     requires reached { point.at ≤ position_of (P.all past.now) }
     requires holds { HoldsOf T.Shown session.old (state_of (P.all past.now)) }
-    ensures told { LineTells (P.all past.now) point.entry.at (reply_to (places_in session.old) text.now skip) point.entry.looks.now
-        session.old.name (places_in session.new) result }
+    ensures told { LineTells (P.all past.now) point.entry.at (reply_to (places_in session.old) text.now skip)
+        point.entry.looks.now session.old.name (places_in session.new) result }
     ensures name { session.new.name ≡ session.old.name }
     ensures number { session.new.number ≡ session.old.number }
     ensures holds { HoldsOf T.Shown session.new (state_of (P.all past.now)) }

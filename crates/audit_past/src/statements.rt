@@ -78,7 +78,8 @@ where
     requires known { P.from past.now ≤ point.at }
     requires within { point.at ≤ position_of (P.all past.now) }
     requires holds { HoldsOf T.Shown session.now (state_of (P.all past.now)) }
-    ensures { ReachesTo T.Shown bytes (P.all past.now) point.entry.at (named_here (places_in session.now) bytes stmt.now)
+    ensures { ReachesTo T.Shown bytes (P.all past.now) point.entry.at
+        (named_here (places_in session.now) bytes stmt.now)
         point.entry.looks.now (places_in session.now) result }
 {
     let opening = session.opening(alloc, stmt)?;
@@ -126,7 +127,8 @@ where
     requires known { P.from past.now ≤ point.at }
     requires within { point.at ≤ position_of (P.all past.now) }
     requires holds { HoldsOf T.Shown session.now (state_of (P.all past.now)) }
-    ensures { ReachesTo T.Shown bytes (P.all past.now) point.entry.at (named_here (places_in session.now) bytes stmt.now)
+    ensures { ReachesTo T.Shown bytes (P.all past.now) point.entry.at
+        (named_here (places_in session.now) bytes stmt.now)
         point.entry.looks.now (places_in session.now) result }
 {
     match &session.block {

@@ -73,7 +73,8 @@ where
     <P::Shot as Shown>::Job: Drop,
     requires allowed { IsTrue (all_allowed (P.all past.now)) }
     requires known { P.from past.now ≤ point.at }
-    ensures { IfOk result (λ o. o ≡ refused_at (P.all past.now) stmt.now (look_told (P.all past.now) point.entry.at point.entry.looks.now)) }
+    ensures { IfOk result (λ o. o ≡ refused_at (P.all past.now) stmt.now
+        (look_told (P.all past.now) point.entry.at point.entry.looks.now)) }
 {
     match next_look(past, point.at, point.looks) {
         None => Ok(None),

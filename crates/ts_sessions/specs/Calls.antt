@@ -93,7 +93,8 @@ FollowsTo shown h outcome (Ok next) before after = IsFollowed shown h outcome ne
 FollowsTo shown h outcome (Err e) before after = before ≤ after
 
 -- the same if no more rows are read and every state fits
-pub record Follows {T J : Type 0} (shown : Shown T J) (h : History) (outcome : CallOutcome T) (next : Next T J) : Type 0 where
+pub record Follows {T J : Type 0} (shown : Shown T J) (h : History) (outcome : CallOutcome T) (next : Next T J)
+    : Type 0 where
   pub rest_so : (p : Places) (read : ℕ) → rest_next p (spent_after read outcome) next ≡ left_after p read h outcome
   pub fits : (s : State) (bytes : ℕ) → NextFits shown bytes next s
   pub spent_so : (read : ℕ) → spent_next (spent_after read outcome) next ≡ spent_after read outcome
